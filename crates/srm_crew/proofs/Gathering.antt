@@ -12,7 +12,7 @@ use Rattle.srm_cell.specs.declared.fault.CellFault.{CellFault}
 use Rattle.srm_cell.specs.declared.fault.CellFault.TheVariants as cell
 use Rattle.srm_cell.specs.Setting.{traffic_of}
 use Rattle.srm_cell.specs.Jobs.{PlainJob, IsDone, TellsDone, TellsFault, Advances}
-use Rattle.srm_crew.specs.Crews.{AreJobs, AnyEnds, GathersEach, AdvanceEach}
+use Rattle.srm_interfaces.specs.Crews.{AreJobs, AnyEnds, GathersEach, AdvanceEach}
 
 module _ {J D : Type 0} (R : J → Result D CellFault → Type 0) where
   all_gave : (js : List J) (ds : List D) → AllZip R js (map Ok ds) → AllZip (λ j d. R j (Ok d)) js ds

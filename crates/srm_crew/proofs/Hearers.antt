@@ -21,11 +21,12 @@ use Rattle.srm_crew.specs.declared.piece.Piece.{Piece}
 use Rattle.srm_crew.specs.declared.piece.Piece.TheVariants.{Jobs, Hearers}
 use Rattle.srm_crew.specs.declared.worked.Worked.{Worked}
 use Rattle.srm_crew.specs.declared.worked.Worked.TheVariants.{Advanced, Heard}
-use Rattle.srm_crew.specs.Crews.{AdvanceEach}
-use Rattle.srm_crew.specs.Hearers.{GroupsMayHear, GroupsHear}
+use Rattle.srm_interfaces.specs.Crews.{AdvanceEach}
+use Rattle.srm_interfaces.specs.Hearers.{GroupsMayHear, GroupsHear}
 use Rattle.srm_crew.specs.Pieces.{MayWork, Gives, IsJobsOf, AreHearersOf, IsAdvanced, IsAdvancedAs, IsHeard, HeardTogether}
-use Rattle.srm_crew.proofs.Zips.{zip_append}
-use Rattle.srm_crew.proofs.JobPieces.{all_in, all_in_more}
+use Rattle.srm_interfaces.proofs.Zips.{zip_append}
+use Rattle.srm_interfaces.proofs.InPieces.{all_in}
+use Rattle.srm_crew.proofs.JobPieces.{all_in_more}
 
 module _ {M : Type 0} (f : M → Record) (k : PlainScenario) (net : Network) where
   -- ---- jobs

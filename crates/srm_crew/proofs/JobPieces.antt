@@ -16,28 +16,10 @@ use Rattle.srm_cell.specs.Cells.{StepOutcome, Stepped}
 use Rattle.srm_cell.specs.Setting.{traffic_of}
 use Rattle.srm_cell.specs.Crossings.{joined}
 use Rattle.srm_cell.specs.Jobs.{PlainJob, IsDone}
-use Rattle.srm_crew.specs.Crews.{AreJobs, AnyEnds, AdvanceEach, TellsEach}
+use Rattle.srm_interfaces.specs.Crews.{AreJobs, AnyEnds, AdvanceEach, TellsEach}
 use Rattle.srm_crew.specs.Teams.{PutTogether}
-use Rattle.srm_crew.proofs.Zips.{zip_append}
-
--- all that is in the pieces, in order
-abbrev pub all_in : {A : Type 0} → List (Vec A) → List A
-all_in {A} ps = joined (map (λ (p : Vec A). p.items) ps)
-
-module _ {A : Type 0} (P : A → Type 0) where
-  all_first : (xs ys : List A) → All P (xs ++ ys) → All P xs
-  all_first [] ys h = All-nil P
-  all_first (x ∷ xs) ys h = All-cons P x xs (All-head P x (xs ++ ys) h) (all_first xs ys (All-tail P x (xs ++ ys) h))
-
-  all_last : (xs ys : List A) → All P (xs ++ ys) → All P ys
-  all_last [] ys h = h
-  all_last (x ∷ xs) ys h = all_last xs ys (All-tail P x (xs ++ ys) h)
-
-  -- what holds of all that is in pieces holds of each piece
-  pub all_each : (ps : List (Vec A)) → All P (all_in ps) → All (λ (p : Vec A). All P p.items) ps
-  all_each [] h = All-nil (λ (p : Vec A). All P p.items)
-  all_each (p ∷ ps) h =
-      All-cons (λ (p : Vec A). All P p.items) p ps (all_first p.items (all_in ps) h) (all_each ps (all_last p.items (all_in ps) h))
+use Rattle.srm_interfaces.proofs.InPieces.{all_in}
+use Rattle.srm_interfaces.proofs.Zips.{zip_append}
 
 any_first : (o : StepOutcome Stepped) (ps qs : List PlainJob) → AnyEnds o ps → AnyEnds o (ps ++ qs)
 any_first o [] qs h = absurd h

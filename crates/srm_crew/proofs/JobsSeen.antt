@@ -10,7 +10,7 @@ use Rattle.srm_cell.specs.declared.job.Done as job
 use Rattle.srm_cell.specs.declared.fault.CellFault.{CellFault}
 use Rattle.srm_cell.specs.Setting.{Traffic, traffic_of}
 use Rattle.srm_cell.specs.Jobs.{PlainJob, MayAdvance}
-use Rattle.srm_crew.specs.Crews.{AreJobs, AdvanceEach, TellsEach}
+use Rattle.srm_interfaces.specs.Crews.{AreJobs, AdvanceEach, TellsEach}
 
 module _ {M : Type 0} where
   seen_jobs : (f : M → Record) (n : ℕ) (js : List (Job M)) → All (λ j. MayAdvance f n j) js → (ps : List PlainJob)

@@ -15,14 +15,14 @@ use Rattle.srm_cell.specs.Setting.{traffic_of}
 use Rattle.srm_cell.specs.Crossings.{joined, crossings}
 use Rattle.srm_cell.specs.Jobs.{PlainJob, TellsFault, Advances, MayAdvance}
 use Rattle.srm_cell.proofs.CrossingLemmas.{crossings_add}
-use Rattle.srm_crew.specs.declared.fault.CrewFault.{CrewFault}
-use Rattle.srm_crew.specs.declared.fault.CrewFault.TheVariants as fault
+use Rattle.srm_interfaces.specs.declared.fault.CrewFault.{CrewFault}
+use Rattle.srm_interfaces.specs.declared.fault.CrewFault.TheVariants as fault
 use Rattle.srm_crew.specs.Places.{times}
-use Rattle.srm_crew.specs.Crews.{AreJobs, AnyEnds, AreRowsOfSome, Maps, TellsMap, sum_at, counted_in}
+use Rattle.srm_interfaces.specs.Crews.{AreJobs, AnyEnds, AreRowsOfSome, Maps, TellsMap, sum_at, counted_in}
 use Rattle.srm_crew.specs.Shared.{HoldsAt, sum_of, ComeOf, Stops, TellsAll}
 use Rattle.srm_crew.proofs.Gathering.{all_done}
 use Rattle.srm_crew.proofs.Peeling.{lower, lower_times, peel}
-use Rattle.srm_crew.proofs.Sums.{crossings_long, none_crossed, word_of_added, rows_are, sum_is}
+use Rattle.srm_interfaces.proofs.Sums.{crossings_long, none_crossed, word_of_added, rows_are, sum_is}
 
 module _ {M : Type 0} where
   abbrev numbers : job.Done M → List ℕ

@@ -9,7 +9,7 @@ use Rattle.srm_cell.specs.declared.fault.CellFault.{CellFault}
 use Rattle.srm_cell.specs.Setting.{Traffic}
 use Rattle.srm_cell.specs.Cells.{StepOutcome, Stepped}
 use Rattle.srm_cell.specs.Jobs.{PlainJob, IsJob, IsDone, TellsDone}
-use Rattle.srm_crew.specs.Crews.{AreJobs, AnyEnds, TellsEach}
+use Rattle.srm_interfaces.specs.Crews.{AreJobs, AnyEnds, TellsEach}
 
 module _ {M : Type 0} where
   -- where the jobs that are left are seen as these, what is done of all is what is done so far and then of them

@@ -1,6 +1,5 @@
 pub mod JobsSoFar
 pub mod JobsSeen
-pub mod Sums
 pub mod Gathering
 pub mod NoteLemmas
 pub mod Keeps
@@ -8,6 +7,5 @@ pub mod Peeling
 pub mod WorkedLemmas
 pub mod Ordering
 pub mod JobsShared
-pub mod Zips
 pub mod JobPieces
 pub mod Hearers

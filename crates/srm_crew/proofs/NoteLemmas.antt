@@ -7,7 +7,7 @@ use Rattle.srm_cell.specs.declared.job.Job.{Job}
 use Rattle.srm_cell.specs.Jobs.{PlainJob}
 use Rattle.srm_cell.proofs.SentRows.{as_many_seen}
 use Rattle.srm_crew.specs.declared.recording.Note.{Note}
-use Rattle.srm_crew.specs.Crews.{AreJobs}
+use Rattle.srm_interfaces.specs.Crews.{AreJobs}
 use Rattle.srm_crew.specs.Notes.{notes_of}
 
 module _ {M : Type 0} where

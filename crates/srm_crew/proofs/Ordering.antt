@@ -11,7 +11,7 @@ use Rattle.srm_crew.specs.Places.{times, EachOnce}
 use Rattle.srm_crew.specs.declared.bag_fault.EmptyFault.{EmptyFault}
 use Rattle.srm_crew.specs.declared.bag_fault.EmptyFault.TheVariants as empty
 use Rattle.srm_crew.specs.Passes.{PassView, RefusesEmpty}
-use Rattle.srm_crew.specs.Crews.{HasGrown}
+use Rattle.srm_interfaces.specs.Crews.{HasGrown}
 use Rattle.srm_crew.specs.Shared.{HoldsAt, sum_of, InOrder, ComeOf, Worked}
 use Rattle.srm_crew.proofs.Peeling.{once_length, sum_same}
 

@@ -5,7 +5,7 @@ use Rattle.std.specs.List.{AllZip}
 use mathlib.Core.Logic.{dite}
 use native.Mathlib.Decide.{ℕ_discrete, dec_le}
 use Rattle.srm_crew.specs.Places.{times, EachOnce}
-use Rattle.srm_crew.specs.Crews.{counted_in}
+use Rattle.srm_interfaces.specs.Crews.{counted_in}
 use Rattle.srm_crew.specs.Shared.{HoldsAt, sum_of}
 
 -- ---- places

@@ -1,6 +1,6 @@
-pub mod Faults
-pub mod Crews
-pub mod Hearers
+pub use Rattle.srm_interfaces.specs.Faults
+pub use Rattle.srm_interfaces.specs.Crews
+pub use Rattle.srm_interfaces.specs.Hearers
 pub mod Pieces
 pub mod Notes
 pub mod Places

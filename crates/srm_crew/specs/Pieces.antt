@@ -18,8 +18,8 @@ use Rattle.srm_crew.specs.declared.piece.Piece.{Piece}
 use Rattle.srm_crew.specs.declared.piece.Piece.TheVariants.{Jobs, Hearers}
 use Rattle.srm_crew.specs.declared.worked.Worked.{Worked}
 use Rattle.srm_crew.specs.declared.worked.Worked.TheVariants.{Advanced, Heard}
-use Rattle.srm_crew.specs.Crews.{AdvanceEach}
-use Rattle.srm_crew.specs.Hearers.{GroupsMayHear, TellsHeard}
+use Rattle.srm_interfaces.specs.Crews.{AdvanceEach}
+use Rattle.srm_interfaces.specs.Hearers.{GroupsMayHear, TellsHeard}
 
 module _ {M : Type 0} where
   -- a worker may work on the piece, in runs of this scenario on this network

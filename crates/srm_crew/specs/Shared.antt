@@ -7,13 +7,13 @@ use Rattle.srm_ledger.specs.Seats.{SeatView, both_seats}
 use Rattle.srm_ledger.specs.Tally.{AllFit, SomePast}
 use Rattle.srm_cell.specs.declared.fault.CellFault.{CellFault}
 use Rattle.srm_cell.specs.declared.fault.CellFault.TheVariants as cell
-use Rattle.srm_crew.specs.declared.fault.CrewFault.{CrewFault}
-use Rattle.srm_crew.specs.declared.fault.CrewFault.TheVariants as fault
+use Rattle.srm_interfaces.specs.declared.fault.CrewFault.{CrewFault}
+use Rattle.srm_interfaces.specs.declared.fault.CrewFault.TheVariants as fault
 use Rattle.srm_crew.specs.declared.bag_fault.SplitFault.{SplitFault}
 use Rattle.srm_crew.specs.declared.bag_fault.SplitFault.TheVariants as split
 use Rattle.srm_crew.specs.Places.{EachAtMostOnce}
 use Rattle.srm_crew.specs.Passes.{PassView, both_passes, TookEachAtMostOnce}
-use Rattle.srm_crew.specs.Crews.{HasGrown, IsPast, counted_in}
+use Rattle.srm_interfaces.specs.Crews.{HasGrown, IsPast, counted_in}
 
 -- P holds of the item at a place of the list
 abbrev pub HoldsAt : {T : Type 0} → (T → Type 0) → List T → ℕ → Type 0

@@ -3,13 +3,13 @@ ghost use Rattle.std.specs.Prelude.{◌≡◌, ◌<◌, ◌≤◌, ◌+◌, ◌*
 ghost use Rattle.srm_ledger.specs.Counts.{place_of};
 ghost use Rattle.srm_cell.specs.Jobs.{PlainJob};
 ghost use Rattle.srm_cell.specs.Setting.{Traffic};
-ghost use Rattle.srm_crew.specs.Faults.{crew_fault_of};
-ghost use Rattle.srm_crew.specs.Crews.{HasGrown, IsPast, counted_in, sum_at, TellsEach, TellsMap};
+ghost use Rattle.srm_interfaces.specs.Faults.{crew_fault_of};
+ghost use Rattle.srm_interfaces.specs.Crews.{HasGrown, IsPast, counted_in, sum_at, TellsEach, TellsMap};
 
-use crate::fault::CrewFault;
 use srm_cell::crossings::Crossings;
 use srm_cell::fault::CellFault;
 use srm_cell::job::Done;
+use srm_interfaces::fault::CrewFault;
 use srm_ledger::kind::Kind;
 use srm_ledger::ledger::{Ledger, Seat, ShareFull};
 use srm_ledger::totals::Totals;

@@ -3,7 +3,7 @@ ghost use Rattle.std.specs.Prelude.{◌≡◌, All, length};
 ghost use Rattle.srm_scenario.specs.Plain.{network_of};
 ghost use Rattle.srm_cell.specs.Setting.{traffic_of};
 ghost use Rattle.srm_cell.specs.Hearing.{IsSent, packets_in};
-ghost use Rattle.srm_crew.specs.Hearers.{GroupsMayHear, TellsHeard};
+ghost use Rattle.srm_interfaces.specs.Hearers.{GroupsMayHear, TellsHeard};
 
 use srm_cell::cell::Cell;
 use srm_cell::hearing::hear_each;

@@ -7,9 +7,7 @@ pub mod bag;
 pub mod bag_crew;
 pub mod bag_fault;
 mod counted;
-pub mod crew;
 mod each;
-pub mod fault;
 pub mod gate;
 pub mod hearing;
 mod order;
@@ -26,3 +24,5 @@ pub mod team_crew;
 pub mod worked;
 mod worker;
 mod workers;
+
+pub use srm_interfaces::{crew, fault};

@@ -7,13 +7,13 @@ ghost use Rattle.srm_crew.specs.Shared.{TellsWork, TellsAll};
 
 use crate::bag::Bag;
 use crate::counted::Counted;
-use crate::fault::CrewFault;
 use crate::gate::Gate;
 use crate::order::in_order;
 use crate::pass::Pass;
 use crate::worker::work_alone;
 use crate::workers::share_out;
 use srm_cell::fault::CellFault;
+use srm_interfaces::fault::CrewFault;
 use srm_ledger::ledger::{Ledger, Seat};
 use std::alloc::{AllocError, Global};
 use std::marker::{Send, Sync};

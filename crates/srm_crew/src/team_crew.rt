@@ -6,15 +6,13 @@ ghost use Rattle.srm_scenario.specs.Plain.{network_of};
 ghost use Rattle.srm_cell.specs.Setting.{traffic_of};
 ghost use Rattle.srm_cell.specs.Jobs.{PlainJob, MayAdvance};
 ghost use Rattle.srm_cell.specs.Hearing.{IsSent, packets_in};
-ghost use Rattle.srm_crew.specs.Crews.{AdvanceEach, AreJobs, Maps};
-ghost use Rattle.srm_crew.specs.Hearers.{GroupsMayHear, TellsHeard};
+ghost use Rattle.srm_interfaces.specs.Crews.{AdvanceEach, AreJobs, Maps};
+ghost use Rattle.srm_interfaces.specs.Hearers.{GroupsMayHear, TellsHeard};
 ghost use Rattle.srm_crew.specs.Teams.{IsWorkOn};
 
 use crate::add::settle;
 use crate::advancing::Advancing;
-use crate::crew::Crew;
 use crate::each::advance_each;
-use crate::fault::CrewFault;
 use crate::hearing::hear_groups;
 use crate::piece::Piece;
 use crate::pieces::{
@@ -26,6 +24,8 @@ use srm_cell::cell::Cell;
 use srm_cell::fault::CellFault;
 use srm_cell::job::{Done, Job};
 use srm_cell::sent::Sent;
+use srm_interfaces::crew::Crew;
+use srm_interfaces::fault::CrewFault;
 use srm_ledger::ledger::{Ledger, Seat};
 use srm_member::participant::Participant;
 use srm_net::net::Net;

@@ -6,10 +6,10 @@ ghost use Rattle.srm_crew.specs.Shared.{TellsItem, TellsWork};
 use crate::add::add_crossings;
 use crate::bag::Bag;
 use crate::counted::Counted;
-use crate::fault::CrewFault;
 use crate::gate::Gate;
 use crate::pass::Pass;
 use srm_cell::fault::CellFault;
+use srm_interfaces::fault::CrewFault;
 use srm_ledger::ledger::{Ledger, Seat};
 use std::sync::Wait;
 

@@ -18,7 +18,7 @@ use Rattle.srm_cell.specs.Setting.{Traffic, traffic_of}
 use Rattle.srm_cell.specs.Cells.{new_cell}
 use Rattle.srm_cell.specs.Views.{IsNew}
 use Rattle.srm_cell.specs.Jobs.{OwnCell, PlainJob, AreMembers, AreCells, MayAdvance, RanEach, IsDone}
-use Rattle.srm_crew.specs.Crews.{AreJobs, Maps}
+use Rattle.srm_interfaces.specs.Crews.{AreJobs, Maps}
 use Rattle.srm_crew_tests.specs.Handed.{MayMap, AreKnown}
 use Rattle.srm_net.specs.Limits.{end_of_time}
 

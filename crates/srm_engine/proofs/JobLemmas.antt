@@ -19,8 +19,8 @@ use Rattle.srm_cell.specs.Crossings.{joined, crossings}
 use Rattle.srm_cell.specs.Jobs as cell
 use Rattle.srm_cell.proofs.CrossingLemmas.{crossings_add}
 use Rattle.srm_cell.proofs.RowPackets.{joined-append}
-use Rattle.srm_crew.specs.Crews.{AreJobs, AnyEnds, HasGrown, counted_in, rows_of}
-use Rattle.srm_crew.proofs.Sums.{crossings_long, word_of_added}
+use Rattle.srm_interfaces.specs.Crews.{AreJobs, AnyEnds, HasGrown, counted_in, rows_of}
+use Rattle.srm_interfaces.proofs.Sums.{crossings_long, word_of_added}
 use Rattle.srm_model.specs.WindowRuns.{OwnResult, AreOwnRuns, rows_in, cells_in, WindowJob, jobs_within, jobs_from, AreJobRuns}
 use Rattle.srm_engine.specs.Groups.{numbered, handed_jobs, AreCuts, sizes, all_in, jobs_with, groups_of, lists_of, some_of}
 use Rattle.srm_engine.specs.Windowed.{IsCounted}

@@ -12,7 +12,7 @@ use Rattle.srm_engine.specs.declared.step_fault.StepFault.{StepFault}
 use Rattle.srm_model.specs.World.{World, IsReached, step}
 use Rattle.srm_engine.specs.Engines.{MayRefuseStep}
 use Rattle.srm_engine.specs.Faults.{step_refused}
-use Rattle.srm_engine.specs.Sinks.{HandsPieces, most_rows}
+use Rattle.srm_interfaces.specs.Sinks.{HandsPieces, most_rows}
 use Rattle.srm_engine.specs.Streams.{stream_fault_of, MayStop, MeetsRefusal, TakesTraceFront, TellsHalt}
 use Rattle.srm_engine.proofs.Stepping.{meets_full}
 

@@ -1,8 +1,8 @@
 -- What refusals of cells, crews, steps and windows are to a run.
 use Rattle.srm_cell.specs.declared.fault.CellFault.{CellFault}
 use Rattle.srm_cell.specs.declared.fault.CellFault.TheVariants as cell
-use Rattle.srm_crew.specs.declared.fault.CrewFault.{CrewFault}
-use Rattle.srm_crew.specs.declared.fault.CrewFault.TheVariants as crew
+use Rattle.srm_interfaces.specs.declared.fault.CrewFault.{CrewFault}
+use Rattle.srm_interfaces.specs.declared.fault.CrewFault.TheVariants as crew
 use Rattle.srm_engine.specs.declared.fault.RunFault.{RunFault}
 use Rattle.srm_engine.specs.declared.fault.RunFault.TheVariants as fault
 use Rattle.srm_engine.specs.declared.cutting.CuttingFault.{CuttingFault}

@@ -1,7 +1,7 @@
 -- Sinks in memory.
 use Rattle.std.specs.Prelude.{◌≡◌, List, ◌++◌}
 use Rattle.srm_member.specs.declared.row.Row.{Row}
-use Rattle.srm_engine.specs.declared.sink.Stage.{Stage}
+use Rattle.srm_interfaces.specs.declared.sink.Stage.{Stage}
 use Rattle.srm_engine.specs.declared.kept_rows.KeptRows.{KeptRows}
 
 -- the rows that a sink keeps

@@ -9,7 +9,7 @@ pub mod Soonest
 pub mod Groups
 pub mod Windowed
 pub mod Ends
-pub mod Sinks
+pub use Rattle.srm_interfaces.specs.Sinks
 pub mod Kept
 pub mod KeptLaws
 pub mod Streams

@@ -14,10 +14,10 @@ use Rattle.srm_engine.specs.declared.fault.RunFault.{RunFault}
 use Rattle.srm_engine.specs.declared.fault.RunFault.TheVariants as fault
 use Rattle.srm_engine.specs.declared.halt.Halt.{Halt}
 use Rattle.srm_engine.specs.declared.halt.Halt.TheVariants as halt
-use Rattle.srm_engine.specs.declared.sink.SinkFault.{SinkFault}
-use Rattle.srm_engine.specs.declared.sink.SinkFault.TheVariants as sink
-use Rattle.srm_engine.specs.declared.sink.Stage.{Stage}
-use Rattle.srm_engine.specs.declared.sink.Stage.TheVariants.{Live, Refused}
+use Rattle.srm_interfaces.specs.declared.sink.SinkFault.{SinkFault}
+use Rattle.srm_interfaces.specs.declared.sink.SinkFault.TheVariants as sink
+use Rattle.srm_interfaces.specs.declared.sink.Stage.{Stage}
+use Rattle.srm_interfaces.specs.declared.sink.Stage.TheVariants.{Live, Refused}
 use Rattle.srm_engine.specs.declared.step_fault.StepFault.{StepFault}
 use Rattle.srm_engine.specs.declared.step_fault.StepFault.TheVariants as step_fault
 use Rattle.srm_engine.specs.declared.stream_fault.StreamFault.{StreamFault}

@@ -9,7 +9,7 @@ use Rattle.srm_cell.specs.Setting.{Traffic, Setting, setting_of}
 use Rattle.srm_cell.specs.Cells.{Event}
 use Rattle.srm_cell.specs.Crossings.{crossings}
 use Rattle.srm_cell.specs.Jobs as cell
-use Rattle.srm_crew.specs.Crews.{counted_in, AreRowsOfSome}
+use Rattle.srm_interfaces.specs.Crews.{counted_in, AreRowsOfSome}
 use Rattle.srm_options.specs.declared.width.Width.{Width}
 use Rattle.srm_options.specs.declared.width.Width.TheVariants as width
 use Rattle.srm_engine.specs.declared.width.Windows.{Windows}

@@ -5,15 +5,16 @@ ghost use Rattle.srm_scenario.specs.Plain.{network_of};
 ghost use Rattle.srm_cell.specs.PutRows.{PutsStep};
 ghost use Rattle.srm_engine.specs.Openings.{HoldOpeningRecords};
 ghost use Rattle.srm_engine.specs.Engines.{IsSetUp, IsStillOf, MayStep, StepsOn, MaySendNow, Sends, MayDeliver, Delivers, IsOpened, OpensFrom};
-ghost use Rattle.srm_engine.specs.Sinks.{IsOpen, stage_after, stops_in, HandsPieces};
+ghost use Rattle.srm_interfaces.specs.Sinks.{IsOpen, stage_after, stops_in, HandsPieces};
 ghost use Rattle.srm_engine.specs.Streams.{sink_in, MayTake, TakesSteps, StreamsRows};
 
 use crate::cells::{Cells, open_cells};
 use crate::halt::Halt;
-use crate::sink::{RowSink, hand_none};
+use crate::handing::hand_none;
 use crate::step_fault::{StepFault, step_fault};
 use srm_cell::arrival::arrival;
 use srm_cell::tally::Tally;
+use srm_interfaces::sink::RowSink;
 use srm_member::member::Member;
 use srm_member::row::Row;
 use srm_net::net::Net;

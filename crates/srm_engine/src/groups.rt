@@ -18,7 +18,7 @@ use crate::soonest::{Soonest, soonest_in, soonest_of_each};
 use srm_cell::arrival::arrival;
 use srm_cell::cell::Cell;
 use srm_cell::job::{Done, Job};
-use srm_crew::crew::Crew;
+use srm_interfaces::crew::Crew;
 use srm_member::member::Member;
 use srm_member::participant::Participant;
 use srm_member::row::Row;

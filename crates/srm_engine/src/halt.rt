@@ -1,5 +1,5 @@
 //! Why a run that hands its rows on comes to no end.
-use crate::sink::SinkFault;
+use srm_interfaces::sink::SinkFault;
 
 /// Why a run that hands its rows on comes to no end.
 #[derive(Clone, Copy, Debug, PartialEq, Eq)]

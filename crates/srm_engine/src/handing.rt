@@ -1,18 +1,31 @@
-//! The rows of a window, handed to a sink.
-ghost use Rattle.std.specs.Prelude.{◌≡◌, ◌<◌, ◌+◌, ◌-◌, ◌^◌, All, IsSorted, MatchResult};
+//! Rows, handed to a sink: those of a window, and none, by which a run begins.
+ghost use Rattle.std.specs.Prelude.{◌≡◌, ◌<◌, ◌+◌, ◌-◌, ◌^◌, ◌∷◌, [], All, IsSorted, MatchResult};
 ghost use Rattle.srm_cell.specs.Crossings.{joined};
 ghost use Rattle.srm_model.specs.World.{row_cmp};
-ghost use Rattle.srm_engine.specs.declared.sink.Stage.{Stage as AStage};
-ghost use Rattle.srm_engine.specs.Sinks.{stage_after, stops_in};
+ghost use Rattle.srm_interfaces.specs.declared.sink.Stage.{Stage as AStage};
+ghost use Rattle.srm_interfaces.specs.Sinks.{IsOpen, stage_after, stops_in};
 ghost use Rattle.srm_engine.specs.Streams.{sink_in};
 ghost use Rattle.srm_engine.specs.WindowEngines.{HandsLists, lists_in};
 
 use crate::halt::Halt;
 use crate::merge::merge;
-use crate::sink::{RowSink, SinkFault, Stage};
 use crate::window_fault::WindowFault;
+use srm_interfaces::sink::{RowSink, SinkFault, Stage};
 use srm_member::row::Row;
 use std::alloc::Global;
+
+/// Hands a sink no rows: the call by which a run begins.
+pub(crate) fn hand_none<S: RowSink>(alloc: Global, sink: &mut S) -> Result<(), SinkFault>
+    requires open { IsOpen (S.stage sink.old) }
+    requires failures { S.failures sink.old < 2 ^ 64 - 1 }
+    ensures same { S.same sink.old sink.new }
+    ensures stage { S.stage sink.new ≡ stage_after result }
+    ensures failures { S.failures sink.new ≡ S.failures sink.old + stops_in result }
+    ensures handed { S.handed sink.old ([] ∷ []) sink.new }
+    ensures rows { MatchResult result (λ _. S.took sink.old [] sink.new) (λ _. S.part sink.old [] sink.new) }
+{
+    sink.rows(alloc, Vec::new(alloc))
+}
 
 /// Hands a sink the rows of all lists, each of which is in order: all of them in order of their keys, or list after list where their
 /// order is of no matter to it.

@@ -1,8 +1,8 @@
 //! A sink in memory.
 ghost use Rattle.std.specs.Prelude.{◌≡◌, []};
-ghost use Rattle.srm_engine.specs.declared.sink.Stage.{Stage as AStage};
+ghost use Rattle.srm_interfaces.specs.declared.sink.Stage.{Stage as AStage};
 
-use crate::sink::{RowSink, SinkFault, Stage};
+use srm_interfaces::sink::{RowSink, SinkFault, Stage};
 use srm_member::row::Row;
 use std::alloc::Global;
 

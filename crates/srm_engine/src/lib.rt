@@ -14,7 +14,6 @@ mod merge;
 pub mod next_times;
 pub mod outcome;
 mod sent;
-pub mod sink;
 mod soonest;
 pub mod step_fault;
 pub mod step_run;
@@ -25,3 +24,5 @@ mod window_engine;
 pub mod window_fault;
 pub mod window_run;
 pub mod window_stream;
+
+pub use srm_interfaces::sink;

@@ -2,13 +2,13 @@
 ghost use Rattle.std.specs.Prelude.{◌≡◌, ◌<◌, ◌+◌, ◌-◌, ◌^◌, ℕ, map};
 ghost use Rattle.srm_scenario.specs.Plain.{network_of};
 ghost use Rattle.srm_engine.specs.Openings.{HoldOpeningRecords};
-ghost use Rattle.srm_engine.specs.Sinks.{IsOpen, TellsPieces};
+ghost use Rattle.srm_interfaces.specs.Sinks.{IsOpen, TellsPieces};
 ghost use Rattle.srm_engine.specs.Streams.{StandsAs, stopped_in, StreamsFrom, RefusedFrom};
 
 use crate::cells::finish_cells;
 use crate::engine::Engine;
-use crate::sink::RowSink;
 use crate::stream_fault::StreamFault;
+use srm_interfaces::sink::RowSink;
 use srm_ledger::totals::Totals;
 use srm_member::exit::Exit;
 use srm_member::member::Member;

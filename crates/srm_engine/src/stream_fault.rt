@@ -4,9 +4,9 @@ ghost use Rattle.srm_engine.specs.Streams.{fault_of_sink};
 
 use crate::fault::RunFault;
 use crate::halt::Halt;
-use crate::sink::SinkFault;
 use crate::step_fault::StepFault;
 use crate::window_fault::WindowFault;
+use srm_interfaces::sink::SinkFault;
 use std::alloc::AllocError;
 
 /// Why a run that hands its rows on came to no end.

@@ -3,7 +3,7 @@ ghost use Rattle.std.specs.Prelude.{◌≡◌, ◌≢◌};
 ghost use Rattle.srm_engine.specs.Faults.{window_fault_of};
 
 use crate::fault::RunFault;
-use srm_crew::fault::CrewFault;
+use srm_interfaces::fault::CrewFault;
 use std::alloc::AllocError;
 
 /// Why a window is refused.

@@ -10,7 +10,7 @@ use crate::outcome::Outcome;
 use crate::stream_fault::StreamFault;
 use crate::width::Windows;
 use crate::window_stream::window_stream;
-use srm_crew::crew::Crew;
+use srm_interfaces::crew::Crew;
 use srm_member::participant::Participant;
 use srm_net::net::Net;
 use srm_scenario::scenario::Scenario;

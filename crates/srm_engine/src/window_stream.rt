@@ -2,17 +2,17 @@
 ghost use Rattle.std.specs.Prelude.{◌≡◌, ◌<◌, ◌≤◌, ◌+◌, ◌-◌, ◌^◌, ℕ, map};
 ghost use Rattle.srm_scenario.specs.Plain.{network_of};
 ghost use Rattle.srm_engine.specs.Openings.{HoldOpeningRecords};
-ghost use Rattle.srm_engine.specs.Sinks.{IsOpen};
+ghost use Rattle.srm_interfaces.specs.Sinks.{IsOpen};
 ghost use Rattle.srm_engine.specs.Streams.{StandsAs, stopped_in, StreamsFrom};
 ghost use Rattle.srm_engine.specs.Windowed.{rule_of};
 ghost use Rattle.srm_engine.specs.WindowStreams.{IsLeft, TellsStreamAsked, CallsInWindows};
 
 use crate::cutting::Cutting;
-use crate::sink::RowSink;
 use crate::stream_fault::StreamFault;
 use crate::width::Windows;
 use crate::window_engine::WindowEngine;
-use srm_crew::crew::Crew;
+use srm_interfaces::crew::Crew;
+use srm_interfaces::sink::RowSink;
 use srm_ledger::totals::Totals;
 use srm_member::exit::Exit;
 use srm_member::participant::Participant;

@@ -6,8 +6,8 @@ use Rattle.srm_net.specs.Network.{Network}
 use Rattle.srm_scenario.specs.Plain.{PlainScenario}
 use Rattle.srm_member.specs.declared.row.Row.{Row}
 use Rattle.srm_cell.specs.Setting.{setting_of}
-use Rattle.srm_engine.specs.declared.sink.SinkFault.TheVariants as sink
-use Rattle.srm_engine.specs.declared.sink.Stage.TheVariants as stage
+use Rattle.srm_interfaces.specs.declared.sink.SinkFault.TheVariants as sink
+use Rattle.srm_interfaces.specs.declared.sink.Stage.TheVariants as stage
 use Rattle.srm_model.specs.World.{World, IsReached, IsLast}
 use Rattle.srm_engine.specs.Streams as streams
 use Rattle.srm_report.specs.declared.standing.Standing.{Standing}

@@ -9,9 +9,9 @@ use Rattle.srm_member.specs.declared.exit.Exit.{Exit}
 use Rattle.srm_engine.specs.declared.fault.RunFault.TheVariants as fault
 use Rattle.srm_engine.specs.declared.stream_fault.StreamFault.{StreamFault}
 use Rattle.srm_engine.specs.declared.stream_fault.StreamFault.TheVariants as stream
-use Rattle.srm_engine.specs.declared.sink.SinkFault.TheVariants.{Stopped}
-use Rattle.srm_engine.specs.declared.sink.Stage.{Stage}
-use Rattle.srm_engine.specs.declared.sink.Stage.TheVariants.{Live, Refused}
+use Rattle.srm_interfaces.specs.declared.sink.SinkFault.TheVariants.{Stopped}
+use Rattle.srm_interfaces.specs.declared.sink.Stage.{Stage}
+use Rattle.srm_interfaces.specs.declared.sink.Stage.TheVariants.{Live, Refused}
 use Rattle.srm_engine.specs.Streams.{TakesTraceFront}
 use Rattle.srm_model.specs.World.{World, IsOutcome, RunMeetsFull}
 use Rattle.srm_model.specs.WindowChains.{AreWindows}

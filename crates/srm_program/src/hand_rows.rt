@@ -2,7 +2,7 @@
 ghost use Rattle.std.specs.Prelude.{◌≡◌, ◌<◌, ◌-◌, ◌^◌, ℕ, map};
 ghost use Rattle.srm_scenario.specs.Plain.{network_of};
 ghost use Rattle.srm_engine.specs.Outcomes.{HoldOpeningRecords};
-ghost use Rattle.srm_engine.specs.Sinks.{IsOpen};
+ghost use Rattle.srm_interfaces.specs.Sinks.{IsOpen};
 ghost use Rattle.srm_program.specs.Reports.{failures_after_run};
 ghost use Rattle.srm_program.specs.Runs.{fault_of_stream, MayShareBag, StandsAfter, TellsRows};
 
@@ -11,16 +11,16 @@ use crate::fault::LabFault;
 use crate::in_team::in_team;
 use crate::options::{CrewKind, Engine};
 use srm_crew::bag_crew::BagCrew;
-use srm_crew::crew::Crew;
 use srm_crew::gate::OpenGate;
 use srm_crew::plain::PlainCrew;
 use srm_crew::pool::PoolCrew;
 use srm_engine::fault::RunFault;
-use srm_engine::sink::RowSink;
 use srm_engine::step_stream::step_stream;
 use srm_engine::stream_fault::StreamFault;
 use srm_engine::width::Windows;
 use srm_engine::window_stream::window_stream;
+use srm_interfaces::crew::Crew;
+use srm_interfaces::sink::RowSink;
 use srm_ledger::totals::Totals;
 use srm_member::member::Member;
 use srm_member::participant::Participant;

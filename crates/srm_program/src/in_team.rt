@@ -2,7 +2,7 @@
 ghost use Rattle.std.specs.Prelude.{◌≡◌, ◌<◌, ◌-◌, ◌^◌, ℕ, Some, map};
 ghost use Rattle.srm_scenario.specs.Plain.{network_of};
 ghost use Rattle.srm_engine.specs.Outcomes.{HoldOpeningRecords};
-ghost use Rattle.srm_engine.specs.Sinks.{IsOpen};
+ghost use Rattle.srm_interfaces.specs.Sinks.{IsOpen};
 ghost use Rattle.srm_program.specs.Reports.{failures_after_run};
 ghost use Rattle.srm_program.specs.Runs.{MayShareBag, StandsAfter, TellsRows, MayRunInWindows, HandsOn};
 
@@ -11,12 +11,12 @@ use crate::fault::LabFault;
 use crate::hand_rows::in_windows;
 use crate::options::Engine;
 use srm_crew::advancing::Advancing;
-use srm_crew::crew::Crew;
 use srm_crew::piece::Piece;
 use srm_crew::plain::PlainCrew;
 use srm_crew::team_crew::TeamCrew;
 use srm_crew::worked::Worked;
-use srm_engine::sink::RowSink;
+use srm_interfaces::crew::Crew;
+use srm_interfaces::sink::RowSink;
 use srm_ledger::totals::Totals;
 use srm_member::member::Member;
 use srm_member::participant::Participant;

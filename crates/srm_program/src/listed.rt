@@ -2,7 +2,7 @@
 ghost use Rattle.std.specs.Prelude.{◌≡◌, ◌<◌, ◌-◌, ◌^◌, ℕ, Some, [], map};
 ghost use Rattle.srm_scenario.specs.Plain.{network_of};
 ghost use Rattle.srm_engine.specs.Outcomes.{HoldOpeningRecords};
-ghost use Rattle.srm_engine.specs.declared.sink.Stage.{Stage};
+ghost use Rattle.srm_interfaces.specs.declared.sink.Stage.{Stage};
 ghost use Rattle.srm_report.specs.ListingSinks.{stage_of, outlet_under, gathered_by, written_by, AreOverOne};
 ghost use Rattle.srm_report.specs.Listings.{text_in};
 ghost use Rattle.srm_program.specs.Reports.{failures_after_run, TellsListing};

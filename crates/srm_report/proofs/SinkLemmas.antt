@@ -3,7 +3,7 @@ use Rattle.std.proofs.Common.{arith}
 use Rattle.std.proofs.Common.{◌≡◌, ◌∙◌, ℕ, Bool, List, [], ◌++◌, Option, Result, Ok, Err, length, ◌≤◌, ap, sym, append-nil}
 use Rattle.std.specs.Result.{MatchResult}
 use Rattle.srm_member.specs.declared.row.Row.{Row}
-use Rattle.srm_engine.specs.declared.sink.SinkFault.{SinkFault}
+use Rattle.srm_interfaces.specs.declared.sink.SinkFault.{SinkFault}
 use Rattle.srm_report.specs.declared.standing.Standing.{Standing}
 use Rattle.srm_report.specs.declared.listing_sink.ListingSink.{ListingSink}
 use Rattle.srm_report.specs.Listings.{Form}

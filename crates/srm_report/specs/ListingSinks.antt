@@ -2,10 +2,10 @@
 use Rattle.std.specs.Prelude.{◌≡◌, ℕ, List, [], ◌++◌, length, Option, Result, Ok, Err}
 use Rattle.std.specs.Io.KnownBytes.{Appends}
 use Rattle.srm_member.specs.declared.row.Row.{Row}
-use Rattle.srm_engine.specs.declared.sink.SinkFault.{SinkFault}
-use Rattle.srm_engine.specs.declared.sink.SinkFault.TheVariants as fault
-use Rattle.srm_engine.specs.declared.sink.Stage.{Stage}
-use Rattle.srm_engine.specs.declared.sink.Stage.TheVariants as stage
+use Rattle.srm_interfaces.specs.declared.sink.SinkFault.{SinkFault}
+use Rattle.srm_interfaces.specs.declared.sink.SinkFault.TheVariants as fault
+use Rattle.srm_interfaces.specs.declared.sink.Stage.{Stage}
+use Rattle.srm_interfaces.specs.declared.sink.Stage.TheVariants as stage
 use Rattle.srm_report.specs.declared.standing.Standing.{Standing}
 use Rattle.srm_report.specs.declared.standing.Standing.TheVariants.{Fresh, Live, NoMemory, Stopped}
 use Rattle.srm_report.specs.declared.listing_sink.ListingSink.{ListingSink}

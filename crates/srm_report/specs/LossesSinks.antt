@@ -3,7 +3,7 @@ use Rattle.std.specs.Prelude.{◌≡◌, ℕ, List, [], ◌++◌}
 use Rattle.std.proofs.Common.{◌∙◌, ap, sym, subst, append_assoc, append-nil}
 use Rattle.srm_member.specs.declared.row.Row.{Row}
 use Rattle.srm_member.specs.Orderly.{IsOrderly}
-use Rattle.srm_engine.specs.declared.sink.Stage.{Stage}
+use Rattle.srm_interfaces.specs.declared.sink.Stage.{Stage}
 use Rattle.srm_report.specs.declared.losses_sink.LossesSink.{LossesSink}
 use Rattle.srm_report.specs.Courses.{TellLosses}
 

@@ -1,5 +1,5 @@
 -- A sink that keeps nothing.
-use Rattle.srm_engine.specs.declared.sink.Stage.{Stage}
+use Rattle.srm_interfaces.specs.declared.sink.Stage.{Stage}
 use Rattle.srm_report.specs.declared.no_rows.NoRows.{NoRows}
 
 -- where it stands

@@ -10,7 +10,7 @@ use crate::outlet::{OutFault, Outlet};
 use crate::standing::Standing;
 use crate::text::Text;
 use crate::writing::{WriteFault, write_out};
-use srm_engine::sink::{RowSink, SinkFault};
+use srm_interfaces::sink::{RowSink, SinkFault};
 use srm_member::row::Row;
 use std::alloc::Global;
 
@@ -103,8 +103,8 @@ fn write_each<O: Outlet>(
 }
 
 impl<'a, L: Listing, O: Outlet> ListingSink<'a, L, O> {
-    ghost use Rattle.srm_engine.specs.declared.sink.Stage.{Stage as AStage};
-    ghost use Rattle.srm_engine.specs.Sinks.{IsOpen, stops_in};
+    ghost use Rattle.srm_interfaces.specs.declared.sink.Stage.{Stage as AStage};
+    ghost use Rattle.srm_interfaces.specs.Sinks.{IsOpen, stops_in};
     ghost use Rattle.srm_report.specs.ListingSinks.{stage_of, standing_of, outlet_under, gathered_by, gathering_room, written_by, AreOverOne, PutsText, LeavesOutlet, WritesGathered, WritesThrough, Flushes};
 
     /// A sink of this table over this outlet, which took no rows yet. It writes each piece of the table as it comes. It does not
@@ -280,7 +280,7 @@ impl<'a, L: Listing, O: Outlet> RowSink for ListingSink<'a, L, O> {
     ghost use Rattle.std.specs.Prelude.{refl};
     ghost use Rattle.std.proofs.Common.{◌∙◌};
     ghost use Rattle.std.specs.Prelude.{MatchResult};
-    ghost use Rattle.srm_engine.specs.Sinks.{IsOpen, stage_after, stops_in};
+    ghost use Rattle.srm_interfaces.specs.Sinks.{IsOpen, stage_after, stops_in};
     ghost use Rattle.srm_report.specs.ListingSinks.{stage_of, outlet_under, AreOverOne, LeavesOutlet, PutsRows, PutsPart};
     ghost use Rattle.srm_report.specs.SinkLaws.{one_self, over_one_more, rows_none, rows_more, part_none, part_more, part_longer};
 

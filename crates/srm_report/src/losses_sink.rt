@@ -6,7 +6,7 @@ use crate::course::Course;
 use crate::courses::note;
 use crate::fault::ReportFault;
 use crate::loss_lines::table_text;
-use srm_engine::sink::{RowSink, SinkFault, Stage};
+use srm_interfaces::sink::{RowSink, SinkFault, Stage};
 use srm_member::row::Row;
 use srm_net::net::Net;
 use std::alloc::{AllocError, Global};
@@ -22,7 +22,7 @@ impl LossesSink {
     ghost use Rattle.std.specs.Prelude.{ℕ, List, [], length, IfOk, OnOk};
     ghost use Rattle.srm_member.specs.declared.row.Row.{Row as R};
     ghost use Rattle.srm_member.specs.Orderly.{IsOrderly};
-    ghost use Rattle.srm_engine.specs.declared.sink.Stage.{Stage as AStage};
+    ghost use Rattle.srm_interfaces.specs.declared.sink.Stage.{Stage as AStage};
     ghost use Rattle.srm_report.specs.Losses.{losses_table};
     ghost use Rattle.srm_report.specs.LossesSinks.{stage_of_losses, HasFound, FindsLosses};
 

@@ -5,7 +5,7 @@ ghost use Rattle.srm_report.specs.Counted.{IsAtMost};
 use crate::counts::Counts;
 use crate::fault::ReportFault;
 use crate::member_lines::table_text;
-use srm_engine::sink::{RowSink, SinkFault, Stage};
+use srm_interfaces::sink::{RowSink, SinkFault, Stage};
 use srm_member::row::Row;
 use srm_scenario::scenario::Scenario;
 use std::alloc::{AllocError, Global};
@@ -28,7 +28,7 @@ pub struct MembersSink {
 impl MembersSink {
     ghost use Rattle.std.specs.Prelude.{ℕ, List, [], ◌∷◌, ◌++◌, length, IfOk, OnOk};
     ghost use Rattle.srm_member.specs.declared.row.Row.{Row as R};
-    ghost use Rattle.srm_engine.specs.declared.sink.Stage.{Stage as AStage};
+    ghost use Rattle.srm_interfaces.specs.declared.sink.Stage.{Stage as AStage};
     ghost use Rattle.srm_report.specs.Members.{members_table};
     ghost use Rattle.srm_report.specs.MembersSinks.{stage_of_members, counts_in, HasCountedRows, CountsRows};
 

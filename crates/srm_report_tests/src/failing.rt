@@ -1,6 +1,6 @@
 //! Sinks whose device fails.
 
-use srm_engine::sink::{RowSink, SinkFault, Stage};
+use srm_interfaces::sink::{RowSink, SinkFault, Stage};
 use srm_member::row::Row;
 use std::alloc::Global;
 

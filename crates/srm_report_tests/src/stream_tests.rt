@@ -3,10 +3,10 @@
 use crate::failing::Failing;
 use crate::streaming::{expect_windows, stream_text};
 use srm_crew::recording::Recording;
-use srm_engine::sink::Stage;
 use srm_engine::stream_fault::StreamFault;
 use srm_engine::width::{Width, Windows};
 use srm_examples::scenarios::CHAIN_OF_FIVE_ONE_LOSS;
+use srm_interfaces::sink::Stage;
 use srm_report::fault::ReportFault;
 use srm_report::listing_sink::ListingSink;
 use srm_report::outlet::WriteOutlet;

@@ -4,16 +4,16 @@ ghost use Rattle.srm_scenario.specs.Plain.{network_of};
 ghost use Rattle.srm_member.specs.Record.{opening_record};
 ghost use Rattle.srm_cell.specs.Setting.{fixed_of};
 ghost use Rattle.srm_engine.specs.Openings.{HoldOpeningRecords};
-ghost use Rattle.srm_engine.specs.Sinks.{IsOpen};
+ghost use Rattle.srm_interfaces.specs.Sinks.{IsOpen};
 
 use crate::opening::opened;
 use srm_crew::recording::{Note, Recording};
-use srm_engine::sink::RowSink;
 use srm_engine::step_stream::step_stream;
 use srm_engine::stream_fault::StreamFault;
 use srm_engine::width::Windows;
 use srm_engine::window_stream::window_stream;
 use srm_examples::counted::Counted;
+use srm_interfaces::sink::RowSink;
 use srm_member::member::Member;
 use srm_net::net::Net;
 use srm_net::role::Role;

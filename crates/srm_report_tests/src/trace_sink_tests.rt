@@ -1,10 +1,10 @@
 //! A trace that is written as its rows come, to outlets that fail.
 ghost use Rattle.std.specs.Prelude.{◌<◌, ◌-◌, ◌^◌};
-ghost use Rattle.srm_engine.specs.Sinks.{IsOpen};
+ghost use Rattle.srm_interfaces.specs.Sinks.{IsOpen};
 ghost use Rattle.srm_report.specs.ListingSinks.{stage_of, outlet_under};
 
 use crate::trace_tests::{Narrow, Of, row_of};
-use srm_engine::sink::{RowSink, SinkFault};
+use srm_interfaces::sink::{RowSink, SinkFault};
 use srm_member::row::{Row, Word};
 use srm_member::told::Told;
 use srm_net::packet::PacketId;

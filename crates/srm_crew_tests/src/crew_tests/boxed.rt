@@ -4,15 +4,15 @@ ghost use Rattle.std.specs.List.{range_with_len};
 ghost use denote.Param.Send.{IsSync};
 ghost use Rattle.srm_net.specs.Limits.{most_nodes};
 ghost use Rattle.srm_cell.specs.Jobs.{MayAdvance};
-ghost use Rattle.srm_crew.specs.Crews.{Maps};
+ghost use Rattle.srm_interfaces.specs.Crews.{Maps};
 
 use srm_cell::job::{Done, Job};
 use srm_crew::bag_crew::BagCrew;
-use srm_crew::crew::Crew;
-use srm_crew::fault::CrewFault;
 use srm_crew::gate::OpenGate;
 use srm_crew::plain::PlainCrew;
 use srm_crew::pool::PoolCrew;
+use srm_interfaces::crew::Crew;
+use srm_interfaces::fault::CrewFault;
 use srm_ledger::ledger::{Ledger, Seat};
 use srm_member::member::Member;
 use srm_net::net::Net;

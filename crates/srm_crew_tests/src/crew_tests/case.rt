@@ -1,7 +1,7 @@
 //! What a test of crews hands to them, and what it wants of them.
 use crate::crew_tests::seen::{Seen, Window};
-use srm_crew::fault::CrewFault;
 use srm_examples::scenarios::Example;
+use srm_interfaces::fault::CrewFault;
 use srm_ledger::totals::Totals;
 use std::alloc::AllocError;
 use std::process::Abort;

@@ -1,7 +1,7 @@
 //! Cases, worked by hand.
 use crate::crew_tests::case::{Case, Wanted};
-use srm_crew::fault::CrewFault;
 use srm_examples::scenarios::{STAR_LOSS_AT_THE_SOURCE, TWO_NODES};
+use srm_interfaces::fault::CrewFault;
 use srm_ledger::seat::SHARE_MOST;
 use srm_member::row::Word;
 use srm_member::told::Told;

@@ -10,7 +10,7 @@ use crate::crew_tests::boxed::BoxCrew;
 use crate::crew_tests::seen::Window;
 use srm_cell::cell::Cell;
 use srm_cell::job::{Done, Job};
-use srm_crew::fault::CrewFault;
+use srm_interfaces::fault::CrewFault;
 use srm_ledger::ledger::{Ledger, Seat};
 use srm_member::member::Member;
 use srm_net::net::Net;

@@ -1,5 +1,5 @@
 use Rattle.std.proofs.Common.{◌∙◌, arith}
-use Rattle.srm_crew.proofs.Sums.{sum_more, sum_some}
+use Rattle.srm_interfaces.proofs.Sums.{sum_more, sum_some}
 use Rattle.srm_crew.proofs.add.add_each.Goals as goal
 
 pub loop-done-preserved : goal.loop-done-preserved

@@ -1,5 +1,5 @@
 use Rattle.std.proofs.Common.{take}
-use Rattle.srm_crew.specs.Crews.{HasGrown, sum_at}
+use Rattle.srm_interfaces.specs.Crews.{HasGrown, sum_at}
 use Rattle.srm_crew.proofs.add.add_each.Given as goal
 
 abbrev pub invariant-loop-done : goal.invariant-loop-done

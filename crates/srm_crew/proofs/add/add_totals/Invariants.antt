@@ -1,5 +1,5 @@
 use Rattle.std.proofs.Common.{◌≡◌, ℕ, ◌+◌, ◌<◌, ◌≤◌, slice_index}
-use Rattle.srm_crew.specs.Crews.{counted_in}
+use Rattle.srm_interfaces.specs.Crews.{counted_in}
 use Rattle.srm_crew.proofs.add.add_totals.Given as goal
 
 abbrev pub invariant-loop-i : goal.invariant-loop-i

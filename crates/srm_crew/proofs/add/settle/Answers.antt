@@ -1,6 +1,6 @@
 use Rattle.std.proofs.Common.{◌<◌, ◌+◌, ◌^◌, ◌∙◌, ap, subst, slice_index}
-use Rattle.srm_crew.specs.Crews.{rows_of, TellsEach}
-use Rattle.srm_crew.proofs.Sums.{all_long, sum_is, rows_of_all}
+use Rattle.srm_interfaces.specs.Crews.{rows_of, TellsEach}
+use Rattle.srm_interfaces.proofs.Sums.{all_long, sum_is, rows_of_all}
 use Rattle.srm_crew.proofs.add.settle.Goals as goal
 
 pub add_each-requires-clause-long : goal.add_each-requires-clause-long

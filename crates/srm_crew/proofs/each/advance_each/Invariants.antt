@@ -2,7 +2,7 @@ use Rattle.std.proofs.Common.{List, All, length}
 use Rattle.std.specs.Vec.Iter.{into_iter_items}
 use Rattle.srm_cell.specs.Setting.{traffic_of}
 use Rattle.srm_cell.specs.Jobs.{PlainJob, MayAdvance}
-use Rattle.srm_crew.specs.Crews.{AreJobs}
+use Rattle.srm_interfaces.specs.Crews.{AreJobs}
 use Rattle.srm_crew.proofs.JobsSoFar.{SoFar}
 use Rattle.srm_crew.proofs.each.advance_each.Given as goal
 

@@ -8,7 +8,7 @@ use Rattle.std.specs.Vec.Iter.{into_iter_items}
 use Rattle.srm_cell.specs.declared.cell.Cell.{Cell}
 use Rattle.srm_cell.specs.Setting.{traffic_of}
 use Rattle.srm_cell.specs.Hearing.{packets_in, HearsAll, AllMayHear, EachHearsAll}
-use Rattle.srm_crew.proofs.Zips.{zip_none, zip_more, zip_all}
+use Rattle.srm_interfaces.proofs.Zips.{zip_none, zip_more, zip_all}
 use Rattle.srm_crew.proofs.hearing.hear_groups.Goals as goal
 
 pub loop-group-init : goal.loop-group-init

@@ -3,8 +3,8 @@ use Rattle.std.specs.Vec.Iter.{into_iter_items}
 use Rattle.srm_cell.specs.declared.cell.Cell.{Cell}
 use Rattle.srm_cell.specs.Setting.{traffic_of}
 use Rattle.srm_cell.specs.Hearing.{packets_in, EachHearsAll}
-use Rattle.srm_crew.specs.Hearers.{GroupsMayHear}
-use Rattle.srm_crew.proofs.Zips.{ZipSoFar}
+use Rattle.srm_interfaces.specs.Hearers.{GroupsMayHear}
+use Rattle.srm_interfaces.proofs.Zips.{ZipSoFar}
 use Rattle.srm_crew.proofs.hearing.hear_groups.Given as goal
 
 -- the groups so far have heard, and the others may hear

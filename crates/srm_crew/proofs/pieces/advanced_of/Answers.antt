@@ -1,5 +1,5 @@
 use Rattle.srm_crew.specs.Pieces.{IsAdvanced, IsAdvancedAs}
-use Rattle.srm_crew.proofs.Zips.{zip_more}
+use Rattle.srm_interfaces.proofs.Zips.{zip_more}
 use Rattle.std.proofs.lemmas.List.Elements.{All-tail}
 use Rattle.srm_crew.proofs.pieces.advanced_of.Goals as goal
 

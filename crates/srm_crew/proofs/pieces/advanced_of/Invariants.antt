@@ -1,7 +1,7 @@
 use Rattle.std.specs.Vec.Iter.{into_iter_items}
 use Rattle.std.proofs.Common.{All}
 use Rattle.srm_crew.specs.Pieces.{IsAdvanced, IsAdvancedAs}
-use Rattle.srm_crew.proofs.Zips.{ZipSoFar}
+use Rattle.srm_interfaces.proofs.Zips.{ZipSoFar}
 use Rattle.srm_crew.proofs.pieces.advanced_of.Given as goal
 
 abbrev pub invariant-loop-worked : goal.invariant-loop-worked

@@ -1,7 +1,8 @@
 use Rattle.std.proofs.Common.{◌≡◌, ◌∙◌, ◌++◌, ◌∷◌, [], ap, arith}
 use Rattle.std.proofs.lemmas.Grind.{common_steps}
 use Rattle.std.specs.Vec.Iter.{into_iter_items}
-use Rattle.srm_crew.proofs.JobPieces.{all_in, piece_longer, piece_ends, last_piece}
+use Rattle.srm_interfaces.proofs.InPieces.{all_in}
+use Rattle.srm_crew.proofs.JobPieces.{piece_longer, piece_ends, last_piece}
 use Rattle.srm_crew.proofs.pieces.pieces_of.Goals.{then-due-share+then-len-cuts+in_ok-push, else-due-share}
 use Rattle.srm_crew.proofs.pieces.pieces_of.Goals as goal
 

@@ -1,6 +1,6 @@
 use Rattle.std.proofs.Common.{◌≡◌, ◌++◌}
 use Rattle.std.specs.Vec.Iter.{into_iter_items}
-use Rattle.srm_crew.proofs.JobPieces.{all_in}
+use Rattle.srm_interfaces.proofs.InPieces.{all_in}
 use Rattle.srm_crew.proofs.pieces.pieces_of.Given as goal
 
 abbrev pub invariant-loop-job : goal.invariant-loop-job

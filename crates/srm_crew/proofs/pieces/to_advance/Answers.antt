@@ -2,7 +2,7 @@ use Rattle.std.proofs.Common.{◌≡◌, [], refl, arith}
 use Rattle.std.proofs.lemmas.Grind.{common_steps}
 use Rattle.std.specs.Vec.Iter.{into_iter_items}
 use Rattle.srm_crew.specs.Pieces.{IsJobsOf}
-use Rattle.srm_crew.proofs.Zips.{zip_none, zip_more, zip_all}
+use Rattle.srm_interfaces.proofs.Zips.{zip_none, zip_more, zip_all}
 use Rattle.srm_crew.proofs.pieces.to_advance.Goals as goal
 
 pub loop-jobs-init : goal.loop-jobs-init

@@ -1,6 +1,6 @@
 use Rattle.std.specs.Vec.Iter.{into_iter_items}
 use Rattle.srm_crew.specs.Pieces.{IsJobsOf}
-use Rattle.srm_crew.proofs.Zips.{ZipSoFar}
+use Rattle.srm_interfaces.proofs.Zips.{ZipSoFar}
 use Rattle.srm_crew.proofs.pieces.to_advance.Given as goal
 
 abbrev pub invariant-loop-jobs : goal.invariant-loop-jobs

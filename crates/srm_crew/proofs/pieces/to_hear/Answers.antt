@@ -2,7 +2,7 @@ use Rattle.std.proofs.Common.{rules, ◌≡◌, refl}
 use Rattle.std.specs.Arc.{arc_value}
 use Rattle.srm_crew.specs.declared.piece.Piece.TheVariants.{Hearers}
 use Rattle.srm_crew.specs.Pieces.{AreHearersOf}
-use Rattle.srm_crew.proofs.Zips.{zip_more}
+use Rattle.srm_interfaces.proofs.Zips.{zip_more}
 use Rattle.srm_crew.proofs.pieces.to_hear.Goals as goal
 
 pub loop-groups-preserved : goal.loop-groups-preserved

@@ -1,6 +1,6 @@
 use Rattle.std.specs.Vec.Iter.{into_iter_items}
 use Rattle.srm_crew.specs.Pieces.{AreHearersOf}
-use Rattle.srm_crew.proofs.Zips.{ZipSoFar}
+use Rattle.srm_interfaces.proofs.Zips.{ZipSoFar}
 use Rattle.srm_crew.proofs.pieces.to_hear.Given as goal
 
 abbrev pub invariant-loop-groups : goal.invariant-loop-groups

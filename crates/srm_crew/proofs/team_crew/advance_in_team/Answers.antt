@@ -1,8 +1,9 @@
 use Rattle.std.proofs.Common.{length, All, sym, subst}
 use Rattle.srm_cell.specs.Jobs.{MayAdvance}
-use Rattle.srm_crew.specs.Crews.{AdvanceEach}
+use Rattle.srm_interfaces.specs.Crews.{AdvanceEach}
 use Rattle.srm_crew.proofs.Hearers.{jobs_may, jobs_advanced, jobs_gave}
-use Rattle.srm_crew.proofs.JobPieces.{all_each, pieces_advanced}
+use Rattle.srm_interfaces.proofs.InPieces.{all_each}
+use Rattle.srm_crew.proofs.JobPieces.{pieces_advanced}
 use Rattle.srm_crew.proofs.team_crew.advance_in_team.Goals as goal
 
 pub map-requires : goal.map-requires

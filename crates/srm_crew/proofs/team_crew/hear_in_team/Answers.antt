@@ -3,10 +3,10 @@ use Rattle.std.specs.Global.{Vec}
 use Rattle.srm_cell.specs.declared.cell.Cell.{Cell}
 use Rattle.srm_cell.specs.Setting.{traffic_of}
 use Rattle.srm_cell.specs.Hearing.{packets_in, AllMayHear}
-use Rattle.srm_crew.specs.Hearers.{GroupsHear}
+use Rattle.srm_interfaces.specs.Hearers.{GroupsHear}
 use Rattle.srm_crew.specs.Pieces.{HeardTogether}
 use Rattle.srm_crew.proofs.Hearers.{hearers_may, hearers_heard, hearers_gave, if_ok_then}
-use Rattle.srm_crew.proofs.JobPieces.{all_each}
+use Rattle.srm_interfaces.proofs.InPieces.{all_each}
 use Rattle.srm_crew.proofs.team_crew.hear_in_team.Goals as goal
 
 pub map-requires : goal.map-requires

@@ -3,7 +3,7 @@ use Rattle.std.specs.Global.{Vec}
 use Rattle.std.specs.Vec.Iter.{into_iter_items}
 use Rattle.srm_member.specs.declared.row.Row.{Row}
 use Rattle.srm_cell.specs.Crossings.{joined}
-use Rattle.srm_engine.specs.declared.sink.Stage.TheVariants.{Live}
+use Rattle.srm_interfaces.specs.declared.sink.Stage.TheVariants.{Live}
 use Rattle.srm_engine.specs.WindowEngines.{lists_in}
 use Rattle.srm_engine.proofs.handing.hand_each.Given as goal
 

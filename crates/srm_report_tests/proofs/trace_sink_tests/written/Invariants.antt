@@ -1,5 +1,5 @@
 use Rattle.std.proofs.Common.{◌<◌, ◌-◌, ◌^◌}
-use Rattle.srm_engine.specs.Sinks.{IsOpen}
+use Rattle.srm_interfaces.specs.Sinks.{IsOpen}
 use Rattle.srm_report.specs.ListingSinks.{stage_of, outlet_under}
 use Rattle.srm_report_tests.proofs.trace_sink_tests.written.Given as goal
 

@@ -3,7 +3,7 @@ use Rattle.std.specs.Global.{Vec}
 use Rattle.srm_cell.specs.declared.sent.Sent.{Sent}
 use Rattle.srm_cell.specs.Setting.{traffic_of}
 use Rattle.srm_cell.specs.Hearing.{packets_in}
-use Rattle.srm_crew.specs.Hearers.{GroupsMayHear}
+use Rattle.srm_interfaces.specs.Hearers.{GroupsMayHear}
 use Rattle.srm_crew.specs.Pieces.{MayWork}
 use Rattle.srm_crew.proofs.advancing.AdvancingWorkPieceWorked.work.Goals as goal
 

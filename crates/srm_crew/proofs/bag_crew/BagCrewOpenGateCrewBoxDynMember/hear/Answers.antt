@@ -1,7 +1,7 @@
 use Rattle.std.proofs.Common.{sym, subst}
 use Rattle.srm_cell.specs.Setting.{traffic_of}
 use Rattle.srm_cell.specs.Hearing.{packets_in}
-use Rattle.srm_crew.specs.Hearers.{GroupsMayHear, TellsHeard}
+use Rattle.srm_interfaces.specs.Hearers.{GroupsMayHear, TellsHeard}
 use Rattle.srm_crew.proofs.bag_crew.BagCrewOpenGateCrewBoxDynMember.hear.Goals as goal
 
 pub hear_groups-requires-clause-groups : goal.hear_groups-requires-clause-groups

@@ -3,7 +3,7 @@ use Rattle.srm_net.specs.Network.{Network}
 use Rattle.srm_scenario.specs.Plain.{PlainScenario}
 use Rattle.srm_cell.specs.Setting.{traffic_of}
 use Rattle.srm_cell.specs.Hearing.{packets_in}
-use Rattle.srm_crew.specs.Hearers.{GroupsMayHear}
+use Rattle.srm_interfaces.specs.Hearers.{GroupsMayHear}
 use Rattle.srm_crew.proofs.team_crew.TeamCrewCrew.hear.Goals as goal
 
 pub hear_groups-requires-clause-groups : goal.hear_groups-requires-clause-groups

@@ -1,6 +1,6 @@
 use Rattle.std.proofs.Common.{length, sym}
 use Rattle.srm_cell.specs.Setting.{traffic_of}
-use Rattle.srm_crew.specs.Crews.{AdvanceEach}
+use Rattle.srm_interfaces.specs.Crews.{AdvanceEach}
 use Rattle.srm_crew.proofs.JobPieces.{as_given}
 use Rattle.srm_crew.proofs.JobsSeen.{some_told}
 use Rattle.srm_crew.proofs.team_crew.TeamCrewCrew.map.Goals.{then-room-eq0, else-room-eq0}

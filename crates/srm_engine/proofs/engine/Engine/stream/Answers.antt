@@ -4,7 +4,7 @@ use Rattle.srm_member.specs.declared.row.Row.{Row}
 use Rattle.srm_cell.specs.Setting.{Setting, setting_of}
 use Rattle.srm_model.specs.World.{opening, IsReached}
 use Rattle.srm_engine.specs.Engines.{setting_in}
-use Rattle.srm_engine.specs.Sinks.{most_rows}
+use Rattle.srm_interfaces.specs.Sinks.{most_rows}
 use Rattle.srm_engine.specs.Streams.{TellsSteps, MayStop}
 use Rattle.srm_engine.proofs.StreamLemmas.{piece_more}
 use Rattle.srm_engine.proofs.Stepping.{opening_reached, opening_trace}

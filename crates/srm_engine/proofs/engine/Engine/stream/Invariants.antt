@@ -1,8 +1,8 @@
 use Rattle.std.proofs.Common.{◌≡◌, ◌+◌, ◌*◌, ◌^◌, ℕ, length}
-use Rattle.srm_engine.specs.declared.sink.Stage.TheVariants.{Live}
+use Rattle.srm_interfaces.specs.declared.sink.Stage.TheVariants.{Live}
 use Rattle.srm_model.specs.World.{World, IsReached}
 use Rattle.srm_engine.specs.Engines.{IsStillOf, IsOpened, Shows, setting_in}
-use Rattle.srm_engine.specs.Sinks.{HandsPieces}
+use Rattle.srm_interfaces.specs.Sinks.{HandsPieces}
 use Rattle.srm_engine.proofs.engine.Engine.stream.Given as goal
 
 -- the sink took the rows up to the world in which the engine is, and there is room for more

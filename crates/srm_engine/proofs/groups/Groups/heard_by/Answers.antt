@@ -7,8 +7,8 @@ use Rattle.srm_cell.specs.declared.sent.Sent.{Sent}
 use Rattle.srm_cell.specs.Setting.{setting_of, traffic_of}
 use Rattle.srm_cell.specs.Crossings.{joined, packets_of}
 use Rattle.srm_cell.specs.Hearing.{IsSent, packets_in}
-use Rattle.srm_crew.specs.Hearers.{GroupsMayHear, GroupsHear}
-use Rattle.srm_crew.proofs.JobPieces.{all_each}
+use Rattle.srm_interfaces.specs.Hearers.{GroupsMayHear, GroupsHear}
+use Rattle.srm_interfaces.proofs.InPieces.{all_each}
 use Rattle.srm_model.specs.WindowRuns.{each_hears}
 use Rattle.srm_model.proofs.WindowRows.{length-each_hears}
 use Rattle.srm_engine.specs.Groups.{AreCuts, AreGrouped, sizes, all_in}

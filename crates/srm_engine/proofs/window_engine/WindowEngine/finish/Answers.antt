@@ -1,6 +1,6 @@
 use Rattle.std.proofs.Common.{◌≡◌, ◌∙◌, ◌*◌, sym, ap, subst, length, arith}
 use Rattle.srm_cell.specs.Crossings.{crossings}
-use Rattle.srm_crew.proofs.Sums.{crossings_long}
+use Rattle.srm_interfaces.proofs.Sums.{crossings_long}
 use Rattle.srm_engine.specs.Seen.{AreCellsInOrder}
 use Rattle.srm_engine.specs.WindowEngines.{setting_by}
 use Rattle.srm_engine.proofs.ExitsKept.{all_end}

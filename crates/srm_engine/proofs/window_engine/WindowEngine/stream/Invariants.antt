@@ -1,5 +1,5 @@
 use Rattle.std.proofs.Common.{◌≡◌, ℕ, ◌-◌, List}
-use Rattle.srm_engine.specs.declared.sink.Stage.TheVariants.{Live}
+use Rattle.srm_interfaces.specs.declared.sink.Stage.TheVariants.{Live}
 use Rattle.srm_model.specs.World.{World}
 use Rattle.srm_engine.specs.Windowed.{calls_for}
 use Rattle.srm_engine.specs.WindowEngines.{IsUnderWay, BeginsNext, OpensAt, ComesTo, frame_of, rule_by}

@@ -7,8 +7,8 @@ ghost use Rattle.srm_scenario.specs.Plain.{PlainScenario, network_of};
 ghost use Rattle.srm_cell.specs.Setting.{traffic_of};
 ghost use Rattle.srm_cell.specs.Jobs.{PlainJob, MayAdvance};
 ghost use Rattle.srm_cell.specs.Hearing.{IsSent, packets_in};
-ghost use Rattle.srm_crew.specs.Crews.{AreJobs, Maps};
-ghost use Rattle.srm_crew.specs.Hearers.{GroupsMayHear, TellsHeard};
+ghost use Rattle.srm_interfaces.specs.Crews.{AreJobs, Maps};
+ghost use Rattle.srm_interfaces.specs.Hearers.{GroupsMayHear, TellsHeard};
 
 use crate::fault::CrewFault;
 use srm_cell::cell::Cell;

@@ -18,7 +18,7 @@ pub enum CrewFault {
 /// What a cell's refusal is to a crew: the refusal of the same name.
 impl From<CellFault> for CrewFault {
     ghost use Rattle.std.specs.Prelude.{◌≡◌};
-    ghost use Rattle.srm_crew.specs.Faults.{crew_fault_of};
+    ghost use Rattle.srm_interfaces.specs.Faults.{crew_fault_of};
 
     ghost from_gives = { λ fault told. told ≡ crew_fault_of fault };
 
@@ -34,7 +34,7 @@ impl From<CellFault> for CrewFault {
 /// What a full share is to a crew.
 impl From<ShareFull> for CrewFault {
     ghost use Rattle.std.specs.Prelude.{◌≡◌};
-    ghost use Rattle.srm_crew.specs.declared.fault.CrewFault.{CrewFault};
+    ghost use Rattle.srm_interfaces.specs.declared.fault.CrewFault.{CrewFault};
 
     ghost from_gives = { λ _ told. told ≡ CrewFault.ShareFull };
 

@@ -14,7 +14,7 @@ use Rattle.srm_cell.specs.Crossings.{joined, crossings, crossings_at, packets_of
 use Rattle.srm_cell.specs.Jobs.{OwnCell, PlainJob, IsDone, RanEach}
 use Rattle.srm_cell.proofs.CrossingLemmas.{crossings_add}
 use Rattle.srm_cell.proofs.RowPackets.{nothing_counted, numbers_are}
-use Rattle.srm_crew.specs.Crews.{counted_in, sum_at, rows_of, AreRowsOf, AreRowsOfSome}
+use Rattle.srm_interfaces.specs.Crews.{counted_in, sum_at, rows_of, AreRowsOf, AreRowsOfSome}
 use Rattle.srm_ledger.proofs.Keeps.{replicate_zero}
 
 -- ---- numbers

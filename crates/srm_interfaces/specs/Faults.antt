@@ -1,8 +1,8 @@
 -- What a cell's refusal is to a crew.
 use Rattle.srm_cell.specs.declared.fault.CellFault.{CellFault}
 use Rattle.srm_cell.specs.declared.fault.CellFault.TheVariants as cell
-use Rattle.srm_crew.specs.declared.fault.CrewFault.{CrewFault}
-use Rattle.srm_crew.specs.declared.fault.CrewFault.TheVariants as fault
+use Rattle.srm_interfaces.specs.declared.fault.CrewFault.{CrewFault}
+use Rattle.srm_interfaces.specs.declared.fault.CrewFault.TheVariants as fault
 
 -- the refusal of the same name
 abbrev pub crew_fault_of : CellFault → CrewFault

@@ -1,10 +1,10 @@
 -- Who takes the rows of a run as they come.
 use Rattle.std.specs.Prelude.{◌≡◌, ◌⊎◌, ◌≤◌, ℕ, List, [], ◌∷◌, length, All, IsPermutation, Result, Ok, Err, MatchResult}
 use Rattle.srm_member.specs.declared.row.Row.{Row}
-use Rattle.srm_engine.specs.declared.sink.SinkFault.{SinkFault}
-use Rattle.srm_engine.specs.declared.sink.SinkFault.TheVariants.{NoMemory, Stopped}
-use Rattle.srm_engine.specs.declared.sink.Stage.{Stage}
-use Rattle.srm_engine.specs.declared.sink.Stage.TheVariants.{Fresh, Live, Refused}
+use Rattle.srm_interfaces.specs.declared.sink.SinkFault.{SinkFault}
+use Rattle.srm_interfaces.specs.declared.sink.SinkFault.TheVariants.{NoMemory, Stopped}
+use Rattle.srm_interfaces.specs.declared.sink.Stage.{Stage}
+use Rattle.srm_interfaces.specs.declared.sink.Stage.TheVariants.{Fresh, Live, Refused}
 
 -- it may be asked to take rows
 abbrev pub IsOpen : Stage → Type 0

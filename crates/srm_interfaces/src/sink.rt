@@ -1,8 +1,8 @@
 //! Who takes the rows of a run as they come.
 ghost use Rattle.std.specs.Prelude.{◌≡◌, ◌<◌, ◌+◌, ◌-◌, ◌^◌, ◌∷◌, ◌++◌, [], ℕ, List, MatchResult, IsTrue};
 ghost use Rattle.srm_member.specs.declared.row.Row.{Row as OneRow};
-ghost use Rattle.srm_engine.specs.declared.sink.Stage.{Stage as AStage};
-ghost use Rattle.srm_engine.specs.Sinks.{IsOpen, stage_after, stops_in, IsInAnyOrder};
+ghost use Rattle.srm_interfaces.specs.declared.sink.Stage.{Stage as AStage};
+ghost use Rattle.srm_interfaces.specs.Sinks.{IsOpen, stage_after, stops_in, IsInAnyOrder};
 
 use srm_member::row::Row;
 use std::alloc::Global;
@@ -95,17 +95,4 @@ pub trait RowSink {
     ghost part_more: { (a b c : Self) (xs ys : List OneRow) → took a xs b → part b ys c → part a (xs ++ ys) c };
 
     ghost part_longer: { (a b : Self) (xs ys : List OneRow) → part a xs b → part a (xs ++ ys) b };
-}
-
-/// Hands a sink no rows: the call by which a run begins.
-pub(crate) fn hand_none<S: RowSink>(alloc: Global, sink: &mut S) -> Result<(), SinkFault>
-    requires open { IsOpen (S.stage sink.old) }
-    requires failures { S.failures sink.old < 2 ^ 64 - 1 }
-    ensures same { S.same sink.old sink.new }
-    ensures stage { S.stage sink.new ≡ stage_after result }
-    ensures failures { S.failures sink.new ≡ S.failures sink.old + stops_in result }
-    ensures handed { S.handed sink.old ([] ∷ []) sink.new }
-    ensures rows { MatchResult result (λ _. S.took sink.old [] sink.new) (λ _. S.part sink.old [] sink.new) }
-{
-    sink.rows(alloc, Vec::new(alloc))
 }

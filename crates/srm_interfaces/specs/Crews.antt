@@ -16,8 +16,8 @@ use Rattle.srm_cell.specs.Cells.{PlainCell, StepOutcome, Full, Spent, Stepped}
 use Rattle.srm_cell.specs.OwnRuns.{IsOwnRun}
 use Rattle.srm_cell.specs.Crossings.{joined, crossings}
 use Rattle.srm_cell.specs.Jobs.{OwnCell, PlainJob, FirstEnds, IsJob, IsDone}
-use Rattle.srm_crew.specs.declared.fault.CrewFault.{CrewFault}
-use Rattle.srm_crew.specs.declared.fault.CrewFault.TheVariants as fault
+use Rattle.srm_interfaces.specs.declared.fault.CrewFault.{CrewFault}
+use Rattle.srm_interfaces.specs.declared.fault.CrewFault.TheVariants as fault
 
 -- ---- results
 

@@ -1,0 +1,3 @@
+pub mod InPieces
+pub mod Sums
+pub mod Zips

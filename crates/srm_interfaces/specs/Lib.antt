@@ -1,0 +1,4 @@
+pub mod Faults
+pub mod Crews
+pub mod Hearers
+pub mod Sinks

@@ -1,0 +1,6 @@
+//! What a run calls: a crew, which advances its jobs, and a sink, which takes its rows.
+#![tactic(auto)]
+
+pub mod crew;
+pub mod fault;
+pub mod sink;
