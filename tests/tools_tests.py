@@ -122,14 +122,19 @@ class Gate(unittest.TestCase):
         self.assertEqual([it.split() for it in lines[2:4]], rows)
         self.assertEqual(lines[-1], "all of it took 1:10")
 
-    def test_edits_are_begun_once_their_crate_is_proved_and_the_counts_are_read(self) -> None:
-        said = ["rt: low proved\n", "rt: low: its tests are proved\n", "rt: middle proved before\n", "rt: top NOT PROVED\n"]
+    def test_each_proof_is_told_and_the_counts_are_read(self) -> None:
+        said = ["rt: low proved\n", "rt: low: its tests are proved\n", "rt: middle is kept: since then\n", "rt: top NOT PROVED\n"]
         log = mock.Mock(spec=gate.Log)
         begun: list[str] = []
         lines = [*said, "2 passed, 1 failed\n"]
         counts = gate.proofs(mock.Mock(spec=watch.Watch, lines=lambda: iter(lines)), log, begun.append)
         self.assertEqual((counts, begun), ((2, 1), ["low", "middle"]))
         self.assertEqual([call.args[0] for call in log.say.call_args_list], said)
+
+    def test_edits_can_be_tried_once_the_crates_below_are_proved(self) -> None:
+        names = ["low", "long", "top"]
+        for proved, want in (("", ["low"]), ("low", ["low", "long"]), ("low long", ["low", "long"]), ("low long short", names)):
+            self.assertEqual(gate.ready(DIAMOND, names, set(proved.split())), want)
 
     def test_the_copy_has_no_edits_and_nothing_built_and_each_proof(self) -> None:
         kept = ["crates/low/proofs/pair/out/Answers.antt", "crates/low/src/lib.rt", "docs/out/page.md"]

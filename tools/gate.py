@@ -4,11 +4,12 @@
 usage: tools/gate.py [-- COMMAND ..]
 
 Runs `rt ci` on a copy of the repository that has no must-fail edits, so every proof, each test and each program from nothing.
-Once a crate is proved there, its edits are tried beside the proofs of others, many in one check (tools/must_fail.py), with less
-right to the processors. Hands on all that `rt ci` prints, and keeps it in out/gate.log too. Then come a line for each edit, the
-table of times, and each line that tells what failed once more. Where nothing failed, the programs that `rt ci` built are copied
-to crates/NAME/out/, and the command is run, which may use them. The last line is 'N passed, M failed', of crates and edits, and a
-command that fails. Ends with the first status that is not 0. The environment's RT is the command to call in place of `rt`.
+Once the crates below a crate are proved there, its edits are tried beside the proofs, many in one check (tools/must_fail.py),
+with less right to the processors. Hands on all that `rt ci` prints, and keeps it in out/gate.log too. Then come a line for
+each edit, the table of times, and each line that tells what failed once more. Where nothing failed, the programs that `rt ci`
+built are copied to crates/NAME/out/, and the command is run, which may use them. The last line is 'N passed, M failed', of
+crates and edits, and a command that fails. Ends with the first status that is not 0. The environment's RT is the command to
+call in place of `rt`.
 
 `rt ci` begins a proof only where the most memory that it may take is free, so that a long one may wait for others, and
 processors stand idle. Where 5 GB are free for each processor, RT_JOBS is set to the number of processors, if the environment
@@ -31,12 +32,12 @@ from typing import Any
 
 import must_fail
 import watch
-from crates import crates_in
+from crates import Crate, below, crates_in
 
 TOP = pathlib.Path(__file__).resolve().parent.parent
 RT = os.environ.get("RT", "rt").split()
 REFUSALS = 20
-PROVED = re.compile(r"rt: (\w+) proved\b.*\n?")
+PROVED = re.compile(r"rt: (\w+) (?:proved|is kept)\b.*\n?")
 COUNTS = re.compile(r"(\d+) passed, (\d+) failed\n?")
 MOST_OF_A_PROOF = 5_000_000_000
 HEAD = "how long the prover worked on each crate, its tests and its must-fail edits, beside other crates (minutes:seconds)"
@@ -137,6 +138,11 @@ def proofs(running: watch.Watch, log: Log, begin: Callable[[str], None]) -> tupl
     return counts
 
 
+def ready(crates: Mapping[str, Crate], names: Iterable[str], proved: set[str]) -> list[str]:
+    """Those of the names whose crates below are all proved: their edits can be tried."""
+    return [it for it in names if proved.issuperset(below(crates, it))]
+
+
 def gate(tree: pathlib.Path, log: Log) -> tuple[int, int]:
     """Proves the copy of the repository and tries the edits, and gives how many crates and edits passed and failed."""
     began = time.monotonic()
@@ -144,20 +150,23 @@ def gate(tree: pathlib.Path, log: Log) -> tuple[int, int]:
     environment = side_by_side(os.environ, processors, free_memory())
     streams: dict[str, Any] = {"stdin": subprocess.DEVNULL, "stdout": subprocess.PIPE, "stderr": subprocess.STDOUT}
     running = watch.Watch([*RT, "ci"], tree, env=environment, **streams)
-    left = must_fail.with_edits(crates_in(TOP))
+    crates = crates_in(TOP)
+    left = must_fail.with_edits(crates)
+    proved: set[str] = set()
     begun: dict[str, list[Future[must_fail.Tried]]] = {}
     at_once = max(1, processors - 1)
     with ThreadPoolExecutor(at_once) as pool:
 
-        def begin(crate: str) -> None:
-            if crate in left and crate not in begun:
-                parts = at_once if len(begun) + 1 == len(left) else 1
-                begun[crate] = [pool.submit(must_fail.try_crate, tree, crate, part, parts) for part in range(parts)]
+        def begin(*those: str) -> None:
+            proved.update(those)
+            for it in ready(crates, left, proved):
+                if it not in begun:
+                    parts = at_once if len(begun) + 1 == len(left) else 1
+                    begun[it] = [pool.submit(must_fail.try_crate, tree, it, part, parts) for part in range(parts)]
 
+        begin()
         passed, failed = proofs(running, log, begin)
         status = running.wait()
-        for crate in [] if status else left:
-            begin(crate)
         tried = [must_fail.of_parts([it.result() for it in begun[crate]]) for crate in left if crate in begun]
     for line in [line for it in tried for line in it.lines()]:
         log.say(line)

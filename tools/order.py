@@ -15,7 +15,7 @@ from crates import Crate, below
 
 PARTS = ("src", "specs", "proofs")
 # of the lines of the longest chain of crates: a crate whose own longest chain has so many fewer is not waited for
-SPARE = 0.1
+SPARE = 0.15
 
 
 class Order:

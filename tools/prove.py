@@ -9,8 +9,8 @@ goes to logs in out/; the lines for people go to standard error. Ends with statu
 shows its errors.
 
 N crates are proved at a time; without --jobs as many as there are processors, with 4 GB of free memory for each. With
---program the crates in the longest chain below the program have a prover for each processor, and the others give way to
-them, since the program is proved when that chain is. The environment's RT is the command to call in place of `rt`.
+--program each crate has a prover for each processor, and those outside the longest chain below the program give way to those
+in it, since the program is proved when that chain is. The environment's RT is the command to call in place of `rt`.
 """
 import argparse
 import functools
@@ -151,12 +151,10 @@ def prove(folder: pathlib.Path, at_once: int, log: pathlib.Path) -> bool:
 
 def prove_library(order: Order, libraries: list[str], name: str) -> bool:
     """Proves and builds a library of the program, and tells whether it is proved."""
-    is_waited_for = order.is_waited_for(name)
-    provers = PROCESSORS if is_waited_for else max(1, PROCESSORS // 2)
-    give_way = [] if is_waited_for else ["nice", "-n", "19"]
+    give_way = [] if order.is_waited_for(name) else ["nice", "-n", "19"]
     log = TOP / "out" / f"build-{name}.log"
     with tree_of(TOP, name, libraries) as folder:
-        status, report = follow([*give_way, *RT, "lib", "--jobs", str(provers)], folder, log)
+        status, report = follow([*give_way, *RT, "lib", "--jobs", str(PROCESSORS)], folder, log)
     if status:
         say(f"NOT BUILT: {name}: `rt lib` ended with status {status}")
         show_errors(log, report.errors([None, name]))
