@@ -34,7 +34,7 @@ MEMORY_OF_A_CRATE = 4_000_000_000
 ERRORS_SHOWN = 20
 
 FIRST_BUILD = """\
-Nothing is proved yet. The first build proves the program: some 27 minutes on 4 processors.
+Nothing is proved yet. The first build proves the program: some 30 minutes on 4 processors.
 `make try SCENARIO=..` runs the same program unproved, the first time in one to four minutes."""
 
 # Lines that say what is wrong: an error, a note on a place or a goal, a function without its proof, a complaint of rt itself.
