@@ -27,10 +27,10 @@ OF_MEMORY := $(addprefix test-memory-,of-tests of-examples explained of-more)
 .PHONY: $(OF_PROGRAM) $(OF_MEMORY)
 .PHONY: build run try check test test-program test-memory fuzz bench install fmt clean help
 
-build: $(PROGRAM) ## proves and builds the program, if a source is newer than it (the first time some 30 minutes on 4 processors)
+build: $(PROGRAM) ## proves and builds the program, if a source is newer than it (the first time less than 20 minutes on 4 processors)
 
 $(PROGRAM): $(SOURCES)
-	@tools/prove.py --program crates/srm_lab
+	@tools/build_program.py crates/srm_lab
 	@touch $@
 
 run: $(PROGRAM) ## prints the trace of a scenario, or what ARGUMENTS ask for: make run SCENARIO=examples/two-nodes.toml ARGUMENTS="--show links"

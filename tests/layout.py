@@ -8,6 +8,7 @@ Lays out a copy of the crates, and ends with status 1 where a file changed. The 
 import os
 import pathlib
 import re
+import shutil
 import subprocess
 import sys
 import tempfile
@@ -17,10 +18,10 @@ sys.dont_write_bytecode = True
 TOP = pathlib.Path(__file__).resolve().parent.parent
 sys.path.insert(0, str(TOP / "tools"))
 
-import order
 from program import side_by_side
 
 RT = os.environ.get("RT", "rt").split()
+PARTS = ("src", "specs", "proofs")
 FORMATTED = re.compile(r"^rt: formatted (\S+)$", re.M)
 
 
@@ -30,11 +31,20 @@ def changed(crate: pathlib.Path) -> list[str]:
     return [f"crates/{crate.name}/{it}" for it in FORMATTED.findall(ran.stdout)]
 
 
+def copy_sources(tree: pathlib.Path) -> None:
+    """Copies to a folder what `rt fmt` reads of the crates."""
+    for name in ("crates.txt", "HANDLES"):
+        shutil.copy(TOP / name, tree)
+    for folder in (it / part for it in (TOP / "crates").iterdir() for part in PARTS):
+        if folder.is_dir():
+            shutil.copytree(folder, tree / folder.relative_to(TOP))
+
+
 def faults() -> Iterator[str]:
     """The files that are not in the layout."""
     with tempfile.TemporaryDirectory(prefix="srm-layout-") as folder:
         tree = pathlib.Path(folder)
-        order.copy_sources(TOP, tree)
+        copy_sources(tree)
         for files in side_by_side(changed, sorted((tree / "crates").iterdir())):
             yield from files
 

@@ -16,6 +16,7 @@ TOP = pathlib.Path(__file__).resolve().parent.parent
 sys.path[:0] = [str(TOP / "tools"), str(TOP / "tests")]
 
 import architecture
+import build_program
 import calls
 import crates
 import edits
@@ -316,6 +317,11 @@ class Ordered(unittest.TestCase):
     def test_what_stands_in_the_longest_chain_is_waited_for(self) -> None:
         self.assertEqual([it for it in DIAMOND if it in self.order.crates and self.order.is_waited_for(it)], ["low", "long"])
 
+    def test_a_crate_gives_way_the_more_the_shorter_its_chain_is(self) -> None:
+        self.assertEqual([self.order.niceness(it) for it in ("low", "long", "short")], [0, 0, 7])
+        near = order.Order(DIAMOND, "top", {"low": 10, "long": 100, "short": 76, "top": 14, "beside": 0})
+        self.assertEqual((near.niceness("short"), near.is_waited_for("short")), (2, False))
+
     def test_a_crate_is_ready_once_those_below_it_are_proved_and_the_longest_chain_comes_first(self) -> None:
         self.assertEqual(self.order.ready(set(), set()), ["low"])
         self.assertEqual(self.order.ready({"low"}, set()), [])
@@ -351,22 +357,52 @@ class Ordered(unittest.TestCase):
         self.assertFalse(self.order.follow(4, proves))
         self.assertEqual(begun, ["low"])
 
-    def test_a_tree_has_all_sources_and_the_libraries_below_and_what_was_built_in_it_stays(self) -> None:
-        with tempfile.TemporaryDirectory() as folder:
-            top = pathlib.Path(folder)
-            texts = ["crates.txt", "HANDLES", "crates/low/src/lib.rt", "crates/long/proofs/out/Answers.antt"]
-            built = ["crates/low/out/rlib/low.rlib/format", "crates/long/out/incremental/kept"]
-            for name in (*texts, *built, "crates/low/out/stdout", "out/build.log"):
-                (top / name).parent.mkdir(parents=True, exist_ok=True)
-                (top / name).write_text(name)
-            with order.tree_of(top, "long", ["low"]) as inside:
-                tree = inside.parent.parent
-                self.assertEqual(inside, tree / "crates/long")
-                files = [str(it.relative_to(tree)) for it in tree.rglob("*") if it.is_file()]
-                self.assertEqual(sorted(files), sorted(texts + built))
-                (inside / "out/rlib").mkdir()
-            self.assertFalse(tree.exists())
-            self.assertEqual(sorted(it.name for it in (top / "crates/long/out").iterdir()), ["incremental", "rlib"])
+
+class Built(unittest.TestCase):
+    """The crates of DIAMOND, each with a file of code, that are proved by a prover that says yes."""
+
+    def setUp(self) -> None:
+        self.enterContext(mock.patch.object(build_program, "say"))
+        self.top = pathlib.Path(self.enterContext(tempfile.TemporaryDirectory()))
+        (self.top / "crates.txt").write_text("".join(f"{name}: {' '.join(own)}\n" for name, own in USES.items()))
+        for name in USES:
+            self.write(f"crates/{name}/src/lib.rt", "pub fn one() {}\n")
+        self.enterContext(mock.patch.object(build_program, "TOP", self.top))
+        self.enterContext(mock.patch.object(build_program, "KEPT", self.top / "out/program"))
+
+    def write(self, path: str, text: str) -> None:
+        (self.top / path).parent.mkdir(parents=True, exist_ok=True)
+        (self.top / path).write_text(text)
+
+    def proved(self, refused: str = "") -> tuple[bool, list[str]]:
+        """Whether all is proved by a prover that refuses one crate, and the crates that it was given."""
+        given = []
+
+        def run(command: list[str], cwd: pathlib.Path, **_: object) -> int:
+            given.append(cwd.name)
+            if command[-2] == "-o" and cwd.name != refused:
+                pathlib.Path(command[-1]).write_text(cwd.name)
+            return int(cwd.name == refused)
+
+        with mock.patch.object(build_program.subprocess, "call", run):
+            return build_program.build("top", 2), sorted(given)
+
+    def test_each_crate_is_proved_once_and_the_program_is_linked(self) -> None:
+        self.assertEqual(self.proved(), (True, ["long", "low", "short", "top", "top"]))
+
+    def test_what_changed_and_what_stands_on_it_is_proved_again(self) -> None:
+        self.proved()
+        self.assertEqual(self.proved(), (True, ["top", "top"]))
+        self.write("crates/short/proofs/one/Answers.antt", "one = two\n")
+        self.assertEqual(self.proved(), (True, ["short", "top", "top"]))
+        self.write("crates/low/src/lib.rt", "pub fn two() {}\n")
+        self.assertEqual(self.proved(), (True, ["long", "low", "short", "top", "top"]))
+
+    def test_a_crate_that_is_refused_is_tried_again(self) -> None:
+        with mock.patch.object(build_program, "show_errors") as shown:
+            self.assertEqual(self.proved(refused="low"), (False, ["low"]))
+        self.assertEqual(shown.call_count, 1)
+        self.assertEqual(self.proved(), (True, ["long", "low", "short", "top", "top"]))
 
 
 class Parts(unittest.TestCase):

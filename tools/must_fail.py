@@ -15,6 +15,7 @@ for each edit, and how many checks and minutes each crate took. Ends with status
 tried. The environment's RT is the command to call in place of `rt`.
 """
 import argparse
+import functools
 import os
 import pathlib
 import re
@@ -27,12 +28,12 @@ from collections.abc import Iterable, Mapping, Sequence
 from concurrent.futures import ThreadPoolExecutor
 from typing import Any, NamedTuple
 
+import prover
 import watch
 from crates import below, crates_in
 from edits import Edit, Function, edits_of
 
 TOP = pathlib.Path(__file__).resolve().parent.parent
-RT = os.environ.get("RT", "rt").split()
 PARTS = ("src", "specs", "proofs")
 # what a check says of a function that is not proved, and of one that calls such a one
 VERDICT = re.compile(r"fn (\w+)::(\S+): (not proved|no proof: .*|could not tell.*)")
@@ -54,12 +55,6 @@ def with_edits(crates: Iterable[str]) -> list[str]:
     return [it for it in crates if edits_of(TOP / "crates" / it)]
 
 
-def kit() -> pathlib.Path:
-    """The folder of the toolchain."""
-    page = subprocess.run([*RT, "doc"], capture_output=True, text=True, check=True).stdout.strip()
-    return pathlib.Path(page).parent
-
-
 def rlib(tree: pathlib.Path, name: str) -> pathlib.Path:
     """Where the proved library of a crate stands."""
     return tree / "crates" / name / "out" / "rlib" / f"{name}.rlib"
@@ -67,16 +62,8 @@ def rlib(tree: pathlib.Path, name: str) -> pathlib.Path:
 
 def command_of(tree: pathlib.Path, name: str) -> list[str]:
     """The command that checks the crate of the folder that it runs in, and gives way to proofs that run beside it."""
-    at, crates = kit(), crates_in(TOP)
-    crate = crates[name]
-    libraries = {it: at / "rlibs" / f"{it}.rlib" for it in crate.kit} | {it: rlib(tree, it) for it in crate.own}
-    folders = [at / "rlibs", *[rlib(tree, it).parent for it in below(crates, name)]]
-    logic = ["--antt-project", at / "rattle/logic/antt-project.json", "--logic-built", at / "logic_built"]
-    words = ["nice", "-n", "19", at / "bin/rattle", "check", "--crate-name", name, "src/lib.rt"]
-    words += [*logic, "--links", f"{name}=", "--jobs", "1"]
-    words += [word for it, path in libraries.items() for word in ("--extern", f"{it}={path}")]
-    words += [word for it in folders for word in ("-L", f"dependency={it}")]
-    return [str(it) for it in words]
+    checks = prover.call("check", crates_in(TOP), name, "src/lib.rt", functools.partial(rlib, tree))
+    return ["nice", "-n", "19", *checks, "--jobs", "1"]
 
 
 class Place(NamedTuple):

@@ -1,21 +1,13 @@
-"""In what order the crates below a program are proved side by side, and the trees of sources in which each is proved.
-
-Two calls of `rt lib` in one checkout wait for each other, since each locks the folders of all crates below its own. So a crate is
-proved in a tree of its own: a copy of all sources, with links to the libraries below it. What was built is moved back.
-"""
-import contextlib
-import os
-import pathlib
-import shutil
-import tempfile
-from collections.abc import Callable, Iterator, Mapping
+"""In what order the crates below a program are proved side by side, and how much of the processors each is given."""
+from collections.abc import Callable, Mapping
 from concurrent.futures import FIRST_COMPLETED, Future, ThreadPoolExecutor, wait
 
 from crates import Crate, below
 
-PARTS = ("src", "specs", "proofs")
-# of the lines of the longest chain of crates: a crate whose own longest chain has so many fewer is not waited for
+# of the lines of the longest chain of crates: a crate whose own longest chain has so few fewer stands in it
 SPARE = 0.15
+# how much a crate would give way whose chain had none of those lines
+GIVES_WAY = 10
 
 
 class Order:
@@ -31,12 +23,15 @@ class Order:
         for name in reversed(names):
             users = [self.upward[it] for it in names if name in crates[it].own]
             self.upward[name] = lines[name] + max(users, default=0)
-        self.longest = downward[program]
-        self.through = {name: downward[name] + self.upward[name] - lines[name] for name in names}
+        self.spare = {it: 1 - (downward[it] + self.upward[it] - lines[it]) / downward[program] for it in names}
 
     def is_waited_for(self, name: str) -> bool:
         """Whether the program is proved later if this crate is: it stands in a chain that is nearly as long as the longest."""
-        return self.through[name] >= (1 - SPARE) * self.longest
+        return self.spare[name] < SPARE
+
+    def niceness(self, name: str) -> int:
+        """How much the proof of a crate gives way to others: the more, the shorter the longest chain through it."""
+        return 0 if self.is_waited_for(name) else round(GIVES_WAY * self.spare[name])
 
     def ready(self, begun: set[str], proved: set[str]) -> list[str]:
         """The crates that can be begun, those first with the longest chain above them."""
@@ -58,35 +53,3 @@ class Order:
                     return False
                 proved.update(running.pop(it) for it in ended)
         return True
-
-
-def lines_of(top: pathlib.Path, name: str) -> int:
-    """How many lines of code a crate has."""
-    return sum(it.read_bytes().count(b"\n") for it in (top / "crates" / name / "src").rglob("*.rt"))
-
-
-def copy_sources(top: pathlib.Path, tree: pathlib.Path) -> None:
-    """Copies what a proof reads of the repository's crates."""
-    for name in ("crates.txt", "HANDLES"):
-        shutil.copy(top / name, tree)
-    for crate in (top / "crates").iterdir():
-        for part in PARTS:
-            if (crate / part).is_dir():
-                shutil.copytree(crate / part, tree / "crates" / crate.name / part)
-
-
-@contextlib.contextmanager
-def tree_of(top: pathlib.Path, name: str, libraries: list[str]) -> Iterator[pathlib.Path]:
-    """The folder of a crate in a tree of its own, which goes again. What was built of the crate is there in it and stays."""
-    with tempfile.TemporaryDirectory(prefix=f"{name}-", dir=top / "out") as folder:
-        tree = pathlib.Path(folder)
-        copy_sources(top, tree)
-        for it in libraries:
-            shutil.copytree(top / "crates" / it / "out/rlib", tree / "crates" / it / "out/rlib", copy_function=os.link)
-        kept, own = top / "crates" / name / "out", tree / "crates" / name / "out"
-        kept.mkdir(exist_ok=True)
-        kept.rename(own)
-        try:
-            yield own.parent
-        finally:
-            own.rename(kept)

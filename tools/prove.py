@@ -1,41 +1,31 @@
 #!/usr/bin/env python3
 """Proves crates side by side, and tells of each crate in one line how long its proof took.
 
-usage: tools/prove.py [--program] [--jobs N] FOLDER
+usage: tools/prove.py [--jobs N] FOLDER
 
-Proves each crate in FOLDER and below it, and each crate that these stand on, over what earlier runs proved. With
---program FOLDER is the crate of a program: what it stands on is proved, and it is built. Everything that the prover says
-goes to logs in out/; the lines for people go to standard error. Ends with status 1 where a crate is not proved, and then
-shows its errors.
+Proves each crate in FOLDER and below it, and each crate that these stand on, over what earlier runs proved. Everything that
+the prover says goes to a log in out/; the lines for people go to standard error. Ends with status 1 where a crate is not
+proved, and then shows its errors.
 
-N crates are proved at a time; without --jobs as many as there are processors, with 4 GB of free memory for each. With
---program each crate has a prover for each processor, and those outside the longest chain below the program give way to those
-in it, since the program is proved when that chain is. The environment's RT is the command to call in place of `rt`.
+N crates are proved at a time; without --jobs as many as there are processors, with 4 GB of free memory for each. The
+environment's RT is the command to call in place of `rt`.
 """
 import argparse
-import functools
 import os
 import pathlib
 import re
 import subprocess
 import sys
-import time
 from collections.abc import Iterable
 from typing import Any
 
+import prover
 import watch
-from crates import below, crates_in
-from order import Order, lines_of, tree_of
 
 TOP = pathlib.Path(__file__).resolve().parent.parent
-RT = os.environ.get("RT", "rt").split()
 PROCESSORS = len(os.sched_getaffinity(0))
 MEMORY_OF_A_CRATE = 4_000_000_000
 ERRORS_SHOWN = 20
-
-FIRST_BUILD = """\
-Nothing is proved yet. The first build proves the program: some 30 minutes on 4 processors.
-`make try SCENARIO=..` runs the same program unproved, the first time in one to four minutes."""
 
 # Lines that say what is wrong: an error, a note on a place or a goal, a function without its proof, a complaint of rt itself.
 ERROR = re.compile(
@@ -51,28 +41,29 @@ def say(text: str) -> None:
     print(f"{ERASE}{text}", file=sys.stderr, flush=True)
 
 
-# The crates that each command proves just now, by the folder that it was started in.
-PROVING: dict[pathlib.Path, set[str]] = {}
+def show(crates: Iterable[str]) -> None:
+    """Shows on a terminal which crates are proved just now."""
+    names = sorted(crates)
+    if ERASE and names:
+        print(f"{ERASE}proving {', '.join(names)} ..", end="", file=sys.stderr, flush=True)
 
 
-def show(folder: pathlib.Path, sights: Iterable[watch.Sight]) -> None:
-    PROVING[folder] = {it.crate for it in sights}
-    crates = set().union(*PROVING.copy().values())
-    if ERASE and crates:
-        print(f"{ERASE}proving {', '.join(sorted(crates))} ..", end="", file=sys.stderr, flush=True)
-
-
-def jobs() -> int:
-    """How many crates are proved at a time: one a processor, as far as memory goes."""
+def room_for(most: int) -> int:
+    """How many crates can be proved at a time, of so many at most, as far as memory goes."""
     free = 0
     for line in pathlib.Path("/proc/meminfo").read_text().splitlines():
         if line.startswith("MemAvailable:"):
             free = 1024 * int(line.split()[1])
-    return max(1, min(PROCESSORS, free // MEMORY_OF_A_CRATE))
+    return max(1, min(most, free // MEMORY_OF_A_CRATE))
 
 
 # Lines that begin what rt says of a crate: in `rt all check`, which says it once the crate has ended, and in `rt run`.
 SECTION = re.compile(r"(?:== |rt: chose --jobs \d+ for |crate (?=\w+: ))(\w+)(?:: modules .*)?\n")
+
+
+def errors_in(lines: Iterable[str]) -> list[str]:
+    """Those of the prover's lines that say what is wrong."""
+    return [line for line in lines if ERROR.search(line)]
 
 
 class Report:
@@ -111,7 +102,7 @@ class Report:
     def errors(self, crates: Iterable[str | None]) -> list[str]:
         """What is wrong, in the sections of these crates, or before the first section."""
         sections = [name for name in crates if name in self.lines] or [None]
-        return [line for name in sections for line in self.lines[name] if ERROR.search(line)]
+        return errors_in(line for name in sections for line in self.lines[name])
 
 
 def show_errors(log: pathlib.Path, lines: list[str]) -> None:
@@ -124,21 +115,19 @@ def show_errors(log: pathlib.Path, lines: list[str]) -> None:
 def follow(command: list[str], folder: pathlib.Path, log: pathlib.Path, given: Any = subprocess.DEVNULL) -> tuple[int, Report]:
     """Runs a command of rt's over crates, says the line of each, and gives the command's status and the report."""
     streams: dict[str, Any] = {"stdin": given, "stdout": subprocess.PIPE, "stderr": subprocess.STDOUT}
-    running = watch.Watch(command, folder, functools.partial(show, folder), **streams)
+    running = watch.Watch(command, folder, lambda sights: show({it.crate for it in sights}), **streams)
     report = Report(running)
     with open(log, "w", encoding="utf-8") as kept:
         for line in running.lines():
             kept.write(line)
             kept.flush()
             report.read(line)
-    status = running.wait()
-    PROVING.pop(folder, None)
-    return status, report
+    return running.wait(), report
 
 
 def prove(folder: pathlib.Path, at_once: int, log: pathlib.Path) -> bool:
     """Proves the crates of a folder and those that they stand on, and tells whether all are proved."""
-    status, report = follow([*RT, "all", "check", "--jobs", str(at_once)], folder, log)
+    status, report = follow([*prover.RT, "all", "check", "--jobs", str(at_once)], folder, log)
     if status == 0:
         return True
     failed, left = report.named("failed"), report.named("not run")
@@ -149,50 +138,15 @@ def prove(folder: pathlib.Path, at_once: int, log: pathlib.Path) -> bool:
     return False
 
 
-def prove_library(order: Order, libraries: list[str], name: str) -> bool:
-    """Proves and builds a library of the program, and tells whether it is proved."""
-    give_way = [] if order.is_waited_for(name) else ["nice", "-n", "19"]
-    log = TOP / "out" / f"build-{name}.log"
-    with tree_of(TOP, name, libraries) as folder:
-        status, report = follow([*give_way, *RT, "lib", "--jobs", str(PROCESSORS)], folder, log)
-    if status:
-        say(f"NOT BUILT: {name}: `rt lib` ended with status {status}")
-        show_errors(log, report.errors([None, name]))
-    return status == 0
-
-
-def build(folder: pathlib.Path, at_once: int, log: pathlib.Path) -> bool:
-    """Proves and builds the program of a folder, which is run once on the folder's own file of standard input."""
-    began = time.monotonic()
-    crates = crates_in(TOP)
-    order = Order(crates, folder.name, {it: lines_of(TOP, it) for it in crates})
-    if not order.follow(at_once, lambda it: prove_library(order, below(crates, it), it)):
-        return False
-    given = folder / "stdin"
-    with open(given if given.exists() else os.devnull, "rb") as text:
-        status, report = follow([*RT, "run"], folder, log, given=text)
-    if status == 0:
-        say(f"{folder.name:14} built in {watch.clock(time.monotonic() - began)}: {os.path.relpath(folder)}/out/{folder.name}")
-        return True
-    say(f"NOT BUILT: {folder.name}: `rt run` ended with status {status}, at {report.crate or 'its beginning'}")
-    show_errors(log, report.errors([report.crate]))
-    return False
-
-
 def main() -> None:
     parser = argparse.ArgumentParser(description=__doc__, formatter_class=argparse.RawDescriptionHelpFormatter)
     parser.add_argument("folder", type=pathlib.Path)
-    parser.add_argument("--program", action="store_true")
-    parser.add_argument("--jobs", type=int, default=jobs())
+    parser.add_argument("--jobs", type=int, default=room_for(PROCESSORS))
     options = parser.parse_args()
-    folder = options.folder.resolve()
-    log = TOP / "out" / ("build.log" if options.program else "check.log")
+    log = TOP / "out/check.log"
     log.parent.mkdir(exist_ok=True)
-    if options.program and not any(TOP.glob("crates/*/out/rlib/stamp")):
-        say(FIRST_BUILD)
     say(f"Proving, {options.jobs} crates at a time; what the prover says goes to {os.path.relpath(log.parent)}/.")
-    done = build(folder, options.jobs, log) if options.program else prove(folder, options.jobs, log)
-    sys.exit(0 if done else 1)
+    sys.exit(0 if prove(options.folder.resolve(), options.jobs, log) else 1)
 
 
 if __name__ == "__main__":
