@@ -137,6 +137,33 @@ class Gate(unittest.TestCase):
         for proved, want in (("", ["low"]), ("low", ["low", "long"]), ("low long", ["low", "long"]), ("low long short", names)):
             self.assertEqual(gate.ready(DIAMOND, names, set(proved.split())), want)
 
+    def test_edits_have_one_processor_fewer_until_the_proofs_have_ended(self) -> None:
+        both, have_ended, begun = threading.Barrier(2, timeout=60), threading.Event(), threading.Semaphore(0)
+
+        def wait() -> int:
+            self.assertEqual([begun.acquire(timeout=60), begun.acquire(timeout=0.2)], [True, False])
+            have_ended.set()
+            return 0
+
+        def try_crate(_: pathlib.Path, name: str, *parts: int) -> must_fail.Tried:
+            begun.release()
+            self.assertEqual((parts, have_ended.wait(60), both.wait() >= 0), ((0, 1), True, True))
+            return must_fail.Tried(name, {"a": (True, "refused")}, 1, 1.0)
+
+        said = [f"rt: {it} proved\n" for it in ("low", "short", "long", "top")]
+        proofs = mock.Mock(spec=watch.Watch, spent={}, lines=lambda: iter([*said, "4 passed, 0 failed\n"]), wait=wait)
+        proofs.seconds = lambda *_: 0.0
+        for where, name, what in (
+            (gate.os, "sched_getaffinity", lambda _: {0, 1}),
+            (gate.watch, "Watch", lambda *_, **__: proofs),
+            (gate, "crates_in", lambda _: DIAMOND),
+            (gate.must_fail, "with_edits", lambda _: ["long", "short"]),
+            (gate.must_fail, "edits_of", lambda _: ["a"]),
+            (gate.must_fail, "try_crate", try_crate),
+        ):
+            self.enterContext(mock.patch.object(where, name, what))
+        self.assertEqual(gate.gate(TOP, mock.Mock(spec=gate.Log)), (6, 0))
+
     def test_the_copy_has_no_edits_and_nothing_built_and_each_proof(self) -> None:
         kept = ["crates/low/proofs/pair/out/Answers.antt", "crates/low/src/lib.rt", "docs/out/page.md"]
         with tempfile.TemporaryDirectory() as folder:

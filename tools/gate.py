@@ -13,8 +13,8 @@ call in place of `rt`.
 
 `rt ci` begins a proof only where the most memory that it may take is free, so that a long one may wait for others, and
 processors stand idle. Where 5 GB are free for each processor, RT_JOBS is set to the number of processors, if the environment
-has none: so many proofs are then run side by side. Edits are tried of one crate fewer at a time. Those that are begun last are
-waited for alone, and are tried in so many parts.
+has none: so many proofs are then run side by side. Edits are tried of one crate fewer at a time until `rt ci` has ended, and of
+as many after that. Those of the crate that is begun last are tried in parts, side by side.
 """
 import argparse
 import functools
@@ -25,6 +25,7 @@ import shutil
 import subprocess
 import sys
 import tempfile
+import threading
 import time
 from collections.abc import Callable, Iterable, Mapping
 from concurrent.futures import Future, ThreadPoolExecutor
@@ -155,18 +156,26 @@ def gate(tree: pathlib.Path, log: Log) -> tuple[int, int]:
     proved: set[str] = set()
     begun: dict[str, list[Future[must_fail.Tried]]] = {}
     at_once = max(1, processors - 1)
-    with ThreadPoolExecutor(at_once) as pool:
+    room = threading.Semaphore(at_once)
+
+    def try_part(name: str, part: int, parts: int) -> must_fail.Tried:
+        with room:
+            return must_fail.try_crate(tree, name, part, parts)
+
+    with ThreadPoolExecutor(processors) as pool:
 
         def begin(*those: str) -> None:
             proved.update(those)
             for it in ready(crates, left, proved):
                 if it not in begun:
                     parts = at_once if len(begun) + 1 == len(left) else 1
-                    begun[it] = [pool.submit(must_fail.try_crate, tree, it, part, parts) for part in range(parts)]
+                    begun[it] = [pool.submit(try_part, it, part, parts) for part in range(parts)]
 
         begin()
         passed, failed = proofs(running, log, begin)
         status = running.wait()
+        if processors > at_once:
+            room.release()
         tried = [must_fail.of_parts([it.result() for it in begun[crate]]) for crate in left if crate in begun]
     for line in [line for it in tried for line in it.lines()]:
         log.say(line)
