@@ -30,7 +30,7 @@ impl Model for Distances {
 }
 
 impl Distances {
-    /// The distance to a member, or none where there is no such member.
+    /// The distance to a member, in ticks, or none where there is no such member. In a network it is at most 65,534,000,000.
     pub fn get(&self, member: u16) -> Option<u64>
         ensures { result ≡ slice_get self.now member }
     {

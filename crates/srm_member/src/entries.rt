@@ -9,7 +9,8 @@ pub struct Missing {
     pub expiry: u64,
     /// How often the timer backed off, counted up to 10.
     pub backoffs: u32,
-    /// Before which time a request for the name backs off no further, in ticks.
+    /// Before which time a request for the name backs off no further, in ticks: halfway to the expiry (Floyd et al. 1997), rounded
+    /// down (this project's own), or the time of the loss where the timer has not backed off.
     pub ignore: u64,
 }
 

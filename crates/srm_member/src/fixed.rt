@@ -28,8 +28,8 @@ pub struct Fixed {
     pub dist: Distances,
     /// Of a late member, the pages whose earlier operations it asks for.
     pub pages: Sequence<u16>,
-    /// The seed of its generator.
+    /// The seed of its generator, any number of 64 bits.
     pub seed: u64,
-    /// The stream of its generator.
+    /// The stream of its generator: of a member of a scenario below 2^63.
     pub stream: u64,
 }

@@ -1,7 +1,7 @@
 //! Keys of events and their order.
 ghost use Rattle.std.specs.Prelude.{◌≡◌};
 
-/// The key of an event. Keys are compared by time, then member, then rank, then the three numbers.
+/// The key of an event. Keys are compared by time, then member, then rank, then the three numbers (this project's own).
 ///
 /// | rank | event | `a`, `b`, `c` |
 /// |---|---|---|

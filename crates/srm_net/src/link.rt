@@ -10,9 +10,9 @@ pub struct LinkSpec {
     pub a: u16,
     /// The node at the other end.
     pub b: u16,
-    /// How long a packet takes from `a` to `b`, in ticks.
+    /// How long a packet takes from `a` to `b`, in ticks: in a network 1 to 1,000,000.
     pub delay: u64,
-    /// How long a packet takes from `b` to `a`, in ticks.
+    /// How long a packet takes from `b` to `a`, in ticks: in a network 1 to 1,000,000.
     pub back: u64,
 }
 
@@ -62,8 +62,8 @@ pub struct DropSpec {
 pub struct OutageSpec {
     /// The link's number.
     pub link: u16,
-    /// The first tick of the outage.
+    /// The first tick of the outage: in a scenario file 0 to 2^40.
     pub from: u64,
-    /// The tick after its last.
+    /// The tick after its last: in a scenario file 1 to 2^40.
     pub to: u64,
 }

@@ -191,7 +191,7 @@ impl Net {
         HalfRounds::of(&self.tree, m)
     }
 
-    /// The least delay of a link in either direction, in ticks, or none where there is no link.
+    /// The least delay of a link in either direction, in ticks and 1 to 1,000,000, or none where there is no link.
     pub fn least_delay(&self) -> Option<u64>
         ensures value { result ≡ least_delay self.now }
         ensures network { IsNetwork self.now }
@@ -199,7 +199,7 @@ impl Net {
         self.least
     }
 
-    /// The least distance from member `m` to another, in ticks, or none where there is no other.
+    /// The least distance from member `m` to another, in ticks and 1 to 65,534,000,000, or none where there is no other.
     pub fn out(&self, m: u16) -> Option<u64>
         requires { m < length self.now.hosts }
         ensures value { result ≡ out self.now m }

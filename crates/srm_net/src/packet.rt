@@ -4,7 +4,7 @@ ghost use Rattle.std.specs.Prelude.{◌≡◌};
 use crate::sequence::Sequence;
 use std::alloc::AllocError;
 
-/// A packet's identity: its sender, and how many packets that member sent before it.
+/// A packet's identity: its sender, and how many packets that member sent before it (this project's own).
 #[derive(Clone, Copy, Debug, PartialEq, Eq, PartialOrd, Ord, Hash)]
 pub struct PacketId {
     /// The member that sent the packet.
@@ -95,7 +95,7 @@ impl Clone for Body {
     }
 }
 
-/// A packet, sent to all members.
+/// A packet, sent to all members (Floyd et al. 1997).
 #[derive(Clone, Debug, Drop)]
 pub struct Packet {
     /// The packet's identity.

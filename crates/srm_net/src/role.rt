@@ -7,8 +7,8 @@ pub enum Role {
     Sender,
     /// Takes part in loss recovery.
     Receiver,
-    /// Takes part in loss recovery, and asks for earlier drawing operations of chosen pages alone.
+    /// Takes part in loss recovery, and asks for earlier drawing operations of chosen pages alone (this project's own).
     Late,
-    /// Hears, and neither asks nor answers.
+    /// Hears, and neither asks nor answers (this project's own).
     Listener,
 }

@@ -24,7 +24,7 @@ use srm_scenario::scenario::Scenario;
 use std::alloc::{AllocError, Global};
 use std::marker::Model;
 
-/// A member that hears, and neither asks nor answers. It never draws, and takes no word of its generator.
+/// A member that hears, and neither asks nor answers (this project's own). It never draws, and takes no word of its generator.
 #[derive(Drop)]
 pub struct Listener {
     fixed: Fixed,

@@ -39,9 +39,9 @@ pub struct MemberSpec {
     pub role: Role,
     /// The stream of its random words, below 2^63.
     pub stream: u64,
-    /// When it joins, in ticks.
+    /// When it joins, in ticks: in a scenario before the run ends, and so below 2^40.
     pub join: u64,
-    /// When it leaves, in ticks, if it does.
+    /// When it leaves, in ticks, if it does: in a scenario after it joins, and at most 2^40.
     pub leave: Option<u64>,
     /// Of a late member, the pages whose earlier operations it asks for.
     pub pages: Sequence<u16>,
@@ -70,7 +70,7 @@ pub struct DrawSpec {
     pub page: u16,
     /// What it draws.
     pub ink: u32,
-    /// When it draws, in ticks.
+    /// When it draws, in ticks: in a scenario before the run ends, and so below 2^40.
     pub at: u64,
 }
 
@@ -79,6 +79,6 @@ pub struct DrawSpec {
 pub struct SessionSpec {
     /// The member that sends it.
     pub member: u16,
-    /// When it sends it, in ticks.
+    /// When it sends it, in ticks: in a scenario before the run ends, and so below 2^40.
     pub at: u64,
 }

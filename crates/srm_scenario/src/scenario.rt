@@ -130,7 +130,7 @@ impl Scenario {
         self.member(m).stream
     }
 
-    /// When member m joins, in ticks.
+    /// When member m joins, in ticks: before [`until`](Scenario::until), and so below 2^40.
     pub fn join(&self, m: u16) -> u64
         requires { m < length self.now.members }
         ensures { option_map (λ k. k.join) (slice_get self.now.members m) ≡ Some result }
@@ -138,7 +138,7 @@ impl Scenario {
         self.member(m).join
     }
 
-    /// When member m leaves, in ticks, if it does.
+    /// When member m leaves, in ticks, if it does: after it joins, and at most 2^40.
     pub fn leave(&self, m: u16) -> Option<u64>
         requires { m < length self.now.members }
         ensures { option_map (λ k. k.leave) (slice_get self.now.members m) ≡ Some result }
