@@ -9,7 +9,7 @@ run in turn, N times each (3 by default), with standard output on /dev/null; the
 (user and system, from the start of the process to its end) is printed, with rows per second and the ratio of the two
 times. README.md in this folder tells what the scenarios are. Nothing is asserted about speed.
 
---long          1,000 draws in place of 200, and the scenario at the limits of the format (some minutes)
+--long          1,000 draws in place of 200, and the scenario at the limits of version 1 of the format (some minutes)
 --only TEXT     only the scenarios whose name has TEXT in it
 --instructions  in place of times: instructions that valgrind's callgrind counts, on the two scenarios for it
 

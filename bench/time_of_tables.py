@@ -1,5 +1,5 @@
 #!/usr/bin/env python3
-"""How long the built program takes for each of its tables, side by side, on a run at the limits of the format.
+"""How long the built program takes for each of its tables, side by side, on a run at the limits of version 1 of the format.
 
 usage: bench/time_of_tables.py PROGRAM [--draws N] [--repeat N]
 

@@ -12,7 +12,7 @@ use std::marker::Model;
 /// The names that a member holds, each with its ink, in one vector that rises by name. Contracts see its entries.
 ///
 /// Names mostly come in this order, and then go to its end without a search. Another is put between the entries, of which those
-/// behind it move by one: twelve bytes for each of at most 4,096 names of a run.
+/// behind it move by one: twelve bytes for each of at most 65,535 names of a run.
 #[derive(Debug, Drop)]
 pub struct Held {
     entries: Vec<(Name, u32)>,

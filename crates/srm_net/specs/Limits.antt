@@ -21,7 +21,7 @@ greatest_link_delay = 1000000
 abbrev pub greatest_distance : ℕ
 greatest_distance = most_links * greatest_link_delay
 
--- each constant of timers, in thousandths, is at most this one
+-- each constant of timers, in thousandths, is at most this one in versions 1 and 2 of the scenario format
 abbrev pub greatest_constant : ℕ
 greatest_constant = 64000
 
