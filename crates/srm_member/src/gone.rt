@@ -7,7 +7,7 @@ use crate::fault::MemberFault;
 /// way.
 ///
 /// # Errors
-/// `Spent` exactly where the member is gone: it is as it was. Nothing is allocated.
+/// `Spent` alone, exactly where the member is gone: it is as it was. As it is written, nothing is allocated.
 pub fn begin(gone: &mut bool) -> Result<(), MemberFault>
     ensures here { OnOk result (gone.old ≡ false) }
     ensures spent { IfErr result (λ e. e ≡ MemberFault.Spent) }

@@ -79,7 +79,7 @@ impl Recovery {
     /// The member joins. It does not allocate.
     ///
     /// # Errors
-    /// `Spent` exactly where the member is gone: it is as it was. Nothing is allocated.
+    /// `Spent` alone, exactly where the member is gone: it is as it was. As it is written, nothing is allocated.
     pub fn join(&mut self, alloc: Global) -> Result<React, MemberFault>
         ensures reacts { (at : ℕ) → Reacts self.old at Join result self.new }
         ensures spent_alone { IfErr result (λ e. e ≡ MemberFault.Spent) }

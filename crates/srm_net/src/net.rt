@@ -182,7 +182,7 @@ impl Net {
     /// on demand, and share the network's tables, which stay as long as one of them is used.
     ///
     /// # Errors
-    /// [`AllocError`], only where more than 2^63 share the tables. No memory is asked for.
+    /// [`AllocError`]; as it is written, only where some 2^63 share the tables, and no memory is asked for.
     pub fn half_rounds(&self, m: u16) -> Result<HalfRounds, AllocError>
         requires { m < length self.now.hosts }
         ensures value { IfOk result (λ ds. ds ≡ half_rounds_from self.now m) }

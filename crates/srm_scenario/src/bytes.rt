@@ -29,8 +29,8 @@ pub enum TextFault {
 /// In this order, but for `NoMemory`, which may come at any place:
 ///
 /// 1. `ReadFault`: exactly where the feed failed in the call. Its count of failures is then one higher, and else as it was.
-/// 2. `TooLong`: more than [`LONGEST_TEXT`] bytes were still to come. It then took one byte more than that, and otherwise at most
-///    that many.
+/// 2. `TooLong`: more than [`LONGEST_TEXT`] bytes were still to come. It then took one byte more than that; of a text that is
+///    answered it took at most that many, and before any other refusal at most one more.
 pub fn read_text<F: Feed>(alloc: Global, feed: &mut F) -> Result<Vec<u8>, TextFault>
     requires { F.failures feed.old < 2 ^ 64 - 1 }
     // The count rises exactly where the answer is `ReadFault`, and then by one.

@@ -70,8 +70,8 @@ impl<W: Work<T, D> + Copy, T: Drop, D: Drop, J: Naming> Team<W, T, D, J> {
     ///
     /// # Errors
     /// 1. `TooMany`: exactly where there are more items than the team has room for.
-    /// 2. As met: `NoMemory`; `Worn`, after 2^62 lists; `Left`, a channel was closed while results were to come, which no clause
-    ///    rules out and no call meets.
+    /// 2. As met: `NoMemory`, `Worn` or `Left`. As it is written, `Worn` comes after 2^62 lists, and `Left` where a channel was
+    ///    closed while results were to come, which no call meets.
     ///
     /// The items are then gone. The team may be called again.
     pub fn map<R: Wait>(
