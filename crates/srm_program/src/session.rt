@@ -59,7 +59,7 @@ pub fn simulate<R: Threads + Wait + Sync, F: Feed, O: Outlet>(
     ensures failures { O.failures outlet.new ≡ session_failures result.done (O.failures outlet.old) }
     // A text that was read whole leaves nothing to come.
     ensures end { ReadsSessionToEnd result.done (F.remaining feed.new) }
-    // From the bytes that the feed gave to the outlet's, also where nothing else is known of the feed.
+    // There is a text that decides the answer and what the outlet took: what the feed gave, where its bytes are known.
     ensures taken { (given : List ℕ) × Consumes (F.remaining feed.old) (F.remaining feed.new) given
         × (length given ≤ LONGEST_TEXT + 1)
         × TellsFeed seed options given (O.taken outlet.old) (O.taken outlet.new) result.done

@@ -7,7 +7,7 @@ use Rattle.srm_scenario.specs.declared.parts.MemberSpec.{MemberSpec}
 use Rattle.srm_scenario.specs.Plain.{PlainScenario, mark_cmp, script_of}
 use Rattle.srm_scenario.specs.Accepted.{IsAccepted}
 
--- a mark of member k, in a run that ends at `until`: by its rank its join, a draw, a report or its leave
+-- a mark that fits member k, in a run that ends at `until`: by its rank its join, a draw, a report or its leave
 pub record IsMark (until : ℕ) (k : MemberSpec) (x : Mark) : Type 0 where
   pub rank : (x.rank ≡ 0) ⊎ (3 < x.rank)
   pub last_rank : x.rank ≤ 6
@@ -19,7 +19,7 @@ pub record IsMark (until : ℕ) (k : MemberSpec) (x : Mark) : Type 0 where
   pub report : x.rank ≡ 5 → k.role ≢ Listener
   pub leave : x.rank ≡ 6 → (k.leave ≡ Some x.at) × (x.place ≡ 0)
 
--- a script in rising order, each mark of which is the member's
+-- a script in rising order, each mark of which fits the member
 pub record IsScript (until : ℕ) (k : MemberSpec) (script : List Mark) : Type 0 where
   pub ascends : Ascends mark_cmp script
   pub marks : All (IsMark until k) script

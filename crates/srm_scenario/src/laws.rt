@@ -3,7 +3,7 @@ ghost use Rattle.srm_scenario.specs.Scripts.{ScriptsFit};
 ghost use Rattle.srm_scenario.specs.Topologies.{TopologiesAreTrees};
 ghost use Rattle.srm_scenario.specs.Trees.{TestTellsTrees};
 
-/// The script of each member of an accepted scenario rises by time, rank and place, and its marks are the member's own.
+/// The script of each member of an accepted scenario rises by time, rank and place, and its marks fit the member's role and times.
 pub fn scripts_fit()
     ensures { ScriptsFit }
 {}

@@ -247,7 +247,7 @@ pub fn read_scenario<F: Feed>(alloc: Global, feed: &mut F) -> Result<Scenario, S
     ensures accepted { IfOk result IsAccepted }
     // A text that was read whole leaves nothing to come.
     ensures end { ReadsToEnd result (F.remaining feed.new) }
-    // What was taken decides the answer, also where nothing is known of the feed.
+    // There is a text that decides the answer: what was taken of the feed, where its bytes are known.
     ensures taken { (given : List ℕ) × Consumes (F.remaining feed.old) (F.remaining feed.new) given
         × (length given ≤ LONGEST_TEXT + 1) × AnswersText result given }
 {
