@@ -7,9 +7,9 @@ use Rattle.std.proofs.lemmas.List.{length-map}
 use Rattle.std.specs.List.{AllByRecursion}
 use Rattle.std.specs.Option.{option_and_then}
 use Rattle.toml.specs.Data.{Data, Items, Members, no_items, item, get_member}
-use Rattle.srm_net.specs.declared.link.LinkSpec.{LinkSpec}
 use Rattle.srm_net.specs.Network.{IsLinkDelay, HasDelays}
 use Rattle.srm_scenario.specs.declared.entry.MemberEntry.{MemberEntry}
+use Rattle.srm_scenario.specs.declared.parts.MemberSpec.{MemberSpec}
 use Rattle.srm_scenario.specs.declared.fault.Part.{Part}
 use Rattle.srm_scenario.specs.declared.fault.ScenarioFault.TheVariants.{BadKey}
 use Rattle.srm_scenario.specs.declared.draft.Draft.{Draft}
@@ -28,15 +28,16 @@ use Rattle.srm_scenario.specs.Keys.{name_of}
 use Rattle.srm_scenario.specs.Described.{version_of, whole_number_of, number, array_at, table_of}
 use Rattle.srm_scenario.specs.Described.{link_of, elements_at, links_to_parents, described_scenario}
 use Rattle.srm_scenario.specs.Described.{items_list, names_parents, number_at, values_at, delay_at, back_delay_at, links_from}
-use Rattle.srm_scenario.specs.Described.{given_links, repeated_at}
+use Rattle.srm_scenario.specs.Described.{given_links, links_in, delays_of, topology_of, repeated_at}
 use Rattle.srm_scenario.specs.Faults.{element_faults, entry_of, entry_copy, entry_in_range, fits_repeated, key_faults, top_faults}
-use Rattle.srm_scenario.specs.Faults.{faults_of_links, faults_of_members, rules_of_top}
+use Rattle.srm_scenario.specs.Faults.{faults_of_links, faults_of_members, faults_of_draws, faults_of_sessions, rules_of_top}
 use Rattle.srm_scenario.specs.LookUps.{AreDelays}
-use Rattle.srm_scenario.specs.Drafts.{IsDraft, links_listed, plain_of}
+use Rattle.srm_scenario.specs.Drafts.{IsDraft, plain_of}
 use Rattle.srm_scenario.specs.Ranges.{MemberInRange, HasItsPages, InRange}
 use Rattle.srm_scenario.proofs.Acceptance.{empty_parts, none_by, unless_true}
-use Rattle.srm_scenario.proofs.Repetition.{stand_for_all, stand_for_members}
-use Rattle.srm_scenario.proofs.TopFits.{delays_met, backs_met, one_delay, one_back}
+use Rattle.srm_scenario.proofs.Repetition.{few_draws, few_sessions, stand_for_all, stand_for_members}
+use Rattle.srm_scenario.proofs.TopFits.{until_fits, constants_fit, delays_fit, delays_met, backs_met, one_delay, one_back, draws_fit}
+use Rattle.srm_scenario.proofs.TopFits.{sessions_fit}
 use Rattle.srm_scenario.proofs.KeyRanges.{number_fits, optional_bound, rule_met, whole_number, back_fits}
 use Rattle.srm_net.specs.Limits.{end_of_time}
 
@@ -86,10 +87,11 @@ parents_delay : (t : Topology) (delays : Delays) (v n : ℕ) → IsLinkDelay del
 parents_delay t delays v zero h = tt
 parents_delay t delays v (suc n) h = (h, parents_delay t delays (v + 1) n h)
 
-listed_delay : (o : Option Topology) (nodes : ℕ) (delays : Delays) (links : List LinkSpec) → AreDelays o delays
-    → AllByRecursion HasDelays links → AllByRecursion HasDelays (links_listed o nodes delays links)
-listed_delay None nodes delays links h all = all
-listed_delay (Some t) nodes delays links h all = parents_delay t delays 1 (nodes - 1) h
+-- the delays of the links that a table describes, of a topology or as they are given
+described_delays : (ms : Members) (o : Option Topology) → AreDelays o (delays_of ms) → AllByRecursion HasDelays (given_links ms)
+    → AllByRecursion HasDelays (links_in o ms)
+described_delays ms None h all = all
+described_delays ms (Some t) h all = parents_delay t (delays_of ms) 1 (number (codes "size") ms - 1) h
 
 -- ---- links to parents
 
@@ -144,6 +146,14 @@ member_part : (ms : Members) → key_faults ms ≡ [] → faults_of_members (ver
 unfolding key_faults
 member_part ms h = grind (arith, empty_parts)
 
+draw_part : (ms : Members) → key_faults ms ≡ [] → faults_of_draws (version_of ms) (array_at (codes "draw") ms) ≡ []
+unfolding key_faults
+draw_part ms h = grind (arith, empty_parts)
+
+session_part : (ms : Members) → key_faults ms ≡ [] → faults_of_sessions (version_of ms) (array_at (codes "session") ms) ≡ []
+unfolding key_faults
+session_part ms h = grind (arith, empty_parts)
+
 -- what holds of each copy in range of an entry holds of all members
 all_entries : (P : MemberEntry → Type 0) (ms : Members) → key_faults ms ≡ []
     → ((d : Data) → fits_element (member_rules (version_of ms)) d ≡ true → (k every : ℕ)
@@ -158,32 +168,42 @@ copy_range : (v : Version) (d : Data) → fits_element (member_rules v) d ≡ tr
     → entry_in_range (entry_copy k every (entry_of (table_of d))) ≡ true → MemberInRange (entry_copy k every (entry_of (table_of d))).spec
 copy_range v d h k every range = grind (arith, member_range)
 
-pub listed_range : (ms : Members) (l : Draft) → IsDraft ms l → InRange (plain_of l)
-unfolding plain_of
-listed_range ms l h =
-    let links : AllByRecursion HasDelays l.links.items = subst (λ (ks : List LinkSpec). AllByRecursion HasDelays ks) h.links
-    (given_delays ms (top_part ms h.no_fault)
-    (read_elements HasDelays _ link_of (link_rules (version_of ms)) (link_delay (version_of ms)) _ (link_part ms h.no_fault))) in
-    let members : AllByRecursion (λ e. MemberInRange e.spec) l.members.items =
-    subst (λ (es : List MemberEntry). AllByRecursion (λ e. MemberInRange e.spec) es) h.members
-    (all_entries (λ e. MemberInRange e.spec) ms h.no_fault (copy_range (version_of ms))) in
+-- the scenario that a table describes is in range where no key is a fault
+pub described_range : (ms : Members) → key_faults ms ≡ [] → InRange (described_scenario ms)
+unfolding described_scenario
+described_range ms h =
+    let top = top_part ms h in
+    let until = until_fits ms top in
+    let links : AllByRecursion HasDelays (given_links ms) =
+    given_delays ms top (read_elements HasDelays _ link_of (link_rules (version_of ms)) (link_delay (version_of ms)) _ (link_part ms h)) in
+    let members : AllByRecursion (λ e. MemberInRange e.spec) (repeated_at (codes "member") entry_copy entry_of ms) =
+    all_entries (λ e. MemberInRange e.spec) ms h (copy_range (version_of ms)) in
     record {
-      some_ticks = h.some_ticks;
-      few_ticks = h.few_ticks;
-      constants = h.constants_fit;
-      delays = listed_delay l.topology l.nodes l.delays l.links.items h.delays_fit links;
-      members = all_spec l.members.items members;
-      few_draws = h.few_draws;
-      few_sessions = h.few_sessions;
+      some_ticks = until.0;
+      few_ticks = until.1;
+      constants = constants_fit ms top;
+      delays = described_delays ms (topology_of ms) (delays_fit ms top) links;
+      members = subst (λ (ks : List MemberSpec). AllByRecursion MemberInRange ks) (stand_for_members (array_at (codes "member") ms))
+          (all_spec _ members);
+      few_draws = few_draws (version_of ms) (array_at (codes "draw") ms) (draws_fit ms top) (draw_part ms h);
+      few_sessions = few_sessions (version_of ms) (array_at (codes "session") ms) (sessions_fit ms top) (session_part ms h);
     }
 
-pub listed_pages : (ms : Members) (l : Draft) → IsDraft ms l → AllByRecursion HasItsPages l.members.items
-listed_pages ms l h =
-    subst (λ (es : List MemberEntry). AllByRecursion HasItsPages es) h.members
-    (all_entries HasItsPages ms h.no_fault
-    (λ d fits k every range. one_read HasItsPages entry_of (member_rules (version_of ms)) (pages_own (version_of ms)) d fits))
+-- and its members have no pages where none are given for them
+pub described_pages : (ms : Members) → key_faults ms ≡ []
+    → AllByRecursion HasItsPages (repeated_at (codes "member") entry_copy entry_of ms)
+described_pages ms h =
+    all_entries HasItsPages ms h
+    (λ d fits k every range. one_read HasItsPages entry_of (member_rules (version_of ms)) (pages_own (version_of ms)) d fits)
 
 -- what the table describes is the scenario of what it lists
 pub described_is : (ms : Members) (l : Draft) → IsDraft ms l → described_scenario ms ≡ plain_of l
 unfolding described_scenario plain_of
 described_is ms l h = grind (arith, stand_for_members)
+
+pub listed_range : (ms : Members) (l : Draft) → IsDraft ms l → InRange (plain_of l)
+listed_range ms l h = subst InRange (described_is ms l h) (described_range ms h.no_fault)
+
+pub listed_pages : (ms : Members) (l : Draft) → IsDraft ms l → AllByRecursion HasItsPages l.members.items
+listed_pages ms l h =
+    subst (λ (es : List MemberEntry). AllByRecursion HasItsPages es) h.members (described_pages ms h.no_fault)

@@ -1,18 +1,22 @@
 -- The answer for a table, from what it lists.
 use Rattle.std.proofs.Common.{arith}
-use Rattle.std.proofs.Common.{◌≡◌, ◌⊎◌, List, [], ◌∷◌, ◌++◌, Some, Result, Ok, Err, codes, sym, ap, ◌∙◌, inl, inr}
+use Rattle.std.proofs.Common.{◌≡◌, ◌⊎◌, List, [], ◌∷◌, ◌++◌, Some, Result, Ok, Err, codes, refl, sym, ap, subst, ◌∙◌, inl}
+use Rattle.std.proofs.Common.{inr}
 use Rattle.std.specs.Prelude.{IfOk, IfErr}
 use Rattle.toml.specs.Data.{Members}
 use Rattle.srm_scenario.specs.declared.fault.ScenarioFault.{ScenarioFault}
 use Rattle.srm_scenario.specs.declared.fault.ScenarioFault.TheVariants.{NoMemory}
 use Rattle.srm_scenario.specs.declared.draft.Draft.{Draft}
-use Rattle.srm_scenario.specs.Described.{repeated_at, listed_drops, described_scenario, topology_of}
+use Rattle.srm_scenario.specs.Accepted.{IsAccepted}
+use Rattle.srm_scenario.specs.Described.{array_at, repeated_at, listed_drops, described_scenario, topology_of}
 use Rattle.srm_scenario.specs.Faults.{first, IsFault, is_star, entry_of, entry_copy, key_faults, meaning_faults, faults_of}
 use Rattle.srm_scenario.specs.Faults.{answer, scenario_of_table}
 use Rattle.srm_scenario.specs.Drafts.{IsDraft, plain_of, faults_in}
 use Rattle.srm_scenario.specs.Plain.{PlainScenario}
+use Rattle.srm_scenario.proofs.Acceptance.{empty_parts, accepted_from}
 use Rattle.srm_scenario.proofs.FaultLists.{first-left}
-use Rattle.srm_scenario.proofs.InRanges.{described_is}
+use Rattle.srm_scenario.proofs.InRanges.{described_is, described_range, described_pages}
+use Rattle.srm_scenario.proofs.Repetition.{stand_for_members}
 
 answer-first : (fs : List ScenarioFault) (s : PlainScenario) (e : ScenarioFault) → first fs ≡ Some e → answer fs s ≡ Err e
 answer-first [] s e h = cc
@@ -49,3 +53,19 @@ pub answer_err : (ms : Members) (l : Draft) (r : Result PlainScenario ScenarioFa
     → IfErr r (λ e. (e ≡ NoMemory) ⊎ (scenario_of_table ms ≡ Err e))
 unfolding scenario_of_table
 answer_err ms l r h f = grind (arith, all_faults)
+
+-- ---- what a table is answered with is accepted
+
+none_told : (fs : List ScenarioFault) (s p : PlainScenario) → answer fs s ≡ Ok p → (fs ≡ []) × (s ≡ p)
+none_told [] s p h = let same : s ≡ p = cc in (refl, same)
+none_told (f ∷ fs) s p h = cc
+
+pub table_accepted : (ms : Members) (p : PlainScenario) → scenario_of_table ms ≡ Ok p → IsAccepted p
+unfolding scenario_of_table faults_of described_scenario
+table_accepted ms p h =
+    let (none, same) = none_told (faults_of ms) (described_scenario ms) p h in
+    let (keys, meant) = empty_parts (key_faults ms) _ none in
+    subst IsAccepted same
+    (accepted_from (described_scenario ms) (is_star (topology_of ms)) (repeated_at (codes "member") entry_copy entry_of ms)
+    (listed_drops ms) (described_range ms keys) (described_pages ms keys) (sym (stand_for_members (array_at (codes "member") ms))) refl
+    meant)

@@ -2,7 +2,7 @@
 use Rattle.std.proofs.Common.{◌≡◌, ◌⊎◌, ℕ, ◌+◌, ◌<◌, ◌≤◌, Bool, true, false, cond, List, [], ◌∷◌, ◌++◌, length, Option, Some, None, Result}
 use Rattle.std.proofs.Common.{Ok, Err, sym, ap, ◌∙◌, subst, arith, inl, inr}
 use Rattle.std.proofs.lemmas.Str.{is_utf8-from_IsUtf8, IsUtf8-from_is_utf8}
-use Rattle.std.specs.Prelude.{IfOk, IfErr, IfSome, IsUtf8}
+use Rattle.std.specs.Prelude.{IfOk, IfErr, IfSome, IsUtf8, nat_lt}
 use Rattle.std.specs.List.{AllByRecursion}
 use Rattle.std.specs.Str.{is_utf8}
 use Rattle.toml.specs.Data.{Members}
@@ -15,7 +15,9 @@ use Rattle.srm_net.specs.declared.link.DropSpec.{DropSpec}
 use Rattle.srm_scenario.specs.Faults.{fault_unless, faults_by, member_faults, fits_member}
 use Rattle.srm_scenario.specs.Faults.{key_faults, meaning_faults, faults_of}
 use Rattle.srm_scenario.specs.Faults.{scenario_of_table, scenario_of_document, scenario_of_text, failures_after, AnswersText}
+use Rattle.srm_scenario.specs.Accepted.{IsAccepted}
 use Rattle.srm_scenario.specs.Plain.{PlainScenario}
+use Rattle.srm_scenario.proofs.TableAnswers.{table_accepted}
 
 short_text : (text : List ℕ) → length text ≤ 1048576 → scenario_of_text text
     ≡ cond (is_utf8 text) (scenario_of_document (parse_document text)) (Err NotToml)
@@ -134,3 +136,23 @@ count_stays text r n h f = sym (same_count r n (not_feed_fault text r h f))
 pub long_known : (known : Option (List ℕ)) → IfSome known (λ bytes. 1048576 < length bytes) → IfSome known (AnswersText (Err TooLong))
 long_known None h = tt
 long_known (Some bytes) h = too_long bytes h
+
+-- ---- what a text is answered with is accepted
+
+document_accepted : (o : Option Members) (p : PlainScenario) → scenario_of_document o ≡ Ok p → IsAccepted p
+document_accepted None p h = cc
+document_accepted (Some ms) p h = table_accepted ms p h
+
+utf8_accepted : (b : Bool) (o : Option Members) (p : PlainScenario) → cond b (scenario_of_document o) (Err NotToml) ≡ Ok p
+    → IsAccepted p
+utf8_accepted true o p h = document_accepted o p h
+utf8_accepted false o p h = cc
+
+pub text_accepted : (text : List ℕ) (p : PlainScenario) → scenario_of_text text ≡ Ok p → IsAccepted p
+unfolding scenario_of_text
+text_accepted text p h = by (nat_lt 1048576 (length text)) h
+  where
+    by : (b : Bool) → cond b (Err TooLong) (cond (is_utf8 text) (scenario_of_document (parse_document text)) (Err NotToml)) ≡ Ok p
+        → IsAccepted p
+    by true e = cc
+    by false e = utf8_accepted (is_utf8 text) (parse_document text) p e

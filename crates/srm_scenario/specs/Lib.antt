@@ -16,3 +16,4 @@ pub mod Drafts
 pub mod Ranges
 pub mod Topologies
 pub mod Taken
+pub mod Acceptance
