@@ -446,27 +446,68 @@ class Lemmas(unittest.TestCase):
     FOLDER = "crates/low/proofs/"
     NEXT = "-- the one after\nabbrev pub next : ℕ → ℕ\nnext n = n + 1\n"
     LATER = "pub later : (n : ℕ)\n    → n < next n\nunfolding next\nlater n = grind (\n  arith\n)\n"
+    BOTH = NEXT + "\n" + LATER
+    TOLD = [FOLDER + "Lemmas.antt:2: nothing names next", FOLDER + "Lemmas.antt:5: nothing names later"]
+    BROUGHT_IN = "use Rattle.low.proofs.Lemmas.{later}\n"
+    RETURNS = "pub returns : goal.returns\nreturns c = "
 
     def unnamed(self, lemmas_of_low: str, **others: str) -> list[str]:
-        """What nothing names in a file of lemmas, beside other files of its folder."""
-        texts = {f"{name}.antt": text for name, text in others.items()}
-        return [*lemmas.unnamed({self.FOLDER + name: text for name, text in {"Lemmas.antt": lemmas_of_low, **texts}.items()})]
+        """What nothing names in a file of lemmas, beside other files of its folder, and of the code in `Source`."""
+        paths = {name: "crates/low/src/lib.rt" if name == "Source" else f"{self.FOLDER}{name}.antt" for name in others}
+        texts = {paths[name]: text for name, text in others.items()}
+        return [*lemmas.unnamed({self.FOLDER + "Lemmas.antt": lemmas_of_low, **texts})]
 
     def test_what_is_only_brought_in_is_named_by_nothing(self) -> None:
-        told = self.unnamed(self.NEXT + "\n" + self.LATER, Others="use Rattle.low.proofs.Lemmas.{later}\n")
-        self.assertEqual(told, [self.FOLDER + "Lemmas.antt:5: nothing names later"])
+        for other in (self.BROUGHT_IN, self.BROUGHT_IN + "-- as later says\n", "use Rattle.low.proofs.Lemmas\n"):
+            self.assertEqual(self.unnamed(self.BOTH, Answers=other), self.TOLD)
 
-    def test_what_an_answer_a_clause_or_another_lemma_names_is_kept(self) -> None:
-        for user in ("pub returns : goal.returns\nreturns c = later c.args.n\n", "ensures { low.later n }\n"):
-            self.assertEqual(self.unnamed(self.NEXT + "\n" + self.LATER, Answers=user), [])
+    def test_what_an_answer_or_a_clause_names_is_kept_with_what_it_names_itself(self) -> None:
+        for user in (self.BROUGHT_IN + self.RETURNS + "later c.args.n\n",
+                     "use Rattle.low.proofs.Lemmas.{next, later as after}\n" + self.RETURNS + "grind (arith, after)\n",
+                     "use Rattle.low.proofs.Lemmas\n" + self.RETURNS + "Lemmas.later c.args.n\n",
+                     "use Rattle.low.proofs.Lemmas as lemma\n" + self.RETURNS + "(lemma.later c.args.n)\n",
+                     self.RETURNS + "Rattle.low.proofs.Lemmas.later c.args.n\n"):
+            self.assertEqual(self.unnamed(self.BOTH, Answers=user), [], user)
+        for user in ("ghost use Rattle.low.proofs.Lemmas.{\n    later,\n};\nensures { later n }\n",
+                     "#[tactic(auto, using(crate::proofs::Lemmas::later))]\n"):
+            self.assertEqual(self.unnamed(self.BOTH, Source=user), [], user)
+
+    def test_what_another_file_passes_on_is_named_through_it(self) -> None:
+        user = "use Rattle.low.proofs.Others.{later}\n" + self.RETURNS + "later c.args.n\n"
+        self.assertEqual(self.unnamed(self.BOTH, Others="pub " + self.BROUGHT_IN, Answers=user), [])
+        self.assertEqual(self.unnamed(self.BOTH, Others=self.BROUGHT_IN, Answers=user), self.TOLD)
+
+    def test_a_lemma_of_the_same_name_elsewhere_hides_nothing(self) -> None:
+        other = "use Rattle.low.proofs.Others.{later}\n" + self.RETURNS + "later c.args.n\n"
+        self.assertEqual(self.unnamed(self.BOTH, Others=self.BOTH, Answers=other), self.TOLD)
+        self.assertEqual(self.unnamed(self.BOTH, Answers=self.LATER + self.RETURNS + "later c.args.n\n"), self.TOLD)
+
+    def test_what_only_something_names_that_nothing_names_is_told(self) -> None:
+        least = "pub least : 0 < next 0\nleast = later 0\n"
+        told = self.unnamed(self.BOTH + "\n" + least)
+        self.assertEqual([line.rpartition(" ")[2] for line in told], ["next", "later", "least"])
 
     def test_a_name_in_its_own_clauses_is_none(self) -> None:
-        own = "sum : List ℕ → ℕ\nsum [] = 0\nsum (x ∷ xs) = x + sum xs\n\nzero_is : sum [] ≡ 0\nzero_is = refl\n"
-        self.assertEqual(self.unnamed(own), [self.FOLDER + "Lemmas.antt:5: nothing names zero_is"])
-        self.assertEqual(self.unnamed(own.partition("\n\n")[0]), [self.FOLDER + "Lemmas.antt:1: nothing names sum"])
+        own = "sum : List ℕ → ℕ\nsum [] = 0\nsum (x ∷ xs) = x + sum xs\n"
+        self.assertEqual(self.unnamed(own), [self.FOLDER + "Lemmas.antt:1: nothing names sum"])
 
-    def test_fields_of_a_record_are_no_lemmas(self) -> None:
-        self.assertEqual(self.unnamed("record pub Both : Type 0 where\n  field\n    first : ℕ\n    second : ℕ\n"), [])
+    def test_a_helper_is_seen_by_its_clause_alone(self) -> None:
+        helper = "  where\n    by : (n : ℕ) → n < suc n\n    by n = omega arith\n"
+        first, second = "pub returns : goal.returns\nreturns zero = by 0\n", "returns (suc n) = by n\n"
+        self.assertEqual(self.unnamed("", Answers=first + helper + second + helper), [])
+        told = self.unnamed("", Answers=first + helper + second.replace("by", "omega") + helper)
+        self.assertEqual(told, [self.FOLDER + "Answers.antt:8: nothing names by"])
+
+    def test_a_helper_of_an_answer_is_not_named_by_the_prover(self) -> None:
+        self.assertEqual(self.unnamed("", Answers=self.LATER.replace("pub ", "")), [self.FOLDER + "Answers.antt:1: nothing names later"])
+
+    def test_a_record_is_named_by_its_name_and_a_type_by_a_constructor_too(self) -> None:
+        record = "pub record Both : Type 0 where\n  first : ℕ\n  second : ℕ\n"
+        self.assertEqual(self.unnamed(record), [self.FOLDER + "Lemmas.antt:1: nothing names Both"])
+        types = "pub data Way : Type 0 where\n  up : Way\n  down : ℕ → Way\n"
+        user = "use Rattle.low.proofs.Lemmas.{down}\n" + self.RETURNS
+        self.assertEqual(self.unnamed(types, Answers=user + "down 0\n"), [])
+        self.assertEqual(self.unnamed(types, Answers=user + "up\n"), [self.FOLDER + "Lemmas.antt:1: nothing names Way"])
 
 
 class Architecture(unittest.TestCase):

@@ -57,11 +57,6 @@ module _ {M : Type 0} (f : M → Record) where
         λ j c p a b. subst (λ k. IsCell f k c p) (zero-add j) (each_from 0 cs ps h j c p a b);
   }
 
-  there : (ps : List PlainCell) (j : ℕ) → j < length ps → (p : PlainCell) × (slice_get ps j ≡ Some p)
-  there [] j lt = absurd (omega arith)
-  there (p ∷ ps) zero lt = (p, refl)
-  there (p ∷ ps) (suc j) lt = there ps j (omega arith)
-
   -- ---- some cells and others after them
 
   pub split_from : (i : ℕ) (cs ds : List (Cell M)) (ps : List PlainCell) → AreFrom i (cs ++ ds) ps → AreFrom i cs (take (length cs) ps)

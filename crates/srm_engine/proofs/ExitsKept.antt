@@ -1,16 +1,14 @@
 -- A member that is gone has left its exit.
 use Rattle.std.proofs.Common.{◌≡◌, ℕ, zero, suc, ◌+◌, Bool, true, false, cond, List, [], ◌∷◌, ◌==◌, length, Option, Some, None}
-use Rattle.std.proofs.Common.{Err, refl, sym, ap, ◌∙◌, subst, slice_get, nat_lt, le_refl, arith, zero-add}
-use Rattle.srm_net.specs.declared.packet.Body.{Body}
+use Rattle.std.proofs.Common.{Err, refl, sym, ap, ◌∙◌, subst, slice_get, le_refl, arith, zero-add}
 use Rattle.srm_net.specs.declared.packet.Packet.{Packet}
 use Rattle.srm_member.specs.declared.cause.Cause.{Cause}
 use Rattle.srm_member.specs.declared.exit.Exit.{Exit}
 use Rattle.srm_member.specs.Record.{Record, Active, Gone}
-use Rattle.srm_member.specs.React.{Reaction}
 use Rattle.srm_member.proofs.AllIn.{AllIn}
 use Rattle.srm_cell.specs.declared.cell.Cell.{Cell}
 use Rattle.srm_cell.specs.Setting.{Setting, arrival_of}
-use Rattle.srm_cell.specs.Cells.{PlainCell, Event, StepOutcome, Idle, Full, Spent, Done, Stepped, handle, sending_step, step_at, before}
+use Rattle.srm_cell.specs.Cells.{PlainCell, Event, StepOutcome, Idle, Full, Spent, Done, Stepped, handle, step_at, before}
 use Rattle.srm_cell.specs.Cells.{hear, hear_at}
 use Rattle.srm_cell.specs.OwnRuns.{told_to}
 use Rattle.srm_cell.specs.declared.fault.CellFault.TheVariants as fault
@@ -21,20 +19,11 @@ use Rattle.srm_model.specs.World.{step_to}
 use Rattle.srm_engine.specs.Outcomes.{HasEnd, AllEnd}
 use Rattle.srm_engine.specs.Seen.{AreCellsInOrder}
 use Rattle.srm_model.proofs.RunLemmas.{run_by, run_first}
-use Rattle.srm_net.specs.Limits.{most_sent}
 
 abbrev Kept : PlainCell → Type 0
 Kept c = HasEnd c.holds c.exit
 
 -- ---- one step
-
-kept_by : (b : Bool) (x : Stepped) → Kept x.cell → OnStep (λ d. Kept d.cell) (cond b (Done x) Full)
-kept_by true x h = h
-kept_by false x h = tt
-
-kept_sending : (e : Event) (r : Reaction) (body : Option Body) → OnStep (λ d. Kept d.cell) (sending_step e r body)
-kept_sending e r None = tt
-kept_sending e r (Some body) = kept_by (nat_lt e.rest.sent most_sent) _ tt
 
 kept_handle : (e : Event) (holds : Record) (cause : Option Cause) → OnStep (λ d. Kept d.cell) (handle e holds cause)
 unfolding handle

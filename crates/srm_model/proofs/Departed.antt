@@ -1,11 +1,10 @@
 -- Members that left, in the worlds of the sequential run: nothing is pending at a record that is gone.
-use Rattle.std.proofs.Common.{◌≡◌, ◌≢◌, ℕ, zero, suc, ◌<◌, ◌≤◌, ◌+◌, true, List, refl, sym, subst, inl, inr, arith, Option, Some, None}
+use Rattle.std.proofs.Common.{◌≡◌, ◌≢◌, ℕ, zero, suc, ◌<◌, ◌≤◌, ◌+◌, List, refl, sym, subst, inl, inr, arith, Option, Some, None}
 use Rattle.std.proofs.Common.{slice_get, zero-add, add-zero, ◌⊎◌}
 use Rattle.std.proofs.lemmas.Option.{same_Some}
 use Rattle.srm_net.specs.declared.packet.Packet.{Packet}
 use Rattle.srm_member.specs.declared.row.Row.{Row}
 use Rattle.srm_member.specs.Record.{Record, Active, Gone}
-use Rattle.srm_scenario.specs.Presence.{is_up_to}
 use Rattle.srm_cell.specs.Setting.{Setting, IsFit, arrival_of}
 use Rattle.srm_cell.specs.Cells.{PlainCell, hear_at, hear, Event, next_event, before, Spent, Done, Stepped, step_at}
 use Rattle.srm_cell.specs.OwnRuns.{told_to}
@@ -48,9 +47,6 @@ module _ (s : Setting) (fit : IsFit s) where
   unfolding hear
   told_holds None m c = refl
   told_holds (Some p) m c = hear_at_holds p (arrival_of s.traffic p m) c
-
-  not_after : (t at : ℕ) (o : Option ℕ) → o ≡ Some t → t < at → is_up_to at o ≡ true → ⊥
-  not_after t at o e lt h = grind arith
 
   module _ (end : ℕ) (cs : List PlainCell) (e : Event) (d : Stepped) (stable : Stable cs) (h : before end (least_event 0 cs) ≡ Some e)
       (x : step_at (Some e) ≡ Done d) where

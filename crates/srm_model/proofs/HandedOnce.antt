@@ -1,6 +1,6 @@
 -- In the sequential run each flight of a packet that was sent is on the way or was handed, and nothing else is.
 use Rattle.std.proofs.Common.{◌≡◌, ℕ, zero, suc, ◌<◌, ◌≤◌, ◌+◌, Bool, true, false, cond, ◌&&◌, List, [], ◌∷◌, ◌++◌, length, refl, sym, ap}
-use Rattle.std.proofs.Common.{◌∙◌, subst, ◌≢◌, inl, inr, arith, Ordering, Less, Equal, Greater, Option, Some, None, is_some}
+use Rattle.std.proofs.Common.{◌∙◌, subst, ◌≢◌, inl, inr, arith, Option, Some, None, is_some}
 use Rattle.std.proofs.Common.{option_map, nat_lt, slice_get, eqb-true, ◌==◌}
 use Rattle.std.proofs.lemmas.Bool.{eqb-false}
 use Rattle.std.specs.List.{Contains, count_by}

@@ -662,9 +662,6 @@ module _ (s : Setting) (fit : IsFit s) where
   none_drew : (j : ℕ) (n : Name) (ink : ℕ) → ¬ Drew j n ink []
   none_drew j n ink h = contains_none h.0 h.1
 
-  none_told : (t : Told) (j : ℕ) (n : Name) → ¬ ToldOf t j n []
-  none_told t j n h = contains_none h.0 h.1
-
   knows_nothing : (j : ℕ) → j < s.traffic.members → CellKnows [] j (opening_cell s j).holds (opening_cell s j).exit
   knows_nothing j lt = grind arith
 

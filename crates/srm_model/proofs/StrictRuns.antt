@@ -112,10 +112,6 @@ module _ (s : Setting) (fit : IsFit s) where
     abbrev after : List PlainCell
     after = cells_after s m d 0 cs
 
-    grows : (y : Option Packet) (b a : ℕ) → CountAfter b y a → b ≤ a
-    grows None b a c = omega arith
-    grows (Some p) b a c = let q = c.1 in omega arith
-
     here_after : slice_get after m ≡ Some d.cell
     here_after = grind (arith, get_after, facts)
 

@@ -1,7 +1,7 @@
 -- Rows, packets and counts of a trace that grows by a row.
 use Rattle.std.proofs.Common.{◌≡◌, ℕ, zero, suc, ◌<◌, ◌+◌, Bool, true, false, cond, ◌&&◌, List, [], ◌∷◌, ◌++◌, refl, sym, ap, ◌∙◌}
 use Rattle.std.proofs.Common.{◌≢◌, ◌⊎◌, inl, inr, arith, Ordering, Some, is_lt}
-use Rattle.std.proofs.Common.{◌==◌, eqb-true}
+use Rattle.std.proofs.Common.{◌==◌}
 use Rattle.std.specs.List.{Contains, count_by}
 use Rattle.std.proofs.lemmas.List.Sums.{sum_by-cons}
 use Rattle.std.proofs.lemmas.List.Elements.{Contains-append_left, Contains-append_right, Contains-append_cases}
@@ -77,11 +77,6 @@ not_same p q ne = grind arith
 pub same_self : (p : PacketId) → same_packet p p ≡ true
 same_self p = let a : (p.sender == p.sender) ≡ true = Rattle.std.proofs.Common.eq-eqb _ _ refl in let b : (p.count == p.count)
     ≡ true = Rattle.std.proofs.Common.eq-eqb _ _ refl in simp (a, b)
-
--- a row at another member, or of which the packet is another, or which is no arrival, is not an arrival of this packet
--- here
-pub elsewhere : (k : PacketId) (m : ℕ) (r : Row) → r.key.member ≢ m → is_arrival_of k m r ≡ false
-elsewhere k m r ne = grind arith
 
 pub not_of : (k : PacketId) (a : About) → ((q : Packet) → a ≡ Of q → k ≢ q.id) → is_about k a ≡ false
 not_of k a h = grind arith

@@ -204,10 +204,6 @@ if_so b q = cond b (Some q) None
 at_push : (t : Row → Bool) (rows : List Row) (q : Row) → at t (rows ++ q ∷ []) ≡ row_time (option_or (lists.find t rows) (if_so (t q) q))
 at_push t rows q = ap row_time (find-append t rows (q ∷ []))
 
-alike : (o : Option Row) (b : Bool) (p q : Row) → p.key.time ≡ q.key.time
-    → row_time (option_or o (if_so b p)) ≡ row_time (option_or o (if_so b q))
-alike o b p q e = grind arith
-
 none_more : (o : Option Row) → row_time (option_or o None) ≡ row_time o
 none_more (Some r) = refl
 none_more None = refl
@@ -293,9 +289,6 @@ module _ (rows : List Row) (r : Row) (front : List Name) (n : Name) (es : List (
   not_among =
       sym (any_ordered (eq_by_cmp loss_cmp k) (losses_in (rows ++ q0 ∷ []))) ∙ ap (list_any (eq_by_cmp loss_cmp k)) (sym was.losses)
       ∙ sym (is_some-find loss_cmp k es) ∙ ap is_some none
-
-  course : Course
-  course = record { detected = r.key.time; recovered = None }
 
   lost_now : course_of (rows ++ q1 ∷ []) k ≡ Some (record { detected = r.key.time; recovered = None })
   lost_now = grind (arith, at_first, not_before, in_named, Contains-append_right, at_none, not_fixed)

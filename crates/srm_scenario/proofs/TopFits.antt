@@ -45,12 +45,6 @@ named_one false true s n = refl
 named_one false false true n = refl
 named_one false false false n = refl
 
-of_three : (t c s p : Bool) → (c || (s || (t || false))) ≡ true → ((t || (c || s)) || p) ≡ true
-of_three true c s p h = refl
-of_three false true s p h = refl
-of_three false false true p h = refl
-of_three false false false p h = absurd (false≢true h)
-
 -- a word that is there is one of a topology that is made of its size, or says that parents are given
 known_word : (v : Version) (d : Data) → is_kind (Word (topologies_in v)) d ≡ true
     → ((is_text (codes "tree") d || (is_text (codes "chain") d || is_text (codes "star") d)) || is_text (codes "parents") d) ≡ true
