@@ -1,22 +1,30 @@
 #!/usr/bin/env python3
-"""Finds lemmas and definitions of proofs/ that nothing names: they say nothing, and take the prover's time and the reader's.
+"""Finds lemmas and definitions of proofs/ that nothing names, and lemmas that stand twice: they take the prover's time and the reader's.
 
 usage: tests/lemmas.py
 
 A word is looked up in the file where it stands, as the prover does: it names what the file declares, or what a `use` line of the file
 brings in. So a lemma of the same name in another file hides nothing. What is named only where it is brought in, in its own text, or by
 what nothing names either, counts as named by nothing. A tactic reads no lemma but those that it is given by name, so there is no other
-way to use one. The goals and invariants of a function (Answers.antt, Invariants.antt) are named by the prover. Ends with status 1 where
+way to use one. The goals and invariants of a function (Answers.antt, Invariants.antt) are named by the prover.
+
+A lemma stands twice where its statement does, but for the names of its variables, in two files that may cite one another: of one crate,
+or of two of which one stands on the other. What a `where` declares is of its clause alone, and is no copy. Ends with status 1 where
 something is found.
 """
 import dataclasses
 import functools
+import itertools
 import pathlib
 import re
 import sys
-from collections.abc import Iterator, Mapping
+from collections.abc import Collection, Iterator, Mapping
 
 TOP = pathlib.Path(__file__).resolve().parent.parent
+sys.path.insert(0, str(TOP / "tools"))
+
+from crates import below, crates_in
+
 PARTS = ("src", "specs", "proofs")
 # a declaration's first line: how far in it stands, whether others may name it, and its name
 DECLARED = re.compile(r"( *)(?:abbrev |unfoldable )?(pub )?([^\W\d][^\s:(){}]*) : ")
@@ -29,6 +37,11 @@ USE = re.compile(r"^ *(?:ghost )?(pub )?(?:ghost )?use ([^\s{;]+?)(?:\.\{([^}]*)
 RUST_PATH = re.compile(r"\w+(?:::\w+)+")
 COMMENT = {".antt": re.compile(r"(?<!\S)--+(?!\S).*"), ".rt": re.compile(r"//.*")}
 WORD = re.compile(r"[^\s(){}\[\],;|`]+")
+# what tells a statement from the type of a function
+STATES = re.compile(r"(?<!\S)[≡≢<≤⊥⊎](?!\S)")
+WORD_OR_SIGN = re.compile(rf"[(){{}}\[\],;|`]|{WORD.pattern}")
+# the variables that a statement binds together, as in `(xs ys : List ℕ)`
+BOUND = re.compile(r"[({]([^(){}:]+) : ")
 NAMED_BY_THE_PROVER = {"Answers.antt", "Invariants.antt"}
 
 ALL_LINES = range(sys.maxsize)
@@ -150,6 +163,7 @@ class Scopes:
     """All files, and what their words name."""
 
     def __init__(self, texts: Mapping[str, str]) -> None:
+        """By the texts of all files, whose paths are theirs below the repository."""
         self.files = [read(path, texts[path]) for path in sorted(texts)]
         self.by_module = {it.module: it for it in self.files}
 
@@ -168,6 +182,21 @@ class Scopes:
         found = (self.find(".".join(path[:at]), path[at]) for at in range(1, len(path)))
         return next(filter(None, found), None)
 
+    def meaning(self, file: File, word: str, variables: Mapping[str, str]) -> str:
+        """A word of a file with what it names in place of itself: two files may mean two things by it, or one thing by two words."""
+        first, *more = word.split(".")
+        if first in variables:
+            first = variables[first]
+        elif place := file.place_of(first, -1):
+            first = "{}:{}".format(*place)
+        elif first in file.items:
+            module, name = file.items[first]
+            place = self.find(module, name)
+            first = "{}:{}".format(*place) if place else name
+        else:
+            first = file.modules.get(first, first)
+        return ".".join([first, *more])
+
     def named_in(self, file: File, at: int) -> Iterator[Place | None]:
         """What the words of a line of a file name."""
         for word in WORD.findall(file.lines[at]):
@@ -178,7 +207,7 @@ class Scopes:
                 yield self.find(*file.items[first])
             elif more:
                 yield self.along([*file.modules.get(first, first).split("."), *more])
-        if not file.declared:
+        if file.path.endswith(".rt"):
             for path in RUST_PATH.findall(file.lines[at]):
                 crate, *more = path.split("::")
                 yield self.along(["Rattle", pathlib.PurePath(file.path).parts[1] if crate == "crate" else crate, *more])
@@ -203,9 +232,8 @@ def used(scopes: Scopes) -> set[Place]:
     return found
 
 
-def unnamed(texts: Mapping[str, str]) -> Iterator[str]:
-    """What nothing names in the files of proofs, by the texts of all files, whose paths are theirs below the repository."""
-    scopes = Scopes(texts)
+def unnamed(scopes: Scopes) -> Iterator[str]:
+    """What nothing names in the files of proofs."""
     of_use = used(scopes)
     for file in scopes.files:
         for it in file.declared:
@@ -213,9 +241,57 @@ def unnamed(texts: Mapping[str, str]) -> Iterator[str]:
                 yield f"{file.path}:{it.first + 1}: nothing names {it.names[0]}"
 
 
+def variables(text: str) -> list[str]:
+    """The variables that a statement binds, in their order."""
+    return [name for names in BOUND.findall(text) for name in names.split()]
+
+
+def in_sections(file: File, it: Declaration, text: str) -> str:
+    """The statement of a declaration, after the parameters of those sections around it of which it names one."""
+    indent = it.indent
+    for at in range(it.first - 1, -1, -1):
+        section = re.match(r"( *)module _ ", file.lines[at])
+        if section and len(section[1]) < indent:
+            indent = len(section[1])
+            header = " ".join(file.lines[at : it.first]).partition(" where")[0].partition(" _ ")[2]
+            named = {word.partition(".")[0] for word in WORD.findall(text)}
+            text = f"{header} {text}" if named.intersection(variables(header)) else text
+    return text
+
+
+def statement(scopes: Scopes, file: File, it: Declaration) -> str | None:
+    """What a lemma states, each word by what it names; none of a definition, and of what stands in a clause."""
+    clause = re.compile(rf" {{{it.indent}}}(?:unfolding |{re.escape(it.names[0])}(?!\S))")
+    end = next((at for at in range(it.first + 1, it.end) if clause.match(file.lines[at])), it.end)
+    first, *others = file.lines[it.first : end]
+    found = DECLARED.match(first)
+    text = " ".join([first[found.end() :], *others]) if found else ""
+    if it.scope != ALL_LINES or first.lstrip().startswith(("abbrev ", "unfoldable ")) or not STATES.search(text):
+        return None
+    whole = in_sections(file, it, text)
+    numbers = {name: f"variable {at}" for at, name in enumerate(dict.fromkeys(variables(whole)))}
+    return " ".join(scopes.meaning(file, word, numbers) for word in WORD_OR_SIGN.findall(whole))
+
+
+def copies(scopes: Scopes, libraries: Mapping[str, Collection[str]]) -> Iterator[str]:
+    """The lemmas that state what another one states that they could cite, by the crates below each."""
+    stated: dict[str, list[tuple[File, Declaration]]] = {}
+    for file in scopes.files:
+        for it in file.declared:
+            if pathlib.PurePath(file.path).parts[2] == "proofs" and (text := statement(scopes, file, it)):
+                stated.setdefault(text, []).append((file, it))
+    for same in stated.values():
+        for (one, first), (other, second) in itertools.combinations(same, 2):
+            a, b = (pathlib.PurePath(file.path).parts[1] for file in (one, other))
+            if one != other and (a == b or a in libraries[b] or b in libraries[a]):
+                yield f"{other.path}:{second.first + 1}: {second.names[0]} is {first.names[0]} of {one.path}:{first.first + 1}"
+
+
 def main() -> None:
     paths = [path for part in PARTS for path in TOP.glob(f"crates/*/{part}/**/*") if path.suffix in (".rt", ".antt")]
-    told = [*unnamed({str(path.relative_to(TOP)): path.read_text(encoding="utf-8") for path in paths})]
+    scopes = Scopes({str(path.relative_to(TOP)): path.read_text(encoding="utf-8") for path in paths})
+    crates = crates_in(TOP)
+    told = [*unnamed(scopes), *copies(scopes, {name: below(crates, name) for name in crates})]
     for line in told:
         print(line, file=sys.stderr)
     sys.exit(bool(told))

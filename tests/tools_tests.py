@@ -8,7 +8,7 @@ import sys
 import tempfile
 import threading
 import unittest
-from collections.abc import Iterable
+from collections.abc import Iterable, Mapping
 from unittest import mock
 
 sys.dont_write_bytecode = True
@@ -455,7 +455,7 @@ class Lemmas(unittest.TestCase):
         """What nothing names in a file of lemmas, beside other files of its folder, and of the code in `Source`."""
         paths = {name: "crates/low/src/lib.rt" if name == "Source" else f"{self.FOLDER}{name}.antt" for name in others}
         texts = {paths[name]: text for name, text in others.items()}
-        return [*lemmas.unnamed({self.FOLDER + "Lemmas.antt": lemmas_of_low, **texts})]
+        return [*lemmas.unnamed(lemmas.Scopes({self.FOLDER + "Lemmas.antt": lemmas_of_low, **texts}))]
 
     def test_what_is_only_brought_in_is_named_by_nothing(self) -> None:
         for other in (self.BROUGHT_IN, self.BROUGHT_IN + "-- as later says\n", "use Rattle.low.proofs.Lemmas\n"):
@@ -508,6 +508,43 @@ class Lemmas(unittest.TestCase):
         user = "use Rattle.low.proofs.Lemmas.{down}\n" + self.RETURNS
         self.assertEqual(self.unnamed(types, Answers=user + "down 0\n"), [])
         self.assertEqual(self.unnamed(types, Answers=user + "up\n"), [self.FOLDER + "Lemmas.antt:1: nothing names Way"])
+
+
+class Copies(unittest.TestCase):
+    LIBRARIES: Mapping[str, list[str]] = {"low": [], "middle": ["low"], "other": []}
+    LEAST = "least : (n m : ℕ) → n ≤ n + m\nleast n m = omega arith\n"
+
+    def copies(self, **texts: str) -> list[str]:
+        """The copies in a file Lemmas.antt of each of some crates, or in another of `low`."""
+        paths = {name: f"crates/{name if name in self.LIBRARIES else 'low'}/proofs/Lemmas{name[3:]}.antt" for name in texts}
+        return [*lemmas.copies(lemmas.Scopes({paths[name]: text for name, text in texts.items()}), self.LIBRARIES)]
+
+    def test_a_statement_stands_twice_with_other_names_too(self) -> None:
+        other = "pub most : (x y : ℕ)\n    → x ≤ x + y\nmost x y = grind arith\n"
+        self.assertEqual(len(self.copies(low=self.LEAST, middle=other)), 1)
+        self.assertEqual(len(self.copies(low=self.LEAST, lowest=other)), 1)
+
+    def test_of_crates_of_which_none_stands_on_the_other_each_has_its_own(self) -> None:
+        self.assertEqual(self.copies(low=self.LEAST, other=self.LEAST), [])
+        self.assertEqual(self.copies(middle=self.LEAST, other=self.LEAST), [])
+
+    def test_other_words_of_the_same_spelling_state_something_else(self) -> None:
+        one, two = ("abbrev size : ℕ → ℕ\nsize n = n{}\n\nmost : (n : ℕ) → size n ≤ n + n\nmost n = omega arith\n".format(it) for it in ("", " + n"))
+        self.assertEqual(self.copies(low=one, middle=two), [])
+        brought_in = "use Rattle.low.proofs.Lemmas.{size}\n" + one.partition("\n\n")[2]
+        self.assertEqual(len(self.copies(low=one.replace("abbrev ", "abbrev pub "), middle=brought_in)), 1)
+
+    def test_parameters_of_a_section_count_where_the_statement_names_one(self) -> None:
+        section, inner = "module _ (k : ℕ) (f : ℕ → ℕ) where\n", "  " + self.LEAST.replace("\nleast", "\n  least")
+        self.assertEqual(len(self.copies(low=self.LEAST, middle=section + inner)), 1)
+        named = inner.replace("n + m", "f n + m")
+        self.assertEqual(self.copies(low=self.LEAST.replace("n + m", "f n + m"), middle=section + named), [])
+        self.assertEqual(len(self.copies(low=section + named, middle=section.replace("k", "l") + named)), 1)
+
+    def test_definitions_functions_and_helpers_are_no_copies(self) -> None:
+        for text in ("abbrev IsLess : ℕ → ℕ → Type 0\nIsLess n m = n < m\n", "twice : ℕ → ℕ\ntwice n = n + n\n",
+                     "all : (n : ℕ) → Type 0\nall n = by n\n  where\n    by : (m : ℕ) → m ≤ m + n\n    by m = omega arith\n"):
+            self.assertEqual(self.copies(low=text, middle=text), [], text)
 
 
 class Architecture(unittest.TestCase):

@@ -18,7 +18,7 @@ use Rattle.srm_model.specs.World.{World, IsReached, after_step, least_event, ope
 use Rattle.srm_model.specs.World.{step_to}
 use Rattle.srm_engine.specs.Outcomes.{HasEnd, AllEnd}
 use Rattle.srm_engine.specs.Seen.{AreCellsInOrder}
-use Rattle.srm_model.proofs.RunLemmas.{run_by, run_first}
+use Rattle.srm_model.proofs.RunLemmas.{run_by, run_first, shifted}
 
 abbrev Kept : PlainCell → Type 0
 Kept c = HasEnd c.holds c.exit
@@ -96,11 +96,8 @@ module _ {M : Type 0} (f : M → Record) where
   all_end_from i (c ∷ cs) [] len each kept = absurd (omega arith)
   all_end_from i (c ∷ cs) (p ∷ ps) len each kept = (
     (i + 0, p, each 0 c p refl refl, kept.0),
-    all_end_from (suc i) cs ps (omega arith) (λ j d q a b. subst (λ k. IsCell f k d q) (shift i j) (each (suc j) d q a b)) kept.1,
+    all_end_from (suc i) cs ps (omega arith) (λ j d q a b. subst (λ k. IsCell f k d q) (shifted i j) (each (suc j) d q a b)) kept.1,
   )
-    where
-      shift : (i j : ℕ) → i + suc j ≡ suc i + j
-      shift i j = omega arith
 
   -- each cell of an engine in a reached world has a member, or the exit of one that left
   pub all_end : (s : Setting) (cs : List (Cell M)) (w : World) → IsReached s w → AreCellsInOrder f cs w.cells → AllEnd f cs

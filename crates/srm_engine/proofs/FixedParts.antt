@@ -19,7 +19,7 @@ use Rattle.srm_engine.specs.Ends.{KeepFixed}
 use Rattle.srm_model.proofs.RunLemmas.{Seq, next, rest, shifted}
 use Rattle.srm_model.proofs.Sequential.{run_seq, step_facts}
 use Rattle.srm_model.proofs.Settled.{each_after}
-use Rattle.srm_engine.proofs.SeenLemmas.{same_some}
+use Rattle.std.proofs.lemmas.Option.{same_Some}
 
 -- ---- a step
 
@@ -69,7 +69,7 @@ module _ (s : Setting) (fit : IsFit s) where
   opening_keeps : (n i j : ℕ) (c : PlainCell) → slice_get (opening_cells s n i) j ≡ Some c → fixed_part c.holds ≡ s.fixed (i + j)
   unfolding opening_cells
   opening_keeps zero i j c h = cc
-  opening_keeps (suc n) i zero c h = ap (λ (b : PlainCell). fixed_part b.holds) (sym (same_some (opening_cell s i) c h))
+  opening_keeps (suc n) i zero c h = ap (λ (b : PlainCell). fixed_part b.holds) (sym (same_Some (opening_cell s i) c h))
       ∙ ap s.fixed (sym (add-zero i))
   opening_keeps (suc n) i (suc j) c h = opening_keeps n (suc i) j c h ∙ ap s.fixed (sym (shifted i j))
 

@@ -90,8 +90,17 @@ here k q m r e a = let b : (r.key.member == m) ≡ true = Rattle.std.proofs.Comm
 
 -- ---- a row of a list, and the rows before it
 
+pub contained_split : {A : Type 0} (xs : List A) (x : A) → Contains xs x → (before : List A) × (after : List A) × (xs ≡ before ++ x ∷ after)
+contained_split [] x h = absurd (contains_none x h)
+contained_split (y ∷ ys) x (zero, l, e) = ([], ys, ap (λ z. z ∷ ys) e)
+contained_split (y ∷ ys) x (suc k, l, e) = let r = contained_split ys x (k, omega arith, e) in (y ∷ r.0, r.1, ap (λ l. y ∷ l) r.2)
+
 abbrev pub IsSplit : List Row → List Row → Row → List Row → Type 0
 IsSplit rows before r after = rows ≡ before ++ r ∷ after
+
+pub no_split : (rows after : List Row) (r : Row) → IsSplit [] rows r after → ⊥
+no_split [] after r e = cc
+no_split (b ∷ rows) after r e = cc
 
 same_head : {A : Type 0} (x y : A) (xs ys : List A) → x ∷ xs ≡ y ∷ ys → x ≡ y
 same_head x y xs ys e = cc

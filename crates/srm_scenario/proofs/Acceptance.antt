@@ -2,7 +2,7 @@
 use Rattle.std.proofs.Common.{◌≡◌, ℕ, ◌+◌, ◌<◌, Bool, true, false, not, cond, List, [], ◌∷◌, ◌++◌, length, map}
 use Rattle.std.proofs.Common.{nat_eq, Ordering, refl, sym, ap, ◌∙◌, subst, arith}
 use Rattle.std.proofs.Common.{inl, inr}
-use Rattle.std.proofs.lemmas.Bool.{cases_Bool, false≢true}
+use Rattle.std.proofs.lemmas.Bool.{cases_Bool, false≢true, or_right}
 use Rattle.std.proofs.lemmas.Bool.Decides.{nat_tests}
 use Rattle.std.proofs.lemmas.List.Elements.{All-from_recursion}
 use Rattle.std.specs.List.{AllByRecursion, IsDistinct}
@@ -144,10 +144,6 @@ none_on until nodes star earlier i (e ∷ es) n taken h =
           p.1,
     )
 
-or_true : (b : Bool) → (b || true) ≡ true
-or_true true = refl
-or_true false = refl
-
 nodes_apart : (until nodes : ℕ) (star : Bool) (earlier : List MemberEntry) (i : ℕ) (es : List MemberEntry)
     → member_faults until nodes star earlier i es ≡ []
     → IsDistinct nat_eq (map (λ k. k.node) (map (λ e. e.spec) es))
@@ -157,7 +153,7 @@ nodes_apart until nodes star earlier i (e ∷ es) h =
     let p = head_faults until nodes star earlier i e es h in
     let self : (e.spec.node == e.spec.node) ≡ true = grind (arith, nat_tests) in
     let here : is_taken (earlier ++ e ∷ []) e.spec.node ≡ true = taken_more earlier e e.spec.node
-    ∙ ap (λ b. is_taken earlier e.spec.node || b) self ∙ or_true (is_taken earlier e.spec.node) in (
+    ∙ ap (λ b. is_taken earlier e.spec.node || b) self ∙ or_right (is_taken earlier e.spec.node) true refl in (
       none_on until nodes star (earlier ++ e ∷ []) (i + 1) es e.spec.node here p.1,
       nodes_apart until nodes star (earlier ++ e ∷ []) (i + 1) es p.1,
     )
