@@ -8,7 +8,7 @@ import sys
 import tempfile
 import threading
 import unittest
-from collections.abc import Iterable
+from collections.abc import Iterable, Mapping
 from unittest import mock
 
 sys.dont_write_bytecode = True
@@ -446,27 +446,105 @@ class Lemmas(unittest.TestCase):
     FOLDER = "crates/low/proofs/"
     NEXT = "-- the one after\nabbrev pub next : ℕ → ℕ\nnext n = n + 1\n"
     LATER = "pub later : (n : ℕ)\n    → n < next n\nunfolding next\nlater n = grind (\n  arith\n)\n"
+    BOTH = NEXT + "\n" + LATER
+    TOLD = [FOLDER + "Lemmas.antt:2: nothing names next", FOLDER + "Lemmas.antt:5: nothing names later"]
+    BROUGHT_IN = "use Rattle.low.proofs.Lemmas.{later}\n"
+    RETURNS = "pub returns : goal.returns\nreturns c = "
 
     def unnamed(self, lemmas_of_low: str, **others: str) -> list[str]:
-        """What nothing names in a file of lemmas, beside other files of its folder."""
-        texts = {f"{name}.antt": text for name, text in others.items()}
-        return [*lemmas.unnamed({self.FOLDER + name: text for name, text in {"Lemmas.antt": lemmas_of_low, **texts}.items()})]
+        """What nothing names in a file of lemmas, beside other files of its folder, and of the code in `Source`."""
+        paths = {name: "crates/low/src/lib.rt" if name == "Source" else f"{self.FOLDER}{name}.antt" for name in others}
+        texts = {paths[name]: text for name, text in others.items()}
+        return [*lemmas.unnamed(lemmas.Scopes({self.FOLDER + "Lemmas.antt": lemmas_of_low, **texts}))]
 
     def test_what_is_only_brought_in_is_named_by_nothing(self) -> None:
-        told = self.unnamed(self.NEXT + "\n" + self.LATER, Others="use Rattle.low.proofs.Lemmas.{later}\n")
-        self.assertEqual(told, [self.FOLDER + "Lemmas.antt:5: nothing names later"])
+        for other in (self.BROUGHT_IN, self.BROUGHT_IN + "-- as later says\n", "use Rattle.low.proofs.Lemmas\n"):
+            self.assertEqual(self.unnamed(self.BOTH, Answers=other), self.TOLD)
 
-    def test_what_an_answer_a_clause_or_another_lemma_names_is_kept(self) -> None:
-        for user in ("pub returns : goal.returns\nreturns c = later c.args.n\n", "ensures { low.later n }\n"):
-            self.assertEqual(self.unnamed(self.NEXT + "\n" + self.LATER, Answers=user), [])
+    def test_what_an_answer_or_a_clause_names_is_kept_with_what_it_names_itself(self) -> None:
+        for user in (self.BROUGHT_IN + self.RETURNS + "later c.args.n\n",
+                     "use Rattle.low.proofs.Lemmas.{next, later as after}\n" + self.RETURNS + "grind (arith, after)\n",
+                     "use Rattle.low.proofs.Lemmas\n" + self.RETURNS + "Lemmas.later c.args.n\n",
+                     "use Rattle.low.proofs.Lemmas as lemma\n" + self.RETURNS + "(lemma.later c.args.n)\n",
+                     self.RETURNS + "Rattle.low.proofs.Lemmas.later c.args.n\n"):
+            self.assertEqual(self.unnamed(self.BOTH, Answers=user), [], user)
+        for user in ("ghost use Rattle.low.proofs.Lemmas.{\n    later,\n};\nensures { later n }\n",
+                     "#[tactic(auto, using(crate::proofs::Lemmas::later))]\n"):
+            self.assertEqual(self.unnamed(self.BOTH, Source=user), [], user)
+
+    def test_what_another_file_passes_on_is_named_through_it(self) -> None:
+        user = "use Rattle.low.proofs.Others.{later}\n" + self.RETURNS + "later c.args.n\n"
+        self.assertEqual(self.unnamed(self.BOTH, Others="pub " + self.BROUGHT_IN, Answers=user), [])
+        self.assertEqual(self.unnamed(self.BOTH, Others=self.BROUGHT_IN, Answers=user), self.TOLD)
+
+    def test_a_lemma_of_the_same_name_elsewhere_hides_nothing(self) -> None:
+        other = "use Rattle.low.proofs.Others.{later}\n" + self.RETURNS + "later c.args.n\n"
+        self.assertEqual(self.unnamed(self.BOTH, Others=self.BOTH, Answers=other), self.TOLD)
+        self.assertEqual(self.unnamed(self.BOTH, Answers=self.LATER + self.RETURNS + "later c.args.n\n"), self.TOLD)
+
+    def test_what_only_something_names_that_nothing_names_is_told(self) -> None:
+        least = "pub least : 0 < next 0\nleast = later 0\n"
+        told = self.unnamed(self.BOTH + "\n" + least)
+        self.assertEqual([line.rpartition(" ")[2] for line in told], ["next", "later", "least"])
 
     def test_a_name_in_its_own_clauses_is_none(self) -> None:
-        own = "sum : List ℕ → ℕ\nsum [] = 0\nsum (x ∷ xs) = x + sum xs\n\nzero_is : sum [] ≡ 0\nzero_is = refl\n"
-        self.assertEqual(self.unnamed(own), [self.FOLDER + "Lemmas.antt:5: nothing names zero_is"])
-        self.assertEqual(self.unnamed(own.partition("\n\n")[0]), [self.FOLDER + "Lemmas.antt:1: nothing names sum"])
+        own = "sum : List ℕ → ℕ\nsum [] = 0\nsum (x ∷ xs) = x + sum xs\n"
+        self.assertEqual(self.unnamed(own), [self.FOLDER + "Lemmas.antt:1: nothing names sum"])
 
-    def test_fields_of_a_record_are_no_lemmas(self) -> None:
-        self.assertEqual(self.unnamed("record pub Both : Type 0 where\n  field\n    first : ℕ\n    second : ℕ\n"), [])
+    def test_a_helper_is_seen_by_its_clause_alone(self) -> None:
+        helper = "  where\n    by : (n : ℕ) → n < suc n\n    by n = omega arith\n"
+        first, second = "pub returns : goal.returns\nreturns zero = by 0\n", "returns (suc n) = by n\n"
+        self.assertEqual(self.unnamed("", Answers=first + helper + second + helper), [])
+        told = self.unnamed("", Answers=first + helper + second.replace("by", "omega") + helper)
+        self.assertEqual(told, [self.FOLDER + "Answers.antt:8: nothing names by"])
+
+    def test_a_helper_of_an_answer_is_not_named_by_the_prover(self) -> None:
+        self.assertEqual(self.unnamed("", Answers=self.LATER.replace("pub ", "")), [self.FOLDER + "Answers.antt:1: nothing names later"])
+
+    def test_a_record_is_named_by_its_name_and_a_type_by_a_constructor_too(self) -> None:
+        record = "pub record Both : Type 0 where\n  first : ℕ\n  second : ℕ\n"
+        self.assertEqual(self.unnamed(record), [self.FOLDER + "Lemmas.antt:1: nothing names Both"])
+        types = "pub data Way : Type 0 where\n  up : Way\n  down : ℕ → Way\n"
+        user = "use Rattle.low.proofs.Lemmas.{down}\n" + self.RETURNS
+        self.assertEqual(self.unnamed(types, Answers=user + "down 0\n"), [])
+        self.assertEqual(self.unnamed(types, Answers=user + "up\n"), [self.FOLDER + "Lemmas.antt:1: nothing names Way"])
+
+
+class Copies(unittest.TestCase):
+    LIBRARIES: Mapping[str, list[str]] = {"low": [], "middle": ["low"], "other": []}
+    LEAST = "least : (n m : ℕ) → n ≤ n + m\nleast n m = omega arith\n"
+
+    def copies(self, **texts: str) -> list[str]:
+        """The copies in a file Lemmas.antt of each of some crates, or in another of `low`."""
+        paths = {name: f"crates/{name if name in self.LIBRARIES else 'low'}/proofs/Lemmas{name[3:]}.antt" for name in texts}
+        return [*lemmas.copies(lemmas.Scopes({paths[name]: text for name, text in texts.items()}), self.LIBRARIES)]
+
+    def test_a_statement_stands_twice_with_other_names_too(self) -> None:
+        other = "pub most : (x y : ℕ)\n    → x ≤ x + y\nmost x y = grind arith\n"
+        self.assertEqual(len(self.copies(low=self.LEAST, middle=other)), 1)
+        self.assertEqual(len(self.copies(low=self.LEAST, lowest=other)), 1)
+
+    def test_of_crates_of_which_none_stands_on_the_other_each_has_its_own(self) -> None:
+        self.assertEqual(self.copies(low=self.LEAST, other=self.LEAST), [])
+        self.assertEqual(self.copies(middle=self.LEAST, other=self.LEAST), [])
+
+    def test_other_words_of_the_same_spelling_state_something_else(self) -> None:
+        one, two = ("abbrev size : ℕ → ℕ\nsize n = n{}\n\nmost : (n : ℕ) → size n ≤ n + n\nmost n = omega arith\n".format(it) for it in ("", " + n"))
+        self.assertEqual(self.copies(low=one, middle=two), [])
+        brought_in = "use Rattle.low.proofs.Lemmas.{size}\n" + one.partition("\n\n")[2]
+        self.assertEqual(len(self.copies(low=one.replace("abbrev ", "abbrev pub "), middle=brought_in)), 1)
+
+    def test_parameters_of_a_section_count_where_the_statement_names_one(self) -> None:
+        section, inner = "module _ (k : ℕ) (f : ℕ → ℕ) where\n", "  " + self.LEAST.replace("\nleast", "\n  least")
+        self.assertEqual(len(self.copies(low=self.LEAST, middle=section + inner)), 1)
+        named = inner.replace("n + m", "f n + m")
+        self.assertEqual(self.copies(low=self.LEAST.replace("n + m", "f n + m"), middle=section + named), [])
+        self.assertEqual(len(self.copies(low=section + named, middle=section.replace("k", "l") + named)), 1)
+
+    def test_definitions_functions_and_helpers_are_no_copies(self) -> None:
+        for text in ("abbrev IsLess : ℕ → ℕ → Type 0\nIsLess n m = n < m\n", "twice : ℕ → ℕ\ntwice n = n + n\n",
+                     "all : (n : ℕ) → Type 0\nall n = by n\n  where\n    by : (m : ℕ) → m ≤ m + n\n    by m = omega arith\n"):
+            self.assertEqual(self.copies(low=text, middle=text), [], text)
 
 
 class Architecture(unittest.TestCase):

@@ -1,6 +1,6 @@
 -- Whose events a cell's are, what a cell hears, and events before an end.
-use Rattle.std.proofs.Common.{◌≡◌, ℕ, ◌≤◌, Bool, true, false, List, [], ◌∷◌, refl, sym, ap, subst, ◌≢◌, arith}
-use Rattle.std.proofs.Common.{Equal, nat_lt, Option, Some, None}
+use Rattle.std.proofs.Common.{◌≡◌, ℕ, ◌≤◌, Bool, true, false, List, [], ◌∷◌, refl, sym, subst, ◌≢◌, arith}
+use Rattle.std.proofs.Common.{nat_lt, Option, Some, None}
 use Rattle.std.proofs.Common.{◌<◌}
 use Rattle.std.specs.Cmp.{IsTotalOrder, on_total}
 use Rattle.std.specs.Cmp.Lexicographic.{nat_list_cmp_total}
@@ -17,7 +17,6 @@ use Rattle.srm_member.specs.declared.cause.Cause.{Cause}
 use Rattle.srm_member.specs.declared.due.Due.{Due}
 use Rattle.srm_net.specs.declared.packet.Packet.{Packet}
 use Rattle.srm_scenario.specs.declared.mark.Mark.{Mark}
-use Rattle.srm_net.proofs.Basics.{same_numbers, nth_number}
 
 -- ---- whose events a cell's are
 
@@ -82,10 +81,6 @@ own_step_is end m c d e = subst (IsStepOf m) e (own_step_of end m c)
 
 pub flight_total : IsTotalOrder flight_cmp
 flight_total = on_total numbers_of_flight nat_list_cmp_total
-
-apart_flights : (f g : Flight) → f.packet.id.sender ≢ g.packet.id.sender → flight_cmp f g ≢ Equal
-unfolding nth_number
-apart_flights f g ne e = ne (ap (nth_number 1) (same_numbers (numbers_of_flight f) (numbers_of_flight g) e))
 
 hear_at_comm : (p q : Packet) (a b : Option ℕ) (c : PlainCell) → p.id.sender ≢ q.id.sender → hear_at p a (hear_at q b c)
     ≡ hear_at q b (hear_at p a c)

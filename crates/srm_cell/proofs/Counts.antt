@@ -1,6 +1,6 @@
 -- A step at a tick leaves fewer events pending at that tick.
 use Rattle.std.proofs.Common.{◌≡◌, ℕ, suc, ◌<◌, ◌≤◌, ◌+◌, List, [], ◌∷◌, map, refl, sym, ap, ◌∙◌, subst, ◌⊎◌}
-use Rattle.std.proofs.Common.{inl, inr, arith, Option, Some, None, eq-eqb, ◌==◌}
+use Rattle.std.proofs.Common.{inl, inr, arith, Option, Some, None, eq-eqb}
 use Rattle.srm_cell.proofs.CellLemmas.{first_timer, next_event_is}
 use Rattle.srm_cell.proofs.Rising.{Above, OnEvent, OnStep, earlier_on}
 use Rattle.srm_cell.specs.Cells.{Done, Event, PlainCell, Stepped, cause_of_timer, first_arrival}
@@ -18,7 +18,6 @@ use Rattle.srm_member.specs.declared.due.Due.{Due}
 use Rattle.srm_net.specs.declared.key.Key.{Key}
 use Rattle.srm_net.specs.declared.packet.Name.{Name}
 use Rattle.srm_scenario.specs.declared.mark.Mark.{Mark}
-use Rattle.srm_net.proofs.Basics.{one_if}
 
 -- ---- what the next event takes from a cell
 
@@ -26,9 +25,6 @@ abbrev pub Taken : PlainCell → Event → Type 0
 Taken c e =
     ((e.rest.holds ≡ c.holds) × (untimed_at e.key.time c ≡ suc (untimed_at e.key.time e.rest)))
     ⊎ ((e.rest ≡ c) × ((d : Due) × In d (timers c.holds) × (d.time ≡ e.key.time) × (e.cause ≡ Some (cause_of_timer d.rank d.name))))
-
-one_here : (t : ℕ) → one_if (t == t) ≡ 1
-one_here t = ap one_if (eq-eqb t t refl)
 
 arrival_taken : (m : ℕ) (c : PlainCell) (fs : List Flight) → c.inbox ≡ fs → OnEvent (Taken c) (first_arrival m c fs)
 arrival_taken m c fs h = grind arith

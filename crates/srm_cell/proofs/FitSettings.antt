@@ -1,6 +1,6 @@
 -- The setting of an accepted scenario is fit.
-use Rattle.std.proofs.Common.{◌≡◌, ◌≢◌, ℕ, ◌<◌, List, [], ◌∷◌, refl, sym, ap, ◌∙◌, subst, arith, Some, None}
-use Rattle.std.proofs.Common.{unwrap_or, length, slice_get, Ordering, Less, Greater}
+use Rattle.std.proofs.Common.{◌≡◌, ℕ, ◌<◌, List, [], ◌∷◌, refl, sym, ap, ◌∙◌, subst, arith, Some, None}
+use Rattle.std.proofs.Common.{unwrap_or, length, slice_get, Less}
 use Rattle.std.proofs.lemmas.List.{length-map}
 use Rattle.std.proofs.lemmas.Option.{slice_get-get_or}
 use Rattle.srm_net.specs.Orders.{Ascends, AllAfter}
@@ -25,9 +25,6 @@ module _ (until : ℕ) (k : MemberSpec) where
   ranks_of : (xs : List Mark) → AllIn (IsMark until k) xs → HasOwnRanks xs
   ranks_of [] h = tt
   ranks_of (x ∷ xs) h = (h.0.rank, ranks_of xs h.1)
-
-  not_greater : (r : Ordering) → r ≡ Less → r ≢ Greater
-  not_greater r e g = let x : Less ≡ Greater = sym e ∙ g in let y : ⊥ = cc in y
 
   -- no mark of the member comes after its leave
   after_leave : (x y : Mark) → IsMark until k x → IsMark until k y → x.rank ≡ 6 → mark_cmp x y ≡ Less → ⊥

@@ -7,7 +7,7 @@ use Rattle.srm_member.specs.declared.cause.Cause.{Cause}
 use Rattle.srm_member.specs.declared.row.Row.{Row}
 use Rattle.srm_member.specs.Record.{Record}
 use Rattle.srm_cell.specs.declared.cell.Cell.{Cell}
-use Rattle.srm_cell.specs.Cells.{PlainCell, Event, StepOutcome, Full, Done, Stepped, before, handle, next_event, own_step}
+use Rattle.srm_cell.specs.Cells.{PlainCell, Event, StepOutcome, Done, Stepped, before, handle, next_event, own_step}
 use Rattle.srm_cell.specs.Cells.{step_at}
 use Rattle.srm_cell.specs.OwnRuns.{own_rows}
 use Rattle.srm_cell.specs.Crossings.{packets_of, joined}
@@ -29,10 +29,6 @@ Counts before (Some p) after = (before < most_sent) × (after ≡ suc before)
 
 abbrev CountsFrom : ℕ → StepOutcome Stepped → Type 0
 CountsFrom n = OnStep (λ d. Counts n d.row.sent d.cell.sent)
-
-counts_by : (n : ℕ) (b : Bool) (x : Stepped) → (b ≡ true → Counts n x.row.sent x.cell.sent) → CountsFrom n (cond b (Done x) Full)
-counts_by n true x h = h refl
-counts_by n false x h = tt
 
 counts_handle : (e : Event) (holds : Record) (cause : Option Cause) → CountsFrom e.rest.sent (handle e holds cause)
 unfolding handle

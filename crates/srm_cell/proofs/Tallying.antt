@@ -1,6 +1,6 @@
 -- Packets counted by whether they went everywhere.
 use Rattle.std.proofs.Common.{◌≡◌, ℕ, zero, suc, ◌+◌, ◌*◌, ◌<◌, ◌≤◌, ◌^◌, Bool, true, false, cond, ◌&&◌, ◌==◌, List, [], ◌∷◌, ◌++◌}
-use Rattle.std.proofs.Common.{length, refl, sym, ap, ◌∙◌, subst, slice_index, slice_set, nat_lt, lt-ltb, le-ltb, arith, add-zero}
+use Rattle.std.proofs.Common.{length, refl, sym, ap, ◌∙◌, subst, slice_index, nat_lt, lt-ltb, le-ltb, arith, add-zero}
 use Rattle.std.proofs.Common.{zero-add, le_refl, length-append}
 use Rattle.std.specs.List.{flat_map, range_with_len}
 use Rattle.std.proofs.lemmas.List.{get_or-set_other}
@@ -126,12 +126,6 @@ one_more_everywhere e j k = grind arith
 
 -- ---- the numbers of all put together, link by link
 
--- a number put besides another at a later link leaves the five numbers of the first link ms they are
-skip : (v j i : ℕ) (a0 a1 a2 a3 a4 : ℕ) (t : List ℕ)
-    → slice_set (a0 ∷ a1 ∷ a2 ∷ a3 ∷ a4 ∷ t) (5 * suc j + i) (slice_index (a0 ∷ a1 ∷ a2 ∷ a3 ∷ a4 ∷ t) (5 * suc j + i) + v)
-    ≡ a0 ∷ a1 ∷ a2 ∷ a3 ∷ a4 ∷ slice_set t (5 * j + i) (slice_index t (5 * j + i) + v)
-skip v j i a0 a1 a2 a3 a4 t = grind arith
-
 skip_all : (e : Everywhere) (j : ℕ) (a0 a1 a2 a3 a4 : ℕ) (t : List ℕ) → with_everywhere e (suc j) (a0 ∷ a1 ∷ a2 ∷ a3 ∷ a4 ∷ t)
     ≡ a0 ∷ a1 ∷ a2 ∷ a3 ∷ a4 ∷ with_everywhere e j t
 skip_all e j a0 a1 a2 a3 a4 t = grind arith
@@ -191,10 +185,6 @@ module _ (s : Traffic) (net : Network) (e : Everywhere) (some : List Packet) whe
   here : (l : ℕ) (t : List ℕ) → joins_members net l ≡ true → with_everywhere e 0 (five false l ++ t) ≡ five true l ++ t
   here l t h = rw h (simp add-zero)
 
-  -- and at one that is not
-  same : (l : ℕ) (t : List ℕ) → joins_members net l ≡ false → five false l ++ t ≡ five true l ++ t
-  same l t h = rw h (simp add-zero)
-
   before : (b : Bool) (l j : ℕ) (t : List ℕ) → with_everywhere e (suc j) (five b l ++ t) ≡ five b l ++ with_everywhere e j t
   before false l j t = skip_all e j (crossed s kind.Drawop l some) (crossed s kind.Request l some) (crossed s kind.Repair l some)
       (crossed s kind.Session l some) (dropped s l some) t
@@ -225,25 +215,6 @@ module _ (s : Traffic) (net : Network) (e : Everywhere) (some : List Packet) whe
       ∙ before true l j (put_below (l + suc j) (l + 1) n)
       ∙ ap (λ t. five true l ++ t) (ap (λ m. with_everywhere e j (put_below m (l + 1) n)) q
       ∙ more (l + 1) j n (omega arith) (sym (ap (joins_members net) q) ∙ h) ∙ ap (λ m. put_below (m + 1) (l + 1) n) (sym q))
-      ∙ ap (λ b. five b l ++ put_below (l + suc j + 1) (l + 1) n) (sym now)
-
-  none_more : (l j n : ℕ) → j < n → joins_members net (l + j) ≡ false → put_below (l + j) l n ≡ put_below (l + j + 1) l n
-  none_more l j zero lt h = absurd (omega arith)
-  none_more l zero (suc n) lt h =
-      let q : l + 0 ≡ l = omega arith in
-      ap (λ m. put_below m l (suc n)) q
-      ∙ ap (λ b. five b l ++ put_below l (l + 1) n) (le-ltb l l (le_refl l))
-      ∙ ap (λ t. five false l ++ t) (none_put l (l + 1) n (omega arith))
-      ∙ same l (flat (l + 1) n) (sym (ap (joins_members net) q) ∙ h)
-      ∙ sym (ap (λ b. five b l ++ put_below (l + 0 + 1) (l + 1) n) (lt-ltb l (l + 0 + 1) (omega arith))
-      ∙ ap (λ t. five true l ++ t) (none_put (l + 0 + 1) (l + 1) n (omega arith)))
-  none_more l (suc j) (suc n) lt h =
-      let q : l + suc j ≡ l + 1 + j = omega arith in
-      let was : nat_lt l (l + suc j) ≡ true = lt-ltb l (l + suc j) (omega arith) in
-      let now : nat_lt l (l + suc j + 1) ≡ true = lt-ltb l (l + suc j + 1) (omega arith) in
-      ap (λ b. five b l ++ put_below (l + suc j) (l + 1) n) was
-      ∙ ap (λ t. five true l ++ t) (ap (λ m. put_below m (l + 1) n) q
-      ∙ none_more (l + 1) j n (omega arith) (sym (ap (joins_members net) q) ∙ h) ∙ ap (λ m. put_below (m + 1) (l + 1) n) (sym q))
       ∙ ap (λ b. five b l ++ put_below (l + suc j + 1) (l + 1) n) (sym now)
 
   -- a number of a link that is yet to be put together is that of the packets that were stopped

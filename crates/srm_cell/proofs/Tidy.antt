@@ -1,5 +1,5 @@
 -- Cells whose inboxes and scripts are in order, and what the least event says of them.
-use Rattle.std.proofs.Common.{◌≡◌, ℕ, ◌<◌, ◌≤◌, ◌+◌, Bool, true, false, cond, not, List, [], ◌∷◌, refl, sym, ap, ◌∙◌, subst, ◌≢◌}
+use Rattle.std.proofs.Common.{◌≡◌, ℕ, ◌<◌, ◌≤◌, ◌+◌, true, List, [], ◌∷◌, sym, ap, ◌∙◌, subst, ◌≢◌}
 use Rattle.std.proofs.Common.{arith, Ordering, Less, Equal, Greater, Option, Some, None, is_lt}
 use Rattle.srm_cell.proofs.CellLemmas.{first_le, first_timer, next_event_is}
 use Rattle.srm_cell.proofs.CellSteps.{flight_total}
@@ -151,14 +151,6 @@ tidy_told s None m c t = t
 tidy_told s (Some p) m c t = tidy_hear_at p (arrival_of s p m) c t
 
 -- ---- what a packet's arrival is
-
-if_some : (b : Bool) (n at : ℕ) → cond b (Some n) None ≡ Some at → (b ≡ true) × (n ≡ at)
-if_some true n at h = (refl, cc)
-if_some false n at h = cc
-
-not_true : (b : Bool) → not b ≡ true → b ≡ false
-not_true true h = cc
-not_true false h = refl
 
 -- a packet reaches another member after the distance to it
 pub arrival_is : (s : Traffic) (p : Packet) (m at : ℕ) → arrival_of s p m ≡ Some at → (m < s.members) × (m ≢ p.id.sender)

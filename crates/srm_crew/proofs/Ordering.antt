@@ -14,6 +14,8 @@ use Rattle.srm_crew.specs.Passes.{PassView, RefusesEmpty}
 use Rattle.srm_interfaces.specs.Crews.{HasGrown}
 use Rattle.srm_crew.specs.Shared.{HoldsAt, sum_of, InOrder, ComeOf, Worked}
 use Rattle.srm_crew.proofs.Peeling.{once_length, sum_same}
+use Rattle.std.proofs.lemmas.Option.{same_Some}
+use Rattle.srm_net.proofs.Lists.{below_get}
 
 -- ---- places, each once
 
@@ -50,14 +52,6 @@ place_of (q ∷ qs) p h = dite (ℕ_discrete p q)
 -- ---- lists
 
 module _ {A : Type 0} where
-  same_some : (x y : A) → Some x ≡ Some y → x ≡ y
-  same_some x y e = cc
-
-  get_there : (l : List A) (k : ℕ) → k < length l → (a : A) × (slice_get l k ≡ Some a)
-  get_there [] k lt = absurd (omega arith)
-  get_there (x ∷ xs) zero lt = (x, refl)
-  get_there (x ∷ xs) (suc k) lt = get_there xs k (omega arith)
-
   get_middle : (xs ys : List A) (a : A) → slice_get ((xs ++ a ∷ []) ++ ys) (length xs) ≡ Some a
   get_middle [] ys a = refl
   get_middle (x ∷ xs) ys a = get_middle xs ys a
@@ -180,7 +174,7 @@ module _ {D : Type 0} where
       ∙ ap (λ n. n + length more) (length-append (map (λ (x : D). Some x) vs) (slot ∷ [])) in
       let f = full m (omega (arith, long)) in
       let here : slice_get slots m ≡ Some slot = ap (λ l. slice_get l m) parts ∙ get_middle (map (λ (x : D). Some x) vs) more slot in
-      (f.0, same_some slot (Some f.0) (sym here ∙ f.1))
+      (f.0, same_Some slot (Some f.0) (sym here ∙ f.1))
 
   pub all_full : (places : List ℕ) (all : List D) (slots : List (Option D)) → EachOnce places (length all) → length places ≡ length all
       → FilledFrom places all 0 slots
@@ -189,7 +183,7 @@ module _ {D : Type 0} where
       let o = once.0 p lt in
       let k = place_of places p (omega (arith, o)) in
       let near = k.1 in
-      let d = get_there all k.0 (omega (arith, near, many)) in (
+      let d = below_get all k.0 (omega (arith, near, many)) in (
         d.0,
         subst (λ (q : ℕ). slice_get slots q ≡ Some (Some d.0)) k.2
             (filled k.0 (omega arith) (omega (arith, near, many)) ∙ ap (λ o. Some o) d.1),

@@ -1,5 +1,5 @@
 -- What comes of items at places, each taken once at most, seen item by item.
-use Rattle.std.proofs.Common.{◌≡◌, ◌≢◌, ◌≤◌, ◌⊎◌, ℕ, zero, suc, ◌+◌, cond, ◌==◌, List, [], ◌∷◌, length, Some, refl, sym, ap, ◌∙◌, subst}
+use Rattle.std.proofs.Common.{◌≡◌, ◌≢◌, ◌≤◌, ◌⊎◌, ℕ, zero, suc, ◌+◌, cond, ◌==◌, List, [], ◌∷◌, length, refl, sym, ap, ◌∙◌, subst}
 use Rattle.std.proofs.Common.{inl, inr, ⊎_elim, arith, eq-eqb, ne_eqb, lt_of_not-le}
 use Rattle.std.specs.List.{AllZip}
 use mathlib.Core.Logic.{dite}
@@ -7,6 +7,7 @@ use native.Mathlib.Decide.{ℕ_discrete, dec_le}
 use Rattle.srm_crew.specs.Places.{times, EachOnce}
 use Rattle.srm_interfaces.specs.Crews.{counted_in}
 use Rattle.srm_crew.specs.Shared.{HoldsAt, sum_of}
+use Rattle.std.proofs.lemmas.Option.{same_Some}
 
 -- ---- places
 
@@ -56,9 +57,6 @@ once_length (suc n) ps once =
 
 -- ---- what comes of the items
 
-some_is : {A : Type 0} (x y : A) → Some x ≡ Some y → x ≡ y
-some_is x y e = cc
-
 module _ {T D : Type 0} (Q : T → D → Type 0) (numbers : D → List ℕ) where
   -- without the first item
   pub record Peeled (x : T) (xs : List T) (ps : List ℕ) (ds : List D) : Type 0 where
@@ -87,7 +85,7 @@ module _ {T D : Type 0} (Q : T → D → Type 0) (numbers : D → List ℕ) wher
         first = inr (
           omega (arith, one, none),
           d,
-          subst (λ y. Q y d) (sym (some_is x z.0.0 z.0.1)) z.0.2,
+          subst (λ y. Q y d) (sym (same_Some x z.0.0 z.0.1)) z.0.2,
           λ k. let e = same k in
               omega (arith, e),
         );

@@ -9,10 +9,11 @@ use Rattle.srm_engine.specs.Seen.{AreTimes}
 use Rattle.srm_model.specs.Windows.{least_with}
 use Rattle.srm_model.specs.WindowChains.{start_of}
 use Rattle.srm_engine.specs.Soonest.{IsLeast, due}
-use Rattle.srm_engine.proofs.SoonLemmas.{Any, with_in, with_one, least_is_one}
+use Rattle.srm_engine.proofs.SoonLemmas.{Any, with_one, least_is_one}
 use Rattle.srm_engine.proofs.Stepping.{time_and_member, least_is_event}
-use Rattle.srm_engine.proofs.SeenLemmas.{same_some}
 use Rattle.srm_model.proofs.Lookahead.{least_with_le}
+use Rattle.std.proofs.lemmas.Option.{same_Some}
+use Rattle.srm_model.proofs.Lookahead.{least_with_in}
 
 abbrev least_among : ℕ → ℕ → List PlainCell → ℕ
 least_among n i [] = n
@@ -30,7 +31,7 @@ get_time : (i : ℕ) (cs : List PlainCell) (j : ℕ) (c : PlainCell) → slice_g
     ≡ Some (time_of (next_event (i + j) c))
 get_time i [] j c h = cc
 get_time i (x ∷ cs) zero c h = ap (λ k. Some (time_of (next_event k x))) (sym (add-zero i))
-    ∙ ap (λ y. Some (time_of (next_event (i + 0) y))) (same_some x c h)
+    ∙ ap (λ y. Some (time_of (next_event (i + 0) y))) (same_Some x c h)
 get_time i (x ∷ cs) (suc j) c h = let e : suc i + j ≡ i + suc j = omega arith in get_time (suc i) cs j c h
     ∙ ap (λ k. Some (time_of (next_event k c))) e
 
@@ -72,7 +73,7 @@ among_none_less n i [] j c u h e = cc
 among_none_less n i (x ∷ cs) zero c u h e =
     let here : i + 0 ≡ i = omega arith in
     let most = among_most (least_with n (due i x)) (suc i) cs in
-    let le = with_in n u (due i x) (ap (due i) (same_some x c h) ∙ ap (λ m. due m c) (sym here) ∙ e) in
+    let le = least_with_in n u (due i x) (ap (due i) (same_Some x c h) ∙ ap (λ m. due m c) (sym here) ∙ e) in
     omega arith
 among_none_less n i (x ∷ cs) (suc j) c u h e =
     let at : suc i + j ≡ i + suc j = omega arith in among_none_less (least_with n (due i x)) (suc i) cs j c u h (ap (λ m. due m c) at ∙ e)

@@ -14,7 +14,7 @@ use Rattle.srm_cell.specs.Jobs as cell
 use Rattle.srm_engine.specs.Seen.{AreCellsInOrder}
 use Rattle.srm_engine.specs.Groups.{numbered, AreCuts, AreFull, sizes, all_in}
 use Rattle.srm_model.proofs.RunLemmas.{shifted}
-use Rattle.srm_engine.proofs.SeenLemmas.{same_some}
+use Rattle.std.proofs.lemmas.Option.{same_Some}
 
 module _ {M : Type 0} (f : M → Record) where
   -- the cells are those of member i and on
@@ -43,7 +43,7 @@ module _ {M : Type 0} (f : M → Record) where
   each_from i [] (q ∷ ps) h j c p a b = absurd h
   each_from i (x ∷ cs) [] h j c p a b = absurd h
   each_from i (x ∷ cs) (q ∷ ps) h zero c p a b =
-      let one : IsCell f i c p = subst (λ y. IsCell f i y p) (same_some x c a) (subst (λ y. IsCell f i x y) (same_some q p b) h.0) in
+      let one : IsCell f i c p = subst (λ y. IsCell f i y p) (same_Some x c a) (subst (λ y. IsCell f i x y) (same_Some q p b) h.0) in
       rw add-zero one
   each_from i (x ∷ cs) (q ∷ ps) h (suc j) c p a b = subst (λ k. IsCell f k c p) (sym (shifted i j)) (each_from (suc i) cs ps h.1 j c p a b)
 
@@ -56,11 +56,6 @@ module _ {M : Type 0} (f : M → Record) where
     each =
         λ j c p a b. subst (λ k. IsCell f k c p) (zero-add j) (each_from 0 cs ps h j c p a b);
   }
-
-  there : (ps : List PlainCell) (j : ℕ) → j < length ps → (p : PlainCell) × (slice_get ps j ≡ Some p)
-  there [] j lt = absurd (omega arith)
-  there (p ∷ ps) zero lt = (p, refl)
-  there (p ∷ ps) (suc j) lt = there ps j (omega arith)
 
   -- ---- some cells and others after them
 

@@ -1,16 +1,14 @@
 -- A member that is gone has left its exit.
 use Rattle.std.proofs.Common.{◌≡◌, ℕ, zero, suc, ◌+◌, Bool, true, false, cond, List, [], ◌∷◌, ◌==◌, length, Option, Some, None}
-use Rattle.std.proofs.Common.{Err, refl, sym, ap, ◌∙◌, subst, slice_get, nat_lt, le_refl, arith, zero-add}
-use Rattle.srm_net.specs.declared.packet.Body.{Body}
+use Rattle.std.proofs.Common.{Err, refl, sym, ap, ◌∙◌, subst, slice_get, le_refl, arith, zero-add}
 use Rattle.srm_net.specs.declared.packet.Packet.{Packet}
 use Rattle.srm_member.specs.declared.cause.Cause.{Cause}
 use Rattle.srm_member.specs.declared.exit.Exit.{Exit}
 use Rattle.srm_member.specs.Record.{Record, Active, Gone}
-use Rattle.srm_member.specs.React.{Reaction}
 use Rattle.srm_member.proofs.AllIn.{AllIn}
 use Rattle.srm_cell.specs.declared.cell.Cell.{Cell}
 use Rattle.srm_cell.specs.Setting.{Setting, arrival_of}
-use Rattle.srm_cell.specs.Cells.{PlainCell, Event, StepOutcome, Idle, Full, Spent, Done, Stepped, handle, sending_step, step_at, before}
+use Rattle.srm_cell.specs.Cells.{PlainCell, Event, StepOutcome, Idle, Full, Spent, Done, Stepped, handle, step_at, before}
 use Rattle.srm_cell.specs.Cells.{hear, hear_at}
 use Rattle.srm_cell.specs.OwnRuns.{told_to}
 use Rattle.srm_cell.specs.declared.fault.CellFault.TheVariants as fault
@@ -20,21 +18,12 @@ use Rattle.srm_model.specs.World.{World, IsReached, after_step, least_event, ope
 use Rattle.srm_model.specs.World.{step_to}
 use Rattle.srm_engine.specs.Outcomes.{HasEnd, AllEnd}
 use Rattle.srm_engine.specs.Seen.{AreCellsInOrder}
-use Rattle.srm_model.proofs.RunLemmas.{run_by, run_first}
-use Rattle.srm_net.specs.Limits.{most_sent}
+use Rattle.srm_model.proofs.RunLemmas.{run_by, run_first, shifted}
 
 abbrev Kept : PlainCell → Type 0
 Kept c = HasEnd c.holds c.exit
 
 -- ---- one step
-
-kept_by : (b : Bool) (x : Stepped) → Kept x.cell → OnStep (λ d. Kept d.cell) (cond b (Done x) Full)
-kept_by true x h = h
-kept_by false x h = tt
-
-kept_sending : (e : Event) (r : Reaction) (body : Option Body) → OnStep (λ d. Kept d.cell) (sending_step e r body)
-kept_sending e r None = tt
-kept_sending e r (Some body) = kept_by (nat_lt e.rest.sent most_sent) _ tt
 
 kept_handle : (e : Event) (holds : Record) (cause : Option Cause) → OnStep (λ d. Kept d.cell) (handle e holds cause)
 unfolding handle
@@ -107,11 +96,8 @@ module _ {M : Type 0} (f : M → Record) where
   all_end_from i (c ∷ cs) [] len each kept = absurd (omega arith)
   all_end_from i (c ∷ cs) (p ∷ ps) len each kept = (
     (i + 0, p, each 0 c p refl refl, kept.0),
-    all_end_from (suc i) cs ps (omega arith) (λ j d q a b. subst (λ k. IsCell f k d q) (shift i j) (each (suc j) d q a b)) kept.1,
+    all_end_from (suc i) cs ps (omega arith) (λ j d q a b. subst (λ k. IsCell f k d q) (shifted i j) (each (suc j) d q a b)) kept.1,
   )
-    where
-      shift : (i j : ℕ) → i + suc j ≡ suc i + j
-      shift i j = omega arith
 
   -- each cell of an engine in a reached world has a member, or the exit of one that left
   pub all_end : (s : Setting) (cs : List (Cell M)) (w : World) → IsReached s w → AreCellsInOrder f cs w.cells → AllEnd f cs

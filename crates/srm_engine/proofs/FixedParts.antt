@@ -1,18 +1,16 @@
 -- A member's fixed part stays the same in a run.
 use Rattle.std.proofs.Common.{arith}
-use Rattle.std.proofs.Common.{◌≡◌, ℕ, zero, suc, ◌+◌, Bool, true, false, cond, List, sym, ap, ◌∙◌, subst, inl, inr, Option, Some, None}
-use Rattle.std.proofs.Common.{slice_get, nat_lt, add-zero, zero-add}
+use Rattle.std.proofs.Common.{◌≡◌, ℕ, zero, suc, ◌+◌, List, sym, ap, ◌∙◌, subst, inl, inr, Option, Some, None}
+use Rattle.std.proofs.Common.{slice_get, add-zero, zero-add}
 use Rattle.srm_net.specs.declared.packet.Packet.{Packet}
-use Rattle.srm_net.specs.declared.packet.Body.{Body}
 use Rattle.srm_member.specs.declared.cause.Cause.{Cause}
 use Rattle.srm_member.specs.declared.fixed.Fixed.{Fixed as FixedPart}
 use Rattle.srm_member.specs.declared.row.Row.{Row}
 use Rattle.srm_member.specs.Record.{Record, fixed_part}
-use Rattle.srm_member.specs.React.{Reaction}
 use Rattle.srm_member.proofs.LawProofs.{same_fixed}
 use Rattle.srm_cell.specs.Setting.{Setting, IsFit, arrival_of}
-use Rattle.srm_cell.specs.Cells.{PlainCell, Event, Stepped, Full, Done, before, handle, hear, hear_at, next_event, opening_cell}
-use Rattle.srm_cell.specs.Cells.{sending_step, step_at}
+use Rattle.srm_cell.specs.Cells.{PlainCell, Event, Stepped, Done, before, handle, hear, hear_at, next_event, opening_cell}
+use Rattle.srm_cell.specs.Cells.{step_at}
 use Rattle.srm_cell.specs.OwnRuns.{told_to}
 use Rattle.srm_cell.proofs.Counts.{Taken, next_taken}
 use Rattle.srm_cell.proofs.Rising.{OnEvent, OnStep, before_on}
@@ -21,22 +19,12 @@ use Rattle.srm_engine.specs.Ends.{KeepFixed}
 use Rattle.srm_model.proofs.RunLemmas.{Seq, next, rest, shifted}
 use Rattle.srm_model.proofs.Sequential.{run_seq, step_facts}
 use Rattle.srm_model.proofs.Settled.{each_after}
-use Rattle.srm_net.specs.Limits.{most_sent}
-use Rattle.srm_engine.proofs.SeenLemmas.{same_some}
+use Rattle.std.proofs.lemmas.Option.{same_Some}
 
 -- ---- a step
 
 abbrev Keeps : FixedPart → Stepped → Type 0
 Keeps f d = fixed_part d.cell.holds ≡ f
-
-kept_by : (f : FixedPart) (b : Bool) (d : Stepped) → Keeps f d → OnStep (Keeps f) (cond b (Done d) Full)
-kept_by f true d h = h
-kept_by f false d h = tt
-
-kept_sending : (f : FixedPart) (e : Event) (r : Reaction) (body : Option Body) → r.state.fixed ≡ f
-    → OnStep (Keeps f) (sending_step e r body)
-kept_sending f e r None h = h
-kept_sending f e r (Some body) h = kept_by f (nat_lt e.rest.sent most_sent) _ h
 
 kept_handle : (f : FixedPart) (e : Event) (holds : Record) (cause : Option Cause) → fixed_part holds ≡ f
     → OnStep (Keeps f) (handle e holds cause)
@@ -81,7 +69,7 @@ module _ (s : Setting) (fit : IsFit s) where
   opening_keeps : (n i j : ℕ) (c : PlainCell) → slice_get (opening_cells s n i) j ≡ Some c → fixed_part c.holds ≡ s.fixed (i + j)
   unfolding opening_cells
   opening_keeps zero i j c h = cc
-  opening_keeps (suc n) i zero c h = ap (λ (b : PlainCell). fixed_part b.holds) (sym (same_some (opening_cell s i) c h))
+  opening_keeps (suc n) i zero c h = ap (λ (b : PlainCell). fixed_part b.holds) (sym (same_Some (opening_cell s i) c h))
       ∙ ap s.fixed (sym (add-zero i))
   opening_keeps (suc n) i (suc j) c h = opening_keeps n (suc i) j c h ∙ ap s.fixed (sym (shifted i j))
 

@@ -3,7 +3,7 @@ use Rattle.std.proofs.Common.{◌≡◌, ℕ, zero, suc, ◌+◌, ◌<◌, ◌�
 use Rattle.std.proofs.Common.{Option, Some, None, option_map, refl, sym, ap, ◌∙◌, subst, arith, slice_get, zero-add}
 use Rattle.std.proofs.Math.Seq.{split_at}
 use Rattle.std.proofs.lemmas.List.Sorted.{IsPermutation-refl, length_permutation}
-use Rattle.std.proofs.lemmas.Option.{slice_get-get_or}
+use Rattle.std.proofs.lemmas.Option.{slice_get-get_or, same_Some}
 use Rattle.std.specs.List.{AllZip, cons_option}
 use Rattle.std.specs.Global.{Vec}
 use Rattle.srm_net.specs.declared.packet.Packet.{Packet}
@@ -26,7 +26,6 @@ use Rattle.srm_interfaces.proofs.Zips.{zip_append}
 use Rattle.srm_engine.specs.Seen.{AreCellsInOrder}
 use Rattle.srm_engine.specs.Groups.{all_in, sizes}
 use Rattle.srm_engine.specs.SentRows.{MayBeSent}
-use Rattle.srm_engine.proofs.SeenLemmas.{same_some}
 use Rattle.srm_net.proofs.Lists.{below_get}
 
 one_hears : (t : Traffic) (m : ℕ) (xs ys : List Row) (c : PlainCell) → hear_rows t m (xs ++ ys) c ≡ hear_rows t m ys (hear_rows t m xs c)
@@ -126,7 +125,7 @@ zip_get : {A B : Type 0} (R : A → B → Type 0) (xs : List A) (ys : List B) �
 zip_get R [] [] z j y at = cc
 zip_get R [] (b ∷ ys) z j y at = absurd z
 zip_get R (a ∷ xs) [] z j y at = absurd z
-zip_get R (a ∷ xs) (b ∷ ys) z zero y at = (a, refl, subst (R a) (same_some b y at) z.0)
+zip_get R (a ∷ xs) (b ∷ ys) z zero y at = (a, refl, subst (R a) (same_Some b y at) z.0)
 zip_get R (a ∷ xs) (b ∷ ys) z (suc j) y at = zip_get R xs ys z.1 j y at
 
 zip_long : {A B : Type 0} (R : A → B → Type 0) (xs : List A) (ys : List B) → AllZip R xs ys → length xs ≡ length ys

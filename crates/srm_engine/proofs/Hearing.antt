@@ -5,7 +5,7 @@ use Rattle.srm_net.specs.declared.packet.Packet.{Packet}
 use Rattle.srm_cell.specs.Setting.{Traffic}
 use Rattle.srm_cell.specs.Cells.{PlainCell, hear}
 use Rattle.srm_model.specs.Hearing.{heard_below}
-use Rattle.srm_engine.proofs.SeenLemmas.{same_some}
+use Rattle.std.proofs.lemmas.Option.{same_Some}
 
 module _ (s : Traffic) (p : Packet) where
   pub none_heard : (k i : ℕ) (cs : List PlainCell) → k ≤ i → heard_below s p k i cs ≡ cs
@@ -37,7 +37,7 @@ module _ (s : Traffic) (p : Packet) where
   heard_more i j [] c h = cc
   heard_more i zero (x ∷ xs) c h =
       let e : i + 0 ≡ i = omega arith in
-      let same = same_some x c h in
+      let same = same_Some x c h in
       let now : nat_lt i (i + 0 + 1) ≡ true = lt-ltb i (i + 0 + 1) (omega arith) in
       ap (λ l. hear s p (i + 0) c ∷ l) (none_heard (i + 0) (suc i) xs (omega arith)) ∙ ap (λ m. hear s p m c ∷ xs) e
       ∙ ap (λ y. hear s p i y ∷ xs) (sym same)

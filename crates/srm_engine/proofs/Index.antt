@@ -93,9 +93,6 @@ itself p = inr (refl, omega arith)
 through : (p q r : Entry) → NotAfter p q → NotAfter q r → NotAfter p r
 through p q r h3 h4 = grind arith
 
-both_ways : (p q : Entry) → NotAfter p q → NotAfter q p → p ≡ q
-both_ways p q h2 h3 = grind arith
-
 -- the third is the one of the first two that does not come after the other
 abbrev Chosen : Entry → Entry → Entry → Type 0
 Chosen p q s = ((s ≡ p) × NotAfter p q) ⊎ ((s ≡ q) × NotAfter q p)
@@ -106,10 +103,6 @@ chosen p q = grind arith
 one_of_both : (p q s : Entry) → Chosen p q s → (s ≡ p) ⊎ (s ≡ q)
 one_of_both p q s (inl h) = inl h.0
 one_of_both p q s (inr h) = inr h.0
-
--- which of the two is named first does not matter
-either_way : (p q : Entry) → sooner_entry p q ≡ sooner_entry q p
-either_way p q = grind arith
 
 -- ---- the first entry
 

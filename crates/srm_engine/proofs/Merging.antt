@@ -1,6 +1,6 @@
 -- Rows of lists, brought into order.
 use Rattle.std.proofs.Common.{◌≡◌, ◌∙◌, ◌<◌, ◌≤◌, ◌+◌, ◌++◌, ◌↔◌, Bool, true, false, not, IsTrue, ℕ, List, [], ◌∷◌}
-use Rattle.std.proofs.Common.{Option, Some, None, Ordering, Equal, All, IsSorted, is_lt, IsPermutation, length, drop}
+use Rattle.std.proofs.Common.{Option, Some, None, Ordering, All, IsSorted, is_lt, IsPermutation, length, drop}
 use Rattle.std.proofs.Common.{get_or, slice_index_or, slice_get, slice_set, zero, suc, append-nil, append_assoc, subst, sym, ap, map}
 use Rattle.std.proofs.Common.{refl, arith}
 use Rattle.std.specs.Ordering.{nat_cmp, ordering_then}
@@ -45,9 +45,6 @@ abbrev pub by_numbers : Key → Key → Ordering
 by_numbers k l =
     ordering_then (nat_cmp k.time l.time) (ordering_then (nat_cmp k.member l.member) (ordering_then (nat_cmp k.rank l.rank)
     (ordering_then (nat_cmp k.a l.a) (ordering_then (nat_cmp k.b l.b) (nat_cmp k.c l.c)))))
-
-then_equal : (o : Ordering) → ordering_then o Equal ≡ o
-then_equal o = grind arith
 
 same_order : (k l : Key) → key_cmp k l ≡ by_numbers k l
 same_order k l = grind arith

@@ -12,13 +12,12 @@ use Rattle.srm_cell.proofs.Rising.{OnEvent, before_on, OnStep}
 use Rattle.srm_cell.proofs.CellSteps.{SentBy}
 use Rattle.srm_cell.proofs.Clear.{CountAfter, StepOf, step_is_of, RestOf, next_rest, all_tail}
 use Rattle.srm_member.proofs.AllIn.{AllIn}
-use Rattle.srm_model.specs.World.{World, least_event, run, opening}
+use Rattle.srm_model.specs.World.{least_event}
 use Rattle.srm_model.specs.Hearing.{IsUnheard}
-use Rattle.srm_model.proofs.RunLemmas.{Seq, rest, next}
-use Rattle.srm_model.proofs.Sequential.{Good, step_facts, good_step, good_opening, run_seq, get_below}
-use Rattle.srm_model.proofs.StrictRuns.{Strict, strict_step, strict_opening, sent_of, sent_here}
-use Rattle.srm_engine.proofs.SeenLemmas.{same_some}
+use Rattle.srm_model.proofs.Sequential.{Good, step_facts, get_below}
+use Rattle.srm_model.proofs.StrictRuns.{Strict, sent_of, sent_here}
 use Rattle.srm_net.proofs.Lists.{get_set_same, get_set_other}
+use Rattle.std.proofs.lemmas.Option.{same_Some}
 
 abbrev WereSent : List PlainCell → List Flight → Type 0
 WereSent cs fs = AllIn (λ f. f.packet.id.count < sent_of cs f.packet.id.sender) fs
@@ -37,14 +36,6 @@ count_of : (b a : ℕ) (o : Option Packet) (p : Packet) → o ≡ Some p → Cou
 count_of b a o p e h = (subst (λ x. CountAfter b x a) e h).0
 
 module _ (s : Setting) (fit : IsFit s) where
-  strict_seq : (end : ℕ) {cs ds : List PlainCell} {rows : List _} → Seq s end cs rows ds → Good s fit cs → Strict s fit cs → Strict s fit ds
-  strict_seq end rest good strict = strict
-  strict_seq end (next {cs = cs} {e = e} {d = d} h x more) good strict =
-      strict_seq end more (good_step s fit end cs e d good h x) (strict_step s fit end cs e d good strict h x)
-
-  pub strict_reached : (n : ℕ) (w : World) → run s n (opening s) ≡ Done w → Strict s fit w.cells
-  strict_reached n w h = strict_seq s.traffic.until (run_seq s fit n (opening s) w h).1 (good_opening s fit) (strict_opening s fit)
-
   module _ (end : ℕ) (cs : List PlainCell) (e : Event) (d : Stepped) (good : Good s fit cs) (strict : Strict s fit cs)
       (h : before end (least_event 0 cs) ≡ Some e) (x : step_at (Some e) ≡ Done d) where
     pub is_new : (p : Packet) → d.row.sent ≡ Some p → IsUnheard p.id (slice_set cs e.key.member d.cell)
@@ -59,7 +50,7 @@ module _ (s : Setting) (fit : IsFit s) where
         elim (m == j) as (λ b. (m == j) ≡ b → BringsNone p.id q.inbox) [
           | true ↦ λ r.
               let here : m ≡ j = eqb-true m j r in
-              let is : d.cell ≡ q = same_some d.cell q (sym (get_set_same cs m d.cell (get_below cs m f.cell f.here))
+              let is : d.cell ≡ q = same_Some d.cell q (sym (get_set_same cs m d.cell (get_below cs m f.cell f.here))
               ∙ ap (slice_get (slice_set cs m d.cell)) here ∙ g) in
               subst (λ (c : PlainCell). BringsNone p.id c.inbox) is (apart cs p.id d.cell.inbox now
               (subst (WereSent cs) (sym did.inbox) (all_tail _ _ _ of.inbox (strict.fresh m f.cell f.here))))

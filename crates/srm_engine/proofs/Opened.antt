@@ -16,11 +16,12 @@ use Rattle.srm_model.specs.World.{World, opening, opening_cells}
 use Rattle.srm_engine.specs.Seen.{AreCellsInOrder}
 use Rattle.srm_cell.specs.Totalled.{numbers_of}
 use Rattle.srm_engine.specs.Openings.{records_from}
-use Rattle.srm_engine.proofs.SeenLemmas.{same_some}
+use Rattle.std.proofs.lemmas.Option.{same_Some}
+use Rattle.srm_model.proofs.OneStep.{length_opening}
 
 get_last : {A : Type 0} (xs : List A) (x y : A) (j : ℕ) → slice_get (xs ++ x ∷ []) j ≡ Some y → (slice_get xs j ≡ Some y)
     ⊎ ((j ≡ length xs) × (x ≡ y))
-get_last [] x y zero h = inr (refl, same_some x y h)
+get_last [] x y zero h = inr (refl, same_Some x y h)
 get_last [] x y (suc j) h = cc
 get_last (z ∷ zs) x y zero h = inl h
 get_last (z ∷ zs) x y (suc j) h = elim (get_last zs x y j h) [ inl g ↦ inl g | inr g ↦ inr (ap suc g.0, g.1) ]
@@ -57,11 +58,6 @@ module _ {M : Type 0} where
       → r ≡ opening_record (fixed_of p net seed k) → marks ≡ script_of p k → IsCell f (fixed_part r).member c (new_cell r marks 0)
       → IsCell f k c (opening_cell (setting_of p net seed) k)
   opened_cell f p net seed k c r marks e h is = grind arith
-
-pub length_opening : (s : Setting) (n i : ℕ) → length (opening_cells s n i) ≡ n
-unfolding opening_cells
-length_opening s zero i = refl
-length_opening s (suc n) i = ap suc (length_opening s n (suc i))
 
 one_more_cell : (s : Setting) (n i : ℕ) → opening_cells s (suc n) i ≡ opening_cells s n i ++ opening_cell s (i + n) ∷ []
 unfolding opening_cells

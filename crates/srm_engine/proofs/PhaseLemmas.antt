@@ -14,7 +14,7 @@ use Rattle.srm_engine.specs.Engines.{MayRefuseStep}
 use Rattle.srm_engine.specs.Outcomes.{EndAs}
 use Rattle.srm_engine.specs.Seen.{AreCellsInOrder, TellsOwnStep}
 use Rattle.srm_cell.specs.declared.cell.Cell.{Cell}
-use Rattle.srm_model.proofs.RunLemmas.{after_full}
+use Rattle.srm_model.proofs.RunLemmas.{after_full, shifted}
 
 ends : (h : Record) (x : Exit) → EndsWith h x → x ≡ exit_at h None
 ends (Active m) x e = e
@@ -48,12 +48,9 @@ module _ {M : Type 0} where
   ended_from f i (c ∷ cs) (p ∷ ps) [] len each h = absurd h
   ended_from f i (c ∷ cs) (p ∷ ps) (x ∷ xs) len each h =
       let first = h.0 (i + 0) p (each 0 c p refl refl) in
-      let rest = ended_from f (suc i) cs ps xs (omega arith) (λ j d q a b. subst (λ k. IsCell f k d q) (shift i j) (each (suc j) d q a b))
+      let rest = ended_from f (suc i) cs ps xs (omega arith) (λ j d q a b. subst (λ k. IsCell f k d q) (shifted i j) (each (suc j) d q a b))
       h.1 in
       λ t. first t ∷ rest t
-    where
-      shift : (i j : ℕ) → i + suc j ≡ suc i + j
-      shift i j = omega arith
 
   pub exits_are : (f : M → Record) (cs : List (Cell M)) (w : World) (xs : List Exit) → AreCellsInOrder f cs w.cells
       → EndAs f cs xs → xs ≡ exits_of w

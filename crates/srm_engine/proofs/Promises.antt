@@ -1,5 +1,5 @@
 -- The least promise of all cells, one cell after the other.
-use Rattle.std.proofs.Common.{◌≡◌, ◌≢◌, ◌⊎◌, inl, inr, ℕ, zero, suc, ◌≤◌, ◌+◌, List, [], ◌∷◌, refl, sym}
+use Rattle.std.proofs.Common.{◌≡◌, ◌≢◌, ◌⊎◌, inl, inr, ℕ, suc, ◌+◌, List, [], ◌∷◌, refl, sym}
 use Rattle.std.proofs.Common.{ap, ◌∙◌, arith, Some, option_map, slice_get, zero-add}
 use Rattle.std.proofs.lemmas.List.{length-map}
 use Rattle.srm_net.specs.declared.role.Role.{Role}
@@ -14,9 +14,9 @@ use Rattle.srm_cell.specs.Cells.{PlainCell}
 use Rattle.srm_model.specs.Windows.{least_distance, promise_of, least_promise, way_of}
 use Rattle.srm_engine.specs.Ends.{KeepFixed}
 use Rattle.srm_engine.specs.Soonest.{IsLeast, promised}
-use Rattle.srm_engine.proofs.SoonLemmas.{Any, with_in, with_one}
-use Rattle.srm_engine.proofs.SeenLemmas.{same_some}
-use Rattle.srm_model.proofs.Lookahead.{least_with_le}
+use Rattle.srm_engine.proofs.SoonLemmas.{Any, with_one}
+use Rattle.srm_model.proofs.Lookahead.{promise_le}
+use Rattle.srm_model.proofs.WindowEnds.{promise_within}
 
 module _ (s : Setting) where
   -- a cell's promise is by its next time and its member's way
@@ -25,25 +25,6 @@ module _ (s : Setting) where
   promise_is m c e = grind arith
 
   -- ---- the least promise of all
-
-  promise_most : (i : ℕ) (cs : List PlainCell) → least_promise s i cs ≤ s.traffic.until
-  promise_most i [] = omega arith
-  promise_most i (c ∷ cs) = let more = promise_most (i + 1) cs in let le = least_with_le (least_promise s (i + 1) cs) (promise_of s i c) in
-      omega arith
-
-  promise_none_less : (i : ℕ) (cs : List PlainCell) (j : ℕ) (c : PlainCell) (u : ℕ) → slice_get cs j ≡ Some c → promise_of s (i + j) c
-      ≡ Some u
-      → least_promise s i cs ≤ u
-  promise_none_less i [] j c u h e = cc
-  promise_none_less i (x ∷ cs) zero c u h e =
-      let here : i + 0 ≡ i = omega arith in
-      with_in (least_promise s (i + 1) cs) u (promise_of s i x)
-      (ap (promise_of s i) (same_some x c h) ∙ ap (λ m. promise_of s m c) (sym here) ∙ e)
-  promise_none_less i (x ∷ cs) (suc j) c u h e =
-      let at : (i + 1) + j ≡ i + suc j = omega arith in
-      let more = promise_none_less (i + 1) cs j c u h (ap (λ m. promise_of s m c) at ∙ e) in
-      let le = least_with_le (least_promise s (i + 1) cs) (promise_of s i x) in
-      omega arith
 
   abbrev Some_promise : ℕ → List PlainCell → ℕ → Type 0
   Some_promise i cs t =
@@ -62,8 +43,8 @@ module _ (s : Setting) where
 
   pub promise_is_least : (cs : List PlainCell) → KeepFixed s cs → IsLeast (promised s) Any s.traffic.until cs (least_promise s 0 cs)
   promise_is_least cs kept = record {
-    most = promise_most 0 cs;
-    none_less = λ m c u p h e. promise_none_less 0 cs m c u h (ap (λ k. promise_of s k c) (zero-add m) ∙ promise_is m c (kept m c h) ∙ e);
+    most = promise_within s 0 cs;
+    none_less = λ m c u p h e. promise_le s 0 cs m c u h (ap (λ k. promise_of s k c) (zero-add m) ∙ promise_is m c (kept m c h) ∙ e);
     one = by (promise_one 0 cs);
   }
     where

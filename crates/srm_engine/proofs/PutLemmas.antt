@@ -1,7 +1,7 @@
 -- Rows that are put behind others.
 use Rattle.std.proofs.Common.{◌≡◌, ◌∷◌, ◌++◌, [], ◌+◌, ◌-◌, ℕ, Bool, true, false, List, Option, Some, None, Ok, sym, ap, ◌∙◌}
 use Rattle.std.proofs.Common.{length, length-append, slice_get, get_or, arith}
-use Rattle.std.proofs.lemmas.Option.{slice_get-get_or}
+use Rattle.std.proofs.lemmas.Option.{slice_get-get_or, same_Some}
 use Rattle.std.proofs.Math.Seq.{get_or-append_seam}
 use Rattle.srm_member.specs.declared.row.Row.{Row}
 use Rattle.srm_member.specs.Record.{Record}
@@ -12,7 +12,6 @@ use Rattle.srm_cell.specs.Views.{Steps}
 use Rattle.srm_cell.specs.PutRows.{PutsStep}
 use Rattle.srm_engine.specs.declared.cells.Cells.{Cells}
 use Rattle.srm_engine.specs.Seen.{ShowCells, TellsOwnStep}
-use Rattle.srm_engine.proofs.SeenLemmas.{same_some}
 
 -- what was put behind others is the last
 pub last_is_put : {A : Type 0} (xs ys : List A) (x : A) → xs ≡ ys ++ x ∷ [] → slice_get xs (length xs - 1) ≡ Some x
@@ -23,7 +22,7 @@ last_is_put xs ys x is =
 
 -- so it is what is read there
 pub last_read : {A : Type 0} (xs ys : List A) (x y : A) → xs ≡ ys ++ x ∷ [] → Some y ≡ slice_get xs (length xs - 1) → x ≡ y
-last_read xs ys x y is read = same_some x y (sym (last_is_put xs ys x is) ∙ sym read)
+last_read xs ys x y is read = same_Some x y (sym (last_is_put xs ys x is) ∙ sym read)
 
 module _ {M : Type 0} where
   -- where what a cell's step gives is so of all cells, it is so of the row that was put

@@ -14,18 +14,16 @@ use Rattle.srm_cell.specs.Cells.{PlainCell, next_event, time_of, StepOutcome, St
 use Rattle.srm_cell.specs.Views.{IsCell, TellsStep}
 use Rattle.srm_engine.specs.Seen.{AreTimes, AreCellsInOrder, AreSeen, TellsOwnStep}
 use Rattle.srm_net.proofs.Lists.{get_set_same, get_set_other}
+use Rattle.std.proofs.lemmas.Option.{same_Some}
 
 -- an iterator with nothing left
 pub no_items : {X Z : Type 0} (it : IntoIter X Z) → into_iter_len it ≡ 0 → into_iter_items it ≡ []
 no_items it h = let ok = it.rest.ok in grind (arith, common_steps)
 
-pub same_some : {A : Type 0} (x y : A) → Some x ≡ Some y → x ≡ y
-same_some x y h = cc
-
 -- what was there, written back, changes nothing
 pub set_same : {A : Type 0} (xs : List A) (i : ℕ) (x : A) → slice_get xs i ≡ Some x → slice_set xs i x ≡ xs
 set_same [] i x h = refl
-set_same (y ∷ ys) zero x h = ap (λ z. z ∷ ys) (same_some x y (sym h))
+set_same (y ∷ ys) zero x h = ap (λ z. z ∷ ys) (same_Some x y (sym h))
 set_same (y ∷ ys) (suc i) x h = ap (λ l. y ∷ l) (set_same ys i x h)
 
 pub set_times : (ts : List (Option ℕ)) (ps : List PlainCell) (m : ℕ) (t : Option ℕ) (q : PlainCell) → AreTimes ts ps → m < length ts → t
@@ -42,8 +40,8 @@ module _ {M : Type 0} where
           let here : m ≡ j = eqb-true m j r in
           let many = h.as_many in
           let within : m < length ps = omega arith in
-          let cell : c ≡ x = same_some c x (sym (get_set_same cs m c lt) ∙ ap (slice_get (slice_set cs m c)) here ∙ a) in
-          let plain : q ≡ p = same_some q p (sym (get_set_same ps m q within) ∙ ap (slice_get (slice_set ps m q)) here ∙ g) in
+          let cell : c ≡ x = same_Some c x (sym (get_set_same cs m c lt) ∙ ap (slice_get (slice_set cs m c)) here ∙ a) in
+          let plain : q ≡ p = same_Some q p (sym (get_set_same ps m q within) ∙ ap (slice_get (slice_set ps m q)) here ∙ g) in
           subst (λ k. IsCell f k x p) here (subst (λ y. IsCell f m y p) cell (subst (λ y. IsCell f m c y) plain is))
       | false ↦ λ r.
           let ne : m ≢ j = eqb-false m j r in

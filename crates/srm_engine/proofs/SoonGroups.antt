@@ -5,7 +5,7 @@ use Rattle.std.proofs.Common.{slice_set, get_or, length, length-append, nat_lt, 
 use Rattle.std.proofs.Math.Nat.{suc-mul}
 use Rattle.std.proofs.lemmas.Bool.Decides.{nat_tests}
 use Rattle.std.proofs.lemmas.Nat.{div-mul-add}
-use Rattle.std.proofs.lemmas.Option.{slice_get_within}
+use Rattle.std.proofs.lemmas.Option.{slice_get_within, same_Some}
 use Rattle.std.specs.Ordering.{is_gt}
 use Rattle.std.specs.Global.{Vec}
 use native.Mathlib.Nat.{div-add-mod'}
@@ -28,7 +28,6 @@ use Rattle.srm_engine.specs.Soonest.{IsSoonest, AreSoonest, AreThose, IsInRange,
 use Rattle.srm_engine.proofs.CellLists.{first_cut, no_more_groups, in_group, at_place}
 use Rattle.srm_model.proofs.OneWindow.{as_many_results}
 use Rattle.srm_model.proofs.RunLemmas.{shifted}
-use Rattle.srm_engine.proofs.SeenLemmas.{same_some}
 use Rattle.srm_model.proofs.Sequential.{get_below}
 use Rattle.srm_engine.proofs.SoonLemmas.{NoLater, soon_same_cells, soon_same_members}
 use Rattle.srm_net.proofs.Lists.{get_set_same, get_set_other, below_get}
@@ -145,7 +144,7 @@ idle_from : (end i : ℕ) (cs : List PlainCell) (rs : List OwnResult) → AreOwn
 idle_from end i [] rs h j c get late = cc
 idle_from end i (x ∷ cs) [] h j c get late = absurd h
 idle_from end i (x ∷ cs) (r ∷ rs) h zero c get late =
-    let same = same_some x c get in
+    let same = same_Some x c get in
     let here : i + 0 ≡ i = omega arith in
     let idle : own_step end i c ≡ Idle = idle_step end i c (λ u e. late u (ap (λ m. due m c) here ∙ e)) in
     let run = h.0 in
@@ -183,7 +182,7 @@ heard_no_later m p at c None h u e = let no : due m c ≡ None = ap time_of h in
 heard_no_later m p at c (Some q) h u e = by _ refl (stands_heard m p at c (Some q) h)
   where
     is : u ≡ q.key.time
-    is = same_some u q.key.time (sym e ∙ ap time_of h.1 ∙ ap (λ k. Some k.time) (sym h.2))
+    is = same_Some u q.key.time (sym e ∙ ap time_of h.1 ∙ ap (λ k. Some k.time) (sym h.2))
 
     of : (r : Pending) → r.key.time ≤ q.key.time → Stands m (hear_at p (Some at) c) (Some r) (next_event m (hear_at p (Some at) c))
         → (v : ℕ) × (due m (hear_at p (Some at) c) ≡ Some v) × (v ≤ u)
@@ -204,7 +203,7 @@ heard_no_later m p at c (Some q) h u e = by _ refl (stands_heard m p at c (Some 
 pub pushed_each : {A : Type 0} (P : ℕ → A → Type 0) (xs : List A) (y : A) → ((j : ℕ) (x : A) → slice_get xs j ≡ Some x → P j x)
     → P (length xs) y
     → (j : ℕ) (x : A) → slice_get (xs ++ y ∷ []) j ≡ Some x → P j x
-pushed_each P [] y each last zero x g = subst (P 0) (same_some y x g) last
+pushed_each P [] y each last zero x g = subst (P 0) (same_Some y x g) last
 pushed_each P [] y each last (suc j) x g = cc
 pushed_each P (z ∷ xs) y each last zero x g = each 0 x g
 pushed_each P (z ∷ xs) y each last (suc j) x g = pushed_each (λ i. P (suc i)) xs y (λ i. each (suc i)) last j x g

@@ -2,9 +2,8 @@
 use Rattle.std.proofs.Common.{◌≡◌, ◌⊎◌, inl, inr, ℕ, zero, suc, ◌+◌, ◌/◌, ◌<◌, ◌≤◌, ◌==◌, min, true, false, List, [], ◌∷◌, Option, Some}
 use Rattle.std.proofs.Common.{None, refl, sym, ap, ◌∙◌, subst, arith, slice_get, slice_set, length, eqb-true}
 use Rattle.std.proofs.lemmas.Bool.{eqb-false}
-use Rattle.std.proofs.lemmas.Option.{slice_get_within}
+use Rattle.std.proofs.lemmas.Option.{slice_get_within, same_Some}
 use Rattle.std.proofs.Math.ListN.{length-set}
-use Rattle.srm_engine.proofs.SeenLemmas.{same_some}
 use Rattle.srm_model.proofs.Sequential.{get_below}
 use Rattle.srm_cell.specs.Setting.{Setting}
 use Rattle.srm_cell.specs.Cells.{PlainCell}
@@ -12,15 +11,11 @@ use Rattle.srm_engine.specs.declared.soonest.Soonest.{Soonest}
 use Rattle.srm_model.specs.Windows.{least_with, promise_by, way_of}
 use Rattle.srm_engine.specs.Soonest.{IsLeast, IsSoonest, AreSoonest, IsInRange, due, promised}
 use Rattle.srm_net.proofs.Lists.{get_set_same, get_set_other}
-use Rattle.srm_model.proofs.Lookahead.{least_with_le}
+use Rattle.srm_model.proofs.Lookahead.{least_with_le, least_with_in}
 
 -- where the second is there at all, and is no later
 abbrev pub NoLater : Option ℕ → Option ℕ → Type 0
 NoLater x y = (u : ℕ) → x ≡ Some u → (v : ℕ) × (y ≡ Some v) × (v ≤ u)
-
-pub with_in : (n u : ℕ) (o : Option ℕ) → o ≡ Some u → least_with n o ≤ u
-with_in n u None h = cc
-with_in n u (Some k) h = let e = same_some k u h in omega arith
 
 -- the lesser is the first, or the other
 pub with_one : (n : ℕ) (o : Option ℕ) → (least_with n o ≡ n) ⊎ (o ≡ Some (least_with n o))
@@ -49,9 +44,9 @@ module _ (g : ℕ → PlainCell → Option ℕ) (n : ℕ) where
       none_less = λ j c u pj get e. elim (m == j) as (λ b. (m == j) ≡ b → least_with t (g m r) ≤ u) [
         | true ↦ λ x.
             let here : m ≡ j = eqb-true m j x in
-            let same : c ≡ r = same_some c r (sym get ∙ ap (slice_get (slice_set ps m r)) (sym here)
+            let same : c ≡ r = same_Some c r (sym get ∙ ap (slice_get (slice_set ps m r)) (sym here)
             ∙ get_set_same ps m r (get_below ps m q at)) in
-            with_in t u (g m r) (subst (λ d. g m d ≡ Some u) same (subst (λ k. g k c ≡ Some u) (sym here) e))
+            least_with_in t u (g m r) (subst (λ d. g m d ≡ Some u) same (subst (λ k. g k c ≡ Some u) (sym here) e))
         | false ↦ λ x.
             let ne = eqb-false m j x in
             let old = h.none_less j c u pj (sym (get_set_other ps m j r ne) ∙ get) e in
@@ -71,11 +66,11 @@ module _ (g : ℕ → PlainCell → Option ℕ) (n : ℕ) where
             ⊎ ((j : ℕ) × (c : PlainCell) × P j × (slice_get (slice_set ps m r) j ≡ Some c) × (g j c ≡ Some (least_with t (g m r))))) [
               | true ↦ λ x.
                   let here : m ≡ a.0 = eqb-true m a.0 x in
-                  let same : a.1 ≡ q = same_some a.1 q (sym a.3 ∙ ap (slice_get ps) (sym here) ∙ at) in
+                  let same : a.1 ≡ q = same_Some a.1 q (sym a.3 ∙ ap (slice_get ps) (sym here) ∙ at) in
                   let was : g m q ≡ Some t = subst (λ d. g m d ≡ Some t) same (subst (λ k. g k a.1 ≡ Some t) (sym here) a.4) in
                   let now = early t was in
                   let le = now.2 in
-                  let low = with_in t now.0 (g m r) now.1 in
+                  let low = least_with_in t now.0 (g m r) now.1 in
                   let is : now.0 ≡ least_with t (g m r) = omega (arith, e) in
                   inr (m, r, p, get_set_same ps m r (get_below ps m q at), now.1 ∙ ap Some is)
               | false ↦ λ x. inr (a.0, a.1, a.2, get_set_other ps m a.0 r (eqb-false m a.0 x) ∙ a.3, a.4 ∙ ap Some (sym e))
@@ -111,7 +106,7 @@ module _ (n : ℕ) where
     none_less = λ j y lt get. elim (j == k) as (λ q. (j == k) ≡ q → min best (h x) ≤ h y) [
       | true ↦ λ r.
           let here : j ≡ k = eqb-true j k r in
-          let same : y ≡ x = same_some y x (sym get ∙ ap (slice_get xs) here ∙ at) in
+          let same : y ≡ x = same_Some y x (sym get ∙ ap (slice_get xs) here ∙ at) in
           let e : h y ≡ h x = ap h same in
           omega (arith, e)
       | false ↦ λ r. let ne = eqb-false j k r in let old = b.none_less j y (omega arith) get in omega arith
@@ -122,7 +117,7 @@ module _ (n : ℕ) where
       by : (min best (h x) ≡ best) ⊎ (Some (h x) ≡ Some (min best (h x)))
           → (best ≡ n) ⊎ ((j : ℕ) × (y : Soonest) × (slice_get xs j ≡ Some y) × (best ≡ h y))
           → (min best (h x) ≡ n) ⊎ ((j : ℕ) × (y : Soonest) × (slice_get xs j ≡ Some y) × (min best (h x) ≡ h y))
-      by (inr e) old = inr (k, x, at, sym (same_some (h x) (min best (h x)) e))
+      by (inr e) old = inr (k, x, at, sym (same_Some (h x) (min best (h x)) e))
       by (inl e) (inl was) = inl (e ∙ was)
       by (inl e) (inr a) = inr (a.0, a.1, a.2, e ∙ a.3)
 
@@ -180,7 +175,7 @@ no_later_promise None y way h u e = none way e
 no_later_promise (Some t) y None h u e = cc
 no_later_promise (Some t) y (Some k) h u e =
     let now = h t refl in
-    let is = same_some (t + k) u e in
+    let is = same_Some (t + k) u e in
     let le = now.2 in
     (now.0 + k, ap (λ o. promise_by o (Some k)) now.1, omega (arith, is))
 
@@ -243,7 +238,7 @@ module _ (s : Setting) where
     each = λ j z g. elim (k == j) as (λ b. (k == j) ≡ b → IsSoonest s (λ i. i / cut ≡ j) (slice_set ps m r) z) [
       | true ↦ λ e.
           let same : k ≡ j = eqb-true k j e in
-          let is : y ≡ z = same_some y z (sym (get_set_same xs k y (slice_get_within xs k x here)) ∙ ap (slice_get (slice_set xs k y)) same
+          let is : y ≡ z = same_Some y z (sym (get_set_same xs k y (slice_get_within xs k x here)) ∙ ap (slice_get (slice_set xs k y)) same
           ∙ g) in
           subst (λ (a : Soonest). IsSoonest s (λ i. i / cut ≡ j) (slice_set ps m r) a) is
           (soon_heard (λ i. i / cut ≡ j) ps x y m q r next way (at ∙ same)

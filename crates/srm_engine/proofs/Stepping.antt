@@ -23,16 +23,17 @@ use Rattle.srm_engine.specs.NextTimes.{least_of_times}
 use Rattle.srm_model.specs.Hearing.{heard_below, all_hear}
 use Rattle.srm_engine.specs.Seen.{AreTimes}
 use Rattle.srm_model.specs.Totalled.{MaySend, and_sent}
-use Rattle.srm_engine.proofs.SeenLemmas.{same_some}
 use Rattle.srm_engine.proofs.Hearing.{get_heard, if_below}
-use Rattle.srm_model.proofs.RunLemmas.{least_own, run_by, run_first, step_none, step_is, after_stepped}
+use Rattle.srm_model.proofs.RunLemmas.{least_own, run_by, run_first, step_none, step_is, after_stepped, shifted}
 use Rattle.srm_model.proofs.Settled.{at_member, get_after}
 use Rattle.srm_model.proofs.OneStep.{arrival_is}
 use Rattle.srm_model.proofs.Sequential.{good_reached, step_facts, get_below}
-use Rattle.srm_engine.proofs.NewPackets.{strict_reached, is_new}
+use Rattle.srm_engine.proofs.NewPackets.{is_new}
 use Rattle.srm_model.proofs.LawProofs.{never_spent, run_on}
 use Rattle.srm_net.specs.Limits.{end_of_time}
 use Rattle.srm_net.proofs.Lists.{get_set_same, get_set_other, below_get}
+use Rattle.std.proofs.lemmas.Option.{same_Some}
+use Rattle.srm_model.proofs.PendingKeys.{strict_reached}
 
 -- ---- the least event of all has the least of the next times
 
@@ -79,13 +80,10 @@ least_from_on i [] (p ∷ ps) len each = absurd (omega arith)
 least_from_on i (t ∷ ts) [] len each = absurd (omega arith)
 least_from_on i (t ∷ ts) (p ∷ ps) len each =
     let z : i + 0 ≡ i = omega arith in
-    let is : t ≡ time_of (next_event i p) = same_some _ _ (each 0 p refl) ∙ ap (λ k. time_of (next_event k p)) z in
+    let is : t ≡ time_of (next_event i p) = same_Some _ _ (each 0 p refl) ∙ ap (λ k. time_of (next_event k p)) z in
     ap (λ u. least_of_times i (u ∷ ts)) is
     ∙ one_more i ts (next_event i p) (least_event (suc i) ps) (next_event_of i p) (least_event_from (suc i) ps)
-    (least_from_on (suc i) ts ps (omega arith) (λ j q g. each (suc j) q g ∙ ap (λ k. Some (time_of (next_event k q))) (shift i j)))
-  where
-    shift : (i j : ℕ) → i + suc j ≡ suc i + j
-    shift i j = omega arith
+    (least_from_on (suc i) ts ps (omega arith) (λ j q g. each (suc j) q g ∙ ap (λ k. Some (time_of (next_event k q))) (shifted i j)))
 
 pub least_is_event : (ts : List (Option ℕ)) (ps : List PlainCell) → AreTimes ts ps → least_of_times 0 ts
     ≡ option_map time_and_member (least_event 0 ps)
@@ -161,7 +159,7 @@ same_list : {A : Type 0} (xs ys : List A) → ((j : ℕ) → slice_get xs j ≡ 
 same_list [] [] h = refl
 same_list [] (y ∷ ys) h = let e = h 0 in cc
 same_list (x ∷ xs) [] h = let e = h 0 in cc
-same_list (x ∷ xs) (y ∷ ys) h = let e : x ≡ y = same_some x y (h 0) in let t = same_list xs ys (λ j. h (suc j)) in λ i. e i ∷ t i
+same_list (x ∷ xs) (y ∷ ys) h = let e : x ≡ y = same_Some x y (h 0) in let t = same_list xs ys (λ j. h (suc j)) in λ i. e i ∷ t i
 
 module _ (s : Setting) (m : ℕ) (d : Stepped) (cs : List PlainCell) (lt : m < length cs) where
   nobody : (j : ℕ) → slice_get (cells_after s m d 0 cs) j ≡ option_map (at_member s m d j) (slice_get cs j)
@@ -261,13 +259,6 @@ module _ (s : Setting) (fit : IsFit s) (w : World) (reached : IsReached s w) (e 
           let few = few_packets w.trace in
           let before = (before_some s.traffic.until (least_event 0 w.cells) e least).1 in
           (length-set w.cells e.key.member d.cell ∙ len, omega arith, omega arith, omega arith, new p q)
-
-  -- the sender of the step's packet
-  pub sent_by : SentBy e.key.member d.row.sent
-  sent_by = (step_facts s fit s.traffic.until w.cells e d least done).sender
-
-  pub place_of : e.key.member < length w.cells
-  place_of = let f = step_facts s fit s.traffic.until w.cells e d least done in get_below w.cells e.key.member f.cell f.here
 
 pub not_spent : (s : Setting) (fit : IsFit s) (w : World) → IsReached s w → step s w ≢ Spent
 not_spent s fit w reached h = (never_spent s w fit reached).0 1

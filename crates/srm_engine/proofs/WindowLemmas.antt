@@ -1,6 +1,6 @@
 -- The windows of an engine: its jobs, what a crew did, and its rows.
-use Rattle.std.proofs.Common.{◌≡◌, ℕ, zero, suc, ◌<◌, ◌≤◌, ◌+◌, ◌^◌, min, List, [], ◌∷◌, ◌++◌, Ok, Err, refl, sym, ap, ◌∙◌, subst, arith}
-use Rattle.std.proofs.Common.{All, IsSorted, IsPermutation, length, map, drop, slice_index, ◌*◌}
+use Rattle.std.proofs.Common.{◌≡◌, ℕ, suc, ◌<◌, ◌≤◌, ◌+◌, ◌^◌, min, List, [], ◌∷◌, ◌++◌, Ok, Err, refl, sym, ap, ◌∙◌, subst, arith}
+use Rattle.std.proofs.Common.{All, IsSorted, IsPermutation, length, map, drop, slice_index}
 use Rattle.std.proofs.lemmas.List.{map-append, length-map}
 use Rattle.std.proofs.lemmas.List.Sorted.{IsPermutation-refl}
 use Rattle.std.specs.List.{AllZip, range_with_len}
@@ -14,11 +14,10 @@ use Rattle.srm_net.specs.Limits.{most_nodes}
 use Rattle.srm_member.specs.declared.row.Row.{Row}
 use Rattle.srm_member.specs.Record.{Record}
 use Rattle.srm_ledger.specs.Seats.{LedgerView, SeatView, whole_seat}
-use Rattle.srm_cell.proofs.RowPackets.{nothing_counted, numbers_are}
 use Rattle.srm_cell.specs.declared.cell.Cell.{Cell}
 use Rattle.srm_cell.specs.declared.job.Job.{Job}
 use Rattle.srm_cell.specs.declared.job.Done as job
-use Rattle.srm_cell.specs.Setting.{Traffic, Setting, IsFit, setting_of}
+use Rattle.srm_cell.specs.Setting.{Setting, IsFit, setting_of}
 use Rattle.srm_cell.specs.Cells.{Event, Full, Spent}
 use Rattle.srm_cell.specs.Crossings.{joined, packets_of, crossings}
 use Rattle.srm_cell.specs.Jobs as cell
@@ -57,6 +56,7 @@ use Rattle.srm_model.proofs.AnyOrder.{packets_are_heard_in_any_order, heard_by_p
 use Rattle.srm_model.proofs.WindowEnds.{widths_are_rules, promises_are_a_rule, starts_tell}
 use Rattle.srm_model.proofs.WindowChain.{windows_are_reached, windows_follow, refused_windows_meet_full, calls_follow}
 use Rattle.srm_ledger.proofs.Keeps.{replicate_zero}
+use Rattle.srm_interfaces.proofs.Sums.{none_crossed}
 
 -- ---- windows
 
@@ -296,10 +296,6 @@ module _ {M : Type 0} (f : M → Record) (e : WindowEngine M) (is : IsUnderWay f
   ran_now r maps = (mapped f e is is.seed is.begins is.world is.comes end at js same r maps).0
 
 -- ---- the beginning of a run
-
-none_crossed : (t : Traffic) (k : ℕ) → counted_in (crossings t []) k ≡ 0
-none_crossed t zero = refl
-none_crossed t (suc k) = ap (λ ns. slice_index ns k) (sym (nothing_counted t ∙ numbers_are t [])) ∙ replicate_zero (5 * t.links) k
 
 -- a whole seat at the beginning counts the rows of the opening world
 pub opened_counted : (s : Setting) (l : LedgerView) (links : ℕ) (seat : SeatView) → seat ≡ whole_seat l.name links

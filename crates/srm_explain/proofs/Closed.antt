@@ -1,6 +1,6 @@
 -- Where each link has both of its ends marked or neither, every node is marked to which there is a way from a marked one.
-use Rattle.std.proofs.Common.{◌≡◌, ◌∙◌, ℕ, zero, suc, Bool, true, false, List, [], ◌∷◌, length, Option, Some, None, is_some}
-use Rattle.std.proofs.Common.{slice_get, not, refl, sym, ap, subst, inl, inr}
+use Rattle.std.proofs.Common.{◌≡◌, ◌∙◌, ℕ, Bool, true, false, List, [], ◌∷◌, length, Option, Some, None, is_some}
+use Rattle.std.proofs.Common.{slice_get, not, refl, sym, ap, inl, inr}
 use Rattle.std.proofs.lemmas.Bool.{and_parts, cases_Bool, false≢true}
 use Rattle.std.specs.List.{list_all, AllByRecursion}
 use Rattle.std.specs.Prelude.{◌&&◌, ◌||◌, ◌++◌, ◌<◌}
@@ -11,6 +11,7 @@ use Rattle.srm_net.proofs.RouteLemmas.{found_path}
 use Rattle.srm_scenario.specs.Trees.{has_way}
 use Rattle.srm_scenario.proofs.Placed.{all_append}
 use Rattle.srm_explain.specs.Flaws.{is_closed, is_even, is_reached, IsUnreached}
+use Rattle.srm_scenario.proofs.KeyRanges.{all_at}
 
 both_same : (a b : Bool) → ((not a || b) && (not b || a)) ≡ true → a ≡ b
 both_same true true h = refl
@@ -18,19 +19,9 @@ both_same true false h = absurd (false≢true h)
 both_same false true h = absurd (false≢true h)
 both_same false false h = refl
 
-at_place : {A : Type 0} (test : A → Bool) (xs : List A) (i : ℕ) (x : A) → list_all test xs ≡ true → slice_get xs i ≡ Some x → test x ≡ true
-at_place test [] i x h at = cc
-at_place test (y ∷ ys) zero x h at =
-    let (first, rest) = and_parts (test y) (list_all test ys) h in
-    let same : y ≡ x = cc in
-    subst (λ z. test z ≡ true) same first
-at_place test (y ∷ ys) (suc i) x h at =
-    let (first, rest) = and_parts (test y) (list_all test ys) h in
-    at_place test ys i x rest at
-
 module _ (reached : List Bool) (links : List LinkSpec) (closed : list_all (is_even reached) links ≡ true) where
   both_ends : (i : ℕ) (k : LinkSpec) → slice_get links i ≡ Some k → is_reached reached k.a ≡ is_reached reached k.b
-  both_ends i k at = both_same (is_reached reached k.a) (is_reached reached k.b) (at_place (is_even reached) links i k closed at)
+  both_ends i k at = both_same (is_reached reached k.a) (is_reached reached k.b) (all_at (is_even reached) links i k closed at)
 
   over_link : (i u x : ℕ) (k : LinkSpec) → slice_get links i ≡ Some k → Joins k u x → is_reached reached u ≡ is_reached reached x
   over_link i u x k at (inl j) =

@@ -1,11 +1,11 @@
 -- What holds of the intervals of every member's timers.
 use Rattle.std.proofs.Common.{arith}
-use Rattle.std.proofs.Common.{◌≡◌, Bool, true, false, cond, List, [], ◌∷◌, ◌++◌, refl, ap, sym, ◌∙◌}
+use Rattle.std.proofs.Common.{◌≡◌, List, [], ◌∷◌, ◌++◌, refl, ap, sym, ◌∙◌}
 use Rattle.srm_member.specs.declared.fixed.Fixed.{Fixed}
 use Rattle.srm_member.specs.Intervals.{Interval, Limits}
 use Rattle.srm_member.specs.IntervalLaws.{Change, changed, after_changes}
 use Rattle.srm_member.specs.Record.{MemberState}
-use Rattle.srm_member.specs.React.{Reaction, react}
+use Rattle.srm_member.specs.React.{react}
 use Rattle.srm_member.specs.AdaptingLaws.{IntervalsChangeAlone, ListenersIntervalsStay, IsAdaptedWithin}
 use Rattle.srm_member.specs.AdaptingLaws.{ConstantsBeginWithinLimits, ConstantsOfMembersStayWithinLimits}
 use Rattle.srm_member.proofs.IntervalProofs.{AreWithin, changed_within}
@@ -36,12 +36,6 @@ intervals_change_alone m at cause =
     (a.requests, a.repairs)
 
 -- ---- listeners
-
-same_if : (b : Bool) (x y : Reaction) (i j : Interval) → (x.state.request_interval ≡ i) × (x.state.repair_interval ≡ j)
-    → (y.state.request_interval ≡ i) × (y.state.repair_interval ≡ j)
-    → ((cond b x y).state.request_interval ≡ i) × ((cond b x y).state.repair_interval ≡ j)
-same_if true x y i j h g = h
-same_if false x y i j h g = g
 
 pub listeners_intervals_stay : ListenersIntervalsStay
 listeners_intervals_stay m at cause role = grind (arith, as_listener)

@@ -27,7 +27,7 @@ use Rattle.srm_member.specs.React.{hear_request_by_entry, hear_request_of_held, 
 use Rattle.srm_member.specs.React.{after_entry}
 use Rattle.srm_member.specs.React.{lost_by_entry, hear_session, hear_body, expire_request_by_entry, expire_request, expire_repair_by_entry}
 use Rattle.srm_member.specs.React.{expire_repair, draw_operation, is_skip, react_active}
-use Rattle.srm_member.specs.React.{react_listener, react_telling, react, with_adapted, intervals_of, adapted_at, adapted_since}
+use Rattle.srm_member.specs.React.{react_listener, react_telling, react, with_adapted, intervals_of, adapted_at}
 use Rattle.srm_member.specs.React.{telling_intervals}
 use Rattle.srm_member.proofs.LawProofs.{as_listener}
 use Rattle.srm_member.proofs.IntervalChanges.{Adapts, adapts_delay, adapts_losses, adapts_mending, adapts_repair_seen, adapts_repairs_begun}
@@ -350,9 +350,6 @@ module _ (f : Fixed) (roomless : HasFixedTimers f) where
       (λ a b fit. react_alike at cause a b m (swap a b m h.left fit))
 
   -- ---- what is told of intervals
-
-  none_told : (m k : MemberState) → Fit m → Fit k → adapted_since (intervals_of m) (intervals_of k) ≡ None
-  none_told m k h g = grind arith
 
   none_at : (cause : Cause) (m k : MemberState) → Fit m → Fit k → cause ≢ Join
       → adapted_at cause (intervals_of m) (intervals_of k) ≡ None

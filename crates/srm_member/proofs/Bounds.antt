@@ -43,9 +43,6 @@ module _ (f : Fixed) (A : List (Name × Missing) → Type 0) (B : List (Name × 
     pub asks : A m.missing
     pub answers : B m.repairs
 
-  sooner : (len : ℕ) → 1 ≤ len → at < at + len
-  sooner len h = omega arith
-
   kept_if : (b : Bool) (x y : Reaction) → Kept x.state → Kept y.state → Kept (cond b x y).state
   kept_if true x y h g = h
   kept_if false x y h g = g

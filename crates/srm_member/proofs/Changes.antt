@@ -1,5 +1,5 @@
 -- What an event changes of the names that a member holds and lacks.
-use Rattle.std.proofs.Common.{◌≡◌, ℕ, zero, suc, ◌<◌, ◌≤◌, ◌+◌, ◌-◌, Bool, true, false, cond, not, ◌&&◌, T, List, [], ◌∷◌, ◌++◌, refl}
+use Rattle.std.proofs.Common.{◌≡◌, ℕ, zero, suc, ◌<◌, ◌≤◌, ◌+◌, ◌-◌, Bool, true, false, cond, ◌&&◌, T, List, [], ◌∷◌, ◌++◌, refl}
 use Rattle.std.proofs.Common.{sym, ap, ◌∙◌, subst, ◌≢◌, ◌⊎◌, inl, inr, arith, Option, Some, None, is_some, unwrap_or, nat_lt, nat_le}
 use Rattle.std.proofs.Common.{append-nil}
 use Rattle.std.specs.List.{Contains}
@@ -84,10 +84,6 @@ pub grows_then : (a : List Name) (m k l : MemberState) → Grows a m k → Grows
 grows_then a m k l g h = subst (λ x. Grows x m l) (append-nil a) (grows_on a [] m k l g h)
 
 -- ---- progress
-
-begins_by : (b : Bool) (x : ℕ) → cond b x 0 ≤ x
-begins_by true x = omega arith
-begins_by false x = omega arith
 
 -- the entry met is that of the page, or begins no later than here
 met : (m : MemberState) (p : PageId) (x : ℕ) → (find page_cmp p m.progress ≡ Some (meet m p x))
@@ -548,10 +544,6 @@ active_effect m at cause = grind (arith, hear_effect, asking_effect, answering_e
 
 listener_effect : (m : MemberState) (cause : Cause) → Effect m cause (react_listener m cause)
 listener_effect m cause = grind arith
-
--- what it tells of intervals has no part in that
-told_quiet : (o : Option Intervals) (m : MemberState) (r : Reaction) → Quiet m r → Quiet m (record r { answer = with_adapted o r.answer })
-told_quiet o m r h = record { grows = h.grows; not_fresh = h.not_fresh; not_fixed = h.not_fixed; body = h.body }
 
 told_effect : (o : Option Intervals) (m : MemberState) (cause : Cause) (r : Reaction) → Effect m cause r
     → Effect m cause (record r { answer = with_adapted o r.answer })

@@ -128,15 +128,8 @@ SoundRecord (Gone f) = Unit {0}
 abbrev SameTables : MemberState → MemberState → Type 0
 SameTables m n = (n.missing ≡ m.missing) × (n.repairs ≡ m.repairs)
 
-same_if : (m : MemberState) (b : Bool) (x y : Reaction) → SameTables m x.state → SameTables m y.state → SameTables m (cond b x y).state
-same_if m true x y h g = h
-same_if m false x y h g = g
-
 same_listener : (m : MemberState) (cause : Cause) → SameTables m (react_listener m cause).state
 same_listener m cause = grind arith
-
-abbrev Tables : MemberState → ℕ → Cause → (List (Name × Missing) → Type 0) → (List (Name × Repairing) → Type 0) → Type 0
-Tables m at cause A B = (A (react m at cause).state.missing) × (B (react m at cause).state.repairs)
 
 pub sound_react : (m : MemberState) (at : ℕ) (cause : Cause) → IsSound m → IsSound (react m at cause).state
 sound_react m at cause s =

@@ -1,5 +1,5 @@
 -- An index of timers against the tables of timers.
-use Rattle.std.proofs.Common.{◌≡◌, ℕ, Bool, true, false, cond, not, ◌&&◌, List, [], ◌∷◌, Option, Some, None, refl, sym, ap, ◌∙◌, subst}
+use Rattle.std.proofs.Common.{◌≡◌, ℕ, Bool, true, false, cond, not, ◌&&◌, List, Option, Some, None, refl, sym, ap, ◌∙◌, subst}
 use Rattle.std.proofs.Common.{arith, ◌==◌}
 use Rattle.std.specs.Option.{option_map}
 use Rattle.std.specs.declared.cmp.Ordering.TheVariants.{Equal}
@@ -19,9 +19,6 @@ use Rattle.srm_member.specs.Pending.{has, RisesByName, expiry_of, is_at_time, Is
 use Rattle.srm_member.proofs.TableChanges.{same_names, name_is}
 
 -- ---- names and timers are compared by their numbers
-
-abbrev numbers_of : Name → List ℕ
-numbers_of n = n.source ∷ n.page ∷ n.number ∷ []
 
 pub due_total : IsTotalOrder due_cmp
 due_total = on_texts numbers_of_due

@@ -1,6 +1,6 @@
 -- Tests of names and of pages in code, in the words of specs/.
 use Rattle.std.proofs.Common.{arith}
-use Rattle.std.proofs.Common.{rules, ◌≡◌, ℕ, Bool, true, ◌&&◌, nat_eq, refl, eq-eqb, is_lt}
+use Rattle.std.proofs.Common.{rules, ◌≡◌, Bool, ◌&&◌, nat_eq, is_lt}
 use Rattle.std.specs.Ordering.{eq_by_cmp, partial_lt}
 use Rattle.srm_net.specs.declared.packet.Name.{Name}
 use Rattle.srm_net.specs.declared.packet.PageId.{PageId}
@@ -13,9 +13,6 @@ name_lt a b = search rules
 
 abbrev are_same : Name → Name → Bool
 are_same a b = nat_eq a.source b.source && (nat_eq a.page b.page && nat_eq a.number b.number)
-
-itself : (n : ℕ) → nat_eq n n ≡ true
-itself n = eq-eqb _ _ refl
 
 -- whether two names are the same
 pub name_eq : (a b : Name) → are_same a b ≡ eq_by_cmp name_cmp b a

@@ -1,6 +1,6 @@
 -- Which events leave the intervals of a member's timers as they are.
 use Rattle.std.proofs.Common.{arith}
-use Rattle.std.proofs.Common.{◌≡◌, ℕ, zero, suc, ◌-◌, Bool, true, false, cond, List, [], ◌∷◌, refl, ◌∙◌}
+use Rattle.std.proofs.Common.{◌≡◌, ℕ, zero, suc, ◌-◌, false, List, [], ◌∷◌, refl, ◌∙◌}
 use Rattle.std.proofs.Common.{Option, Some, None}
 use Rattle.std.specs.FinMap.Entries.{find}
 use Rattle.srm_net.specs.declared.packet.Name.{Name}
@@ -12,17 +12,13 @@ use Rattle.srm_member.specs.declared.cause.Cause.{Cause}
 use Rattle.srm_member.specs.declared.cause.Cause.TheVariants.{Join, Arrival, Ask, Answer, Draw, Report}
 use Rattle.srm_member.specs.Intervals.{Interval}
 use Rattle.srm_member.specs.Record.{MemberState, Missing, Repairing, Progress}
-use Rattle.srm_member.specs.React.{Reaction, with_losses_begun, lose_one, lose_from, lose_below}
+use Rattle.srm_member.specs.React.{with_losses_begun, lose_one, lose_from, lose_below}
 use Rattle.srm_member.specs.React.{hear_data, hear_body, after_entry, hear_session, expire_request_by_entry, expire_request}
 use Rattle.srm_member.specs.React.{expire_repair_by_entry, expire_repair, own_page, own_progress, draw_operation, with_drawn}
 use Rattle.srm_member.specs.React.{react_active, react}
 use Rattle.srm_member.specs.AdaptingLaws.{may_adapt_requests, is_of_recovery, may_adapt_repairs, OtherEventsLeaveIntervals}
 
 -- ---- what each of two ways leaves, either leaves
-
-either : (I : MemberState → Interval) (b : Bool) (x y : Reaction) (i : Interval) → I x.state ≡ i → I y.state ≡ i → I (cond b x y).state ≡ i
-either I true x y i h g = h
-either I false x y i h g = g
 
 -- ---- losses, data and session messages leave the interval of repair timers
 

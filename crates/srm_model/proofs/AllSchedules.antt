@@ -8,7 +8,7 @@ use Rattle.srm_model.specs.Laws.{IsRefusal, SchedulesAreAnswered}
 use Rattle.srm_model.specs.Schedules.{own_of, scheduled}
 use Rattle.srm_model.specs.World.{World, after_step, cells_after}
 use Rattle.srm_model.proofs.RunLemmas.{end_late, fewer, full_flag, spent_flag}
-use Rattle.srm_model.proofs.ScheduleLemmas.{Safe, safe_after, step_late}
+use Rattle.srm_model.proofs.ScheduleLemmas.{Safe, safe_after, step_late, then_schedule}
 use Rattle.srm_model.proofs.Settled.{at_member, get_after}
 
 pub mapped : {A B : Type 0} (f : A → B) (o : Option A) (x : B) → option_map f o ≡ Some x → (a : A) × (o ≡ Some a) × (f a ≡ x)
@@ -43,14 +43,11 @@ module _ (s : Setting) (end : ℕ) where
             (r.0, subst (λ y. own_end end m r.0 y ≡ Idle) is (end_late s end d.row.sent (step_late s end cs safe b d e) m r.0 c false r.1))
       ] refl
 
-  then_schedule : List ℕ → StepOutcome World → StepOutcome World
-  then_schedule ms o = elim o [ Idle ↦ Idle | Full ↦ Full | Spent ↦ Spent | Done v ↦ scheduled s end ms v ]
-
   answered : (ms : List ℕ) (w : World) → Safe s end w.cells → Results w.cells → ¬ IsRefusal (scheduled s end ms w)
   unfolding scheduled after_step then_schedule
   answered [] w safe has h = h
   answered (m ∷ ms) w safe has h = elim (own_of end m (slice_get w.cells m)) as
-      (λ o. own_of end m (slice_get w.cells m) ≡ o → IsRefusal (then_schedule ms (after_step s w m o)) → ⊥) [
+      (λ o. own_of end m (slice_get w.cells m) ≡ o → IsRefusal (then_schedule s end ms (after_step s w m o)) → ⊥) [
         | Idle ↦ λ e r. r
         | Full ↦ λ e r.
             let p = present end m (slice_get w.cells m) Full tt e in

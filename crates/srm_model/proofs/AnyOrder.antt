@@ -27,9 +27,9 @@ use Rattle.srm_model.specs.Schedules.{IsSafe}
 use Rattle.srm_model.specs.WindowRuns.{OwnResult, AreOwnRuns, rows_in, cells_in, each_hears, AreNewInTurn, IsMerge, after_window}
 use Rattle.srm_model.specs.WindowLaws.{PacketsAreHeardInAnyOrder}
 use Rattle.srm_model.proofs.HandedOnce.{packets_are_their_identities}
-use Rattle.srm_model.proofs.TraceRows.{count_first, count_none, contains_none, sent_more, is_same, not_same, same_self}
+use Rattle.srm_model.proofs.TraceRows.{count_first, count_none, contains_none, sent_more, is_same, not_same, same_self, contained_split}
 use Rattle.srm_model.proofs.OneWindow.{windows_agree, some_merge}
-use Rattle.srm_model.proofs.WindowPackets.{window_packets_are_new, later_is_new, split_at, new_after}
+use Rattle.srm_model.proofs.WindowPackets.{window_packets_are_new, later_is_new, new_after}
 
 -- ---- two packets, in either order
 
@@ -147,7 +147,7 @@ module _ (t : Traffic) (Known : Packet → Type 0) (one : (p q : Packet) → Kno
           let q = packet_of p.id at.0.sent at.2 in
           let is : p ≡ q.0 = one p q.0 (known p (sent_first p x xs e)) (others q.0 (at.0, at.1, q.1)) q.2 in
           let packets : x.sent ≡ at.0.sent = e ∙ ap Some is ∙ sym q.1 in
-          let cut = split_at ys at.0 at.1 in
+          let cut = contained_split ys at.0 at.1 in
           let rest = cut.0 ++ cut.1 in
           let in_ys : (z : Packet) → SentIn z rest → SentIn z ys = λ z s.
           (s.0, subst (λ l. Contains l s.0) (sym cut.2) (around cut.0 at.0 cut.1 s.0 s.1), s.2) in
@@ -187,7 +187,7 @@ none_sends k rows h = count_none (λ (r : Row). is_packet k r.sent) rows (λ r a
 
 in_packets : (p : Packet) (rows : List Row) → SentIn p rows → Contains (packets_of rows) p
 in_packets p rows h =
-    let cut = split_at rows h.0 h.1 in
+    let cut = contained_split rows h.0 h.1 in
     let here : packets_of (h.0 ∷ cut.1) ≡ p ∷ packets_of cut.1 = ap (λ o. cons_option o (packets_of cut.1)) h.2 in
     let whole : packets_of rows ≡ packets_of cut.0 ++ p ∷ packets_of cut.1 = ap packets_of cut.2
     ∙ filter_map-append (λ (r : Row). r.sent) cut.0 (h.0 ∷ cut.1) ∙ ap (λ l. packets_of cut.0 ++ l) here in
@@ -271,13 +271,13 @@ module _ (s : Setting) (w : World) (end : ℕ) (fit : IsFit s) (reached : IsReac
         (Contains-append_left (r ∷ []) after r (0, omega arith, refl))) in
         let row = in_all p (r, at, sent) in
         let x = row.0 in
-        let cut = split_at all x row.1 in
+        let cut = contained_split all x row.1 in
         let told = window_packets_are_new s w end fit reached within safe results all alone merge cut.0 cut.1 x p cut.2 row.2 in
         let whole : v.trace ≡ (w.trace ++ cut.0) ++ x ∷ cut.1 = ap (λ l. w.trace ++ l) cut.2
         ∙ sym (append_assoc w.trace cut.0 (x ∷ cut.1)) in
         let earlier = later_is_new s v there (w.trace ++ cut.0) cut.1 x p whole row.2 in
         let later : (q : Packet) → SentIn q cut.1 → q.id ≢ p.id = λ q h.
-        let on = split_at cut.1 h.0 h.1 in
+        let on = contained_split cut.1 h.0 h.1 in
         let further : v.trace ≡ ((w.trace ++ cut.0) ++ x ∷ on.0) ++ h.0 ∷ on.1 = whole
         ∙ ap (λ l. (w.trace ++ cut.0) ++ x ∷ l) on.2 ∙ sym (append_assoc (w.trace ++ cut.0) (x ∷ on.0) (h.0 ∷ on.1)) in
         let other = later_is_new s v there ((w.trace ++ cut.0) ++ x ∷ on.0) on.1 h.0 q further h.2 p
@@ -300,7 +300,7 @@ module _ (s : Setting) (w : World) (end : ℕ) (fit : IsFit s) (reached : IsReac
         elim (Contains-append_cases w.trace before h.0 h.1) [
           | inl old ↦ earlier q (h.0, Contains-append_left w.trace cut.0 h.0 old, h.2)
           | inr now ↦ λ e.
-              let on = split_at before h.0 now in
+              let on = contained_split before h.0 now in
               let j : sendings p.id before ≡ one_if (is_packet p.id h.0.sent) + sendings p.id (on.0 ++ on.1) =
               ap (sendings p.id) on.2 ∙ sendings_around p.id on.0 h.0 on.1 in
               let k : one_if (is_packet p.id h.0.sent) ≡ 1 =

@@ -1,11 +1,10 @@
 -- Members that left, in the worlds of the sequential run: nothing is pending at a record that is gone.
-use Rattle.std.proofs.Common.{◌≡◌, ◌≢◌, ℕ, zero, suc, ◌<◌, ◌≤◌, ◌+◌, true, List, refl, sym, subst, inl, inr, arith, Option, Some, None}
+use Rattle.std.proofs.Common.{◌≡◌, ◌≢◌, ℕ, zero, suc, ◌<◌, ◌≤◌, ◌+◌, List, refl, sym, subst, inl, inr, arith, Option, Some, None}
 use Rattle.std.proofs.Common.{slice_get, zero-add, add-zero, ◌⊎◌}
 use Rattle.std.proofs.lemmas.Option.{same_Some}
 use Rattle.srm_net.specs.declared.packet.Packet.{Packet}
 use Rattle.srm_member.specs.declared.row.Row.{Row}
 use Rattle.srm_member.specs.Record.{Record, Active, Gone}
-use Rattle.srm_scenario.specs.Presence.{is_up_to}
 use Rattle.srm_cell.specs.Setting.{Setting, IsFit, arrival_of}
 use Rattle.srm_cell.specs.Cells.{PlainCell, hear_at, hear, Event, next_event, before, Spent, Done, Stepped, step_at}
 use Rattle.srm_cell.specs.OwnRuns.{told_to}
@@ -16,27 +15,27 @@ use Rattle.srm_cell.proofs.Counts.{above_weaker}
 use Rattle.srm_cell.proofs.Leaving.{IsActive, Stays, stays_step, stays_hear_at, left_at, not_spent, rest_active}
 use Rattle.srm_model.specs.World.{World, cells_after, least_event, opening, opening_cells, run}
 use Rattle.srm_model.proofs.RunLemmas.{Seq, rest, next, shifted, least_from}
-use Rattle.srm_model.proofs.Sequential.{EachCell, Good, StepFacts, step_facts, good_step, above_after, above_time}
-use Rattle.srm_model.proofs.Settled.{each_after}
+use Rattle.srm_model.proofs.Sequential.{Good, StepFacts, step_facts, good_step, above_after, above_time}
+use Rattle.srm_model.proofs.Settled.{EachCell, each_after}
 use Rattle.srm_model.proofs.Sequential.{member_below, good_opening, run_seq}
 
 module _ (s : Setting) (fit : IsFit s) where
   -- a member that is gone left at a time before which nothing is pending
   abbrev Past : List PlainCell → ℕ → Record → Type 0
   Past cs j (Active m) = Unit {0}
-  Past cs j (Gone f) = (t : ℕ) × (s.traffic.leave j ≡ Some t) × EachCell s fit (Above (λ k. t ≤ k.time)) cs
+  Past cs j (Gone f) = (t : ℕ) × (s.traffic.leave j ≡ Some t) × EachCell (Above (λ k. t ≤ k.time)) cs
 
   pub record Stable (cs : List PlainCell) : Type 0 where
     pub good : Good s fit cs
-    pub stays : EachCell s fit (λ j c. Stays (s.traffic.leave j) c) cs
-    pub past : EachCell s fit (λ j c. Past cs j c.holds) cs
+    pub stays : EachCell (λ j c. Stays (s.traffic.leave j) c) cs
+    pub past : EachCell (λ j c. Past cs j c.holds) cs
 
   past_active : (cs : List PlainCell) (j : ℕ) (r : Record) → IsActive r → Past cs j r
   past_active cs j (Active m) h = tt
   past_active cs j (Gone f) h = absurd h
 
   past_gone : (cs : List PlainCell) (j : ℕ) (r : Record) → (t : ℕ) × (s.traffic.leave j ≡ Some t)
-      × EachCell s fit (Above (λ k. t ≤ k.time)) cs → Past cs j r
+      × EachCell (Above (λ k. t ≤ k.time)) cs → Past cs j r
   past_gone cs j (Active m) h = tt
   past_gone cs j (Gone f) h = h
 
@@ -48,9 +47,6 @@ module _ (s : Setting) (fit : IsFit s) where
   unfolding hear
   told_holds None m c = refl
   told_holds (Some p) m c = hear_at_holds p (arrival_of s.traffic p m) c
-
-  not_after : (t at : ℕ) (o : Option ℕ) → o ≡ Some t → t < at → is_up_to at o ≡ true → ⊥
-  not_after t at o e lt h = grind arith
 
   module _ (end : ℕ) (cs : List PlainCell) (e : Event) (d : Stepped) (stable : Stable cs) (h : before end (least_event 0 cs) ≡ Some e)
       (x : step_at (Some e) ≡ Done d) where
@@ -69,15 +65,15 @@ module _ (s : Setting) (fit : IsFit s) where
     below : m < s.traffic.members
     below = member_below s fit end cs e d stable.good h x
 
-    all_after : EachCell s fit (Above (λ k. e.key.time ≤ k.time)) after
+    all_after : EachCell (Above (λ k. e.key.time ≤ k.time)) after
     all_after j c g = above_time s fit e.key j c (above_after s fit end cs e d stable.good h x j c g)
 
     -- the event is pending, and so not before a leave
-    event_after : (t : ℕ) → EachCell s fit (Above (λ k. t ≤ k.time)) cs → t ≤ e.key.time
+    event_after : (t : ℕ) → EachCell (Above (λ k. t ≤ k.time)) cs → t ≤ e.key.time
     event_after t all = (subst (OnEvent (IsAbove (λ k. t ≤ k.time) m)) next_is
         (next_above (λ k. t ≤ k.time) m facts.cell (all m facts.cell facts.here))).0
 
-    still_after : (t : ℕ) → EachCell s fit (Above (λ k. t ≤ k.time)) cs → EachCell s fit (Above (λ k. t ≤ k.time)) after
+    still_after : (t : ℕ) → EachCell (Above (λ k. t ≤ k.time)) cs → EachCell (Above (λ k. t ≤ k.time)) after
     still_after t all j c g =
         let from = event_after t all in
         above_weaker (λ k. e.key.time ≤ k.time) (λ k. t ≤ k.time) (λ k le. omega arith) j c (all_after j c g)

@@ -1,6 +1,6 @@
 -- In the sequential run each flight of a packet that was sent is on the way or was handed, and nothing else is.
 use Rattle.std.proofs.Common.{◌≡◌, ℕ, zero, suc, ◌<◌, ◌≤◌, ◌+◌, Bool, true, false, cond, ◌&&◌, List, [], ◌∷◌, ◌++◌, length, refl, sym, ap}
-use Rattle.std.proofs.Common.{◌∙◌, subst, ◌≢◌, inl, inr, arith, Ordering, Less, Equal, Greater, Option, Some, None, is_some}
+use Rattle.std.proofs.Common.{◌∙◌, subst, ◌≢◌, inl, inr, arith, Option, Some, None, is_some}
 use Rattle.std.proofs.Common.{option_map, nat_lt, slice_get, eqb-true, ◌==◌}
 use Rattle.std.proofs.lemmas.Bool.{eqb-false}
 use Rattle.std.specs.List.{Contains, count_by}
@@ -28,12 +28,13 @@ use Rattle.srm_model.specs.Handed.{PacketsAreHandedOnce, HandedPacketsWereSent, 
 use Rattle.srm_model.proofs.OneStep.{TakesFlight, NoArrival, Takes, Sends, Steps, StepFacts, step_facts, here_after}
 use Rattle.srm_model.proofs.OneStep.{there_after, each_after, length_after, length_opening, nothing_left, run_keeps, arrival_is}
 use Rattle.srm_model.proofs.TraceRows.{contains_none, contains_cases, sent_more, sent_cases, sent_now, count_first}
-use Rattle.srm_model.proofs.TraceRows.{count_none, count_place, not_same, not_arrival, here, IsSplit, split_cases}
+use Rattle.srm_model.proofs.TraceRows.{count_none, count_place, not_same, not_arrival, here, IsSplit, no_split, split_cases}
+use Rattle.srm_model.proofs.Settled.{EachCell}
 
 about_other : (cause : Option Cause) (body : Option Body) → NoArrival cause → (k : Packet) → about_of cause body ≢ Of k
 about_other cause body none k h = grind arith
 
-same_of : (p q : Packet) → Of p ≡ Of q → p ≡ q
+pub same_of : (p q : Packet) → Of p ≡ Of q → p ≡ q
 same_of p q h = cc
 
 -- ---- flights
@@ -56,10 +57,6 @@ pub all_contained : {A : Type 0} (Q : A → Type 0) (xs : List A) → AllIn Q xs
 all_contained Q [] h x c = absurd (contains_none x c)
 all_contained Q (y ∷ ys) h x (zero, l, e) = subst Q e h.0
 all_contained Q (y ∷ ys) h x (suc k, l, e) = all_contained Q ys h.1 x (k, omega arith, e)
-
--- every cell is so
-abbrev pub EachCell : (ℕ → PlainCell → Type 0) → List PlainCell → Type 0
-EachCell Q cs = (j : ℕ) (c : PlainCell) → slice_get cs j ≡ Some c → Q j c
 
 module _ (s : Setting) where
   -- of a flight to member j: its packet was sent, and it arrives when that packet does
@@ -447,10 +444,6 @@ module _ (s : Setting) where
   opening_sent zero i j = refl
   opening_sent (suc n) i zero = refl
   opening_sent (suc n) i (suc j) = opening_sent n (suc i) j
-
-  pub no_split : (rows after : List Row) (r : Row) → IsSplit [] rows r after → ⊥
-  no_split [] after r e = cc
-  no_split (b ∷ rows) after r e = cc
 
   pub handed_opening : Handed (opening s).cells (opening s).trace
   unfolding opening

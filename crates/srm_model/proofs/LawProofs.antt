@@ -17,7 +17,7 @@ use Rattle.srm_model.proofs.RunLemmas.{Ends, after_full, after_stepped, ending, 
 use Rattle.srm_model.proofs.RunLemmas.{run_first, seq_first, seq_refused, seq_run, seq_schedule, shifted, spent_flag, step_none}
 use Rattle.srm_model.proofs.RunLemmas.{to_the_end, total}
 use Rattle.srm_model.proofs.ScheduleLemmas.{Quiet, Safe, Sched, go, own_of_is, own_rows_late, safe_after, same_end, step_late}
-use Rattle.srm_model.proofs.ScheduleLemmas.{stop}
+use Rattle.srm_model.proofs.ScheduleLemmas.{stop, then_schedule}
 use Rattle.srm_model.proofs.Sequential.{good_reached, promise_safe, seq_ordered, window_safe}
 use Rattle.srm_model.proofs.Settled.{at_member, get_after}
 use Rattle.srm_model.specs.Laws.{CellsRunAlone, NeverSpent, OwnRunsEnd, PromisesAreSafe, RefusalsAreMet, RunEnds, SchedulesAgree}
@@ -31,9 +31,6 @@ use Rattle.srm_net.specs.declared.packet.Packet.{Packet}
 -- ---- a schedule, as the steps of the cells
 
 module _ (s : Setting) (end : ℕ) where
-  then_schedule : List ℕ → StepOutcome World → StepOutcome World
-  then_schedule ms o = elim o [ Idle ↦ Idle | Full ↦ Full | Spent ↦ Spent | Done v ↦ scheduled s end ms v ]
-
   scheduled_is : (ms : List ℕ) (w u : World) → scheduled s end ms w ≡ Done u → (rows : List Row) × Sched s end w.cells ms rows u.cells
       × (u.trace ≡ w.trace ++ rows)
   unfolding scheduled after_step then_schedule
@@ -45,12 +42,12 @@ module _ (s : Setting) (end : ℕ) where
   scheduled_is (m ∷ ms) w u h = elim (own_of end m (slice_get w.cells m))
       as (λ o. own_of end m (slice_get w.cells m) ≡ o → (rows : List Row) × Sched s end w.cells (m ∷ ms) rows u.cells
       × (u.trace ≡ w.trace ++ rows)) [
-        | Idle ↦ λ e. let x : Idle ≡ Done u = sym (ap (λ o. then_schedule ms (after_step s w m o)) e) ∙ h in cc
-        | Full ↦ λ e. let x : Full ≡ Done u = sym (ap (λ o. then_schedule ms (after_step s w m o)) e) ∙ h in cc
-        | Spent ↦ λ e. let x : Spent ≡ Done u = sym (ap (λ o. then_schedule ms (after_step s w m o)) e) ∙ h in cc
+        | Idle ↦ λ e. let x : Idle ≡ Done u = sym (ap (λ o. then_schedule s end ms (after_step s w m o)) e) ∙ h in cc
+        | Full ↦ λ e. let x : Full ≡ Done u = sym (ap (λ o. then_schedule s end ms (after_step s w m o)) e) ∙ h in cc
+        | Spent ↦ λ e. let x : Spent ≡ Done u = sym (ap (λ o. then_schedule s end ms (after_step s w m o)) e) ∙ h in cc
         | Done d ↦ λ e.
             let v : World = record { cells = cells_after s m d 0 w.cells; trace = w.trace ++ d.row ∷ [] } in
-            let g = scheduled_is ms v u (sym (ap (λ o. then_schedule ms (after_step s w m o)) e) ∙ h) in
+            let g = scheduled_is ms v u (sym (ap (λ o. then_schedule s end ms (after_step s w m o)) e) ∙ h) in
             (d.row ∷ g.0, go e g.1, g.2 ∙ append_assoc w.trace (d.row ∷ []) g.0)
       ] refl
 
@@ -60,7 +57,7 @@ module _ (s : Setting) (end : ℕ) where
   schedule_of (stop {cs = cs}) t = ap (λ (r : List Row). Done (record { cells = cs; trace = r })) (sym (append-nil t))
   schedule_of (go {cs = cs} {m = m} {ms = ms} {d = d} {rows = rows} {ds = ds} e more) t =
       let w : World = record { cells = cs; trace = t } in
-      ap (λ o. then_schedule ms (after_step s w m o)) e ∙ schedule_of more (t ++ d.row ∷ [])
+      ap (λ o. then_schedule s end ms (after_step s w m o)) e ∙ schedule_of more (t ++ d.row ∷ [])
       ∙ ap (λ (r : List Row). Done (record { cells = ds; trace = r })) (append_assoc t (d.row ∷ []) rows)
 
   -- ---- each cell's own run alone

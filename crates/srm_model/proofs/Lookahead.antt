@@ -128,6 +128,10 @@ pub least_with_le : (n : ℕ) (o : Option ℕ) → least_with n o ≤ n
 least_with_le n None = omega arith
 least_with_le n (Some k) = min-le_left n k
 
+pub least_with_in : (n k : ℕ) (o : Option ℕ) → o ≡ Some k → least_with n o ≤ k
+least_with_in n k None h = let y : ⊥ = cc in absurd y
+least_with_in n k (Some x) h = let e = same_Some _ _ h in let g = min-le_right n x in omega arith
+
 module _ (s : Setting) where
   out_near : (m b : ℕ) → b < s.traffic.members → b ≢ m → (k : ℕ) × (least_distance s m ≡ Some k) × (k ≤ s.traffic.distance m b)
   unfolding least_distance
@@ -135,11 +139,7 @@ module _ (s : Setting) where
       (in_mapped (s.traffic.distance m) b _ (in_filtered (λ x. not (x == m)) b (is_other b m ne) _
       (in_range s.traffic.members 0 b (omega arith) (omega arith))))
 
-  least_with_in : (n k : ℕ) (o : Option ℕ) → o ≡ Some k → least_with n o ≤ k
-  least_with_in n k None h = let y : ⊥ = cc in absurd y
-  least_with_in n k (Some x) h = let e = same_Some _ _ h in let g = min-le_right n x in omega arith
-
-  promise_le : (i : ℕ) (cs : List PlainCell) (j : ℕ) (c : PlainCell) (t : ℕ) → slice_get cs j ≡ Some c → promise_of s (i + j) c ≡ Some t
+  pub promise_le : (i : ℕ) (cs : List PlainCell) (j : ℕ) (c : PlainCell) (t : ℕ) → slice_get cs j ≡ Some c → promise_of s (i + j) c ≡ Some t
       → least_promise s i cs ≤ t
   promise_le i [] j c t g h = let y : ⊥ = cc in absurd y
   promise_le i (x ∷ cs) zero c t g h =

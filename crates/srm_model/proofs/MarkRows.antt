@@ -1,6 +1,6 @@
 -- Each member's join and leave have one key, whatever the run.
 use Rattle.std.proofs.Common.{◌≡◌, ℕ, zero, suc, List, [], ◌∷◌, ◌++◌, refl, sym, ap, ◌∙◌, subst, ◌≢◌, ◌⊎◌}
-use Rattle.std.proofs.Common.{inl, inr, arith, Less, Greater, Option, Some, None}
+use Rattle.std.proofs.Common.{inl, inr, arith, Less, Greater, Option, Some}
 use Rattle.std.specs.List.{Contains}
 use Rattle.std.specs.Ordering.{ordering_reverse}
 use Rattle.std.proofs.lemmas.List.Elements.{Contains-append_left, Contains-append_right}
@@ -19,7 +19,7 @@ use Rattle.srm_member.proofs.AllIn.{AllIn}
 use Rattle.srm_cell.specs.declared.flight.Flight.{Flight}
 use Rattle.srm_cell.specs.Setting.{Traffic, cause_of_mark}
 use Rattle.srm_cell.specs.Cells.{PlainCell, Event, mark_key, first_arrival, first_mark, next_timer, next_event, Done, Stepped}
-use Rattle.srm_cell.specs.Cells.{word_of, handle, step_at}
+use Rattle.srm_cell.specs.Cells.{handle, step_at}
 use Rattle.srm_cell.proofs.Rising.{OnEvent, earlier_on, OnStep}
 use Rattle.srm_model.specs.World.{row_cmp}
 use Rattle.srm_model.proofs.OneStep.{Does}
@@ -55,24 +55,6 @@ ascends_first (x ∷ xs) ys h = (after_first xs h.0, ascends_first xs ys h.1)
     after_first (z ∷ zs) g = (g.0, after_first zs g.1)
 
 -- ---- marks
-
-record IsOther (k : Mark) : Type 0 where
-  cause : Cause
-  is : cause_of_mark k ≡ Some cause
-  no_join : cause ≢ Join
-
-record IsLeave (k : Mark) : Type 0 where
-  is : cause_of_mark k ≡ None
-  not_join : k.rank ≢ 0
-  not_draw : k.rank ≢ 4
-  not_report : k.rank ≢ 5
-
--- a mark is a join, a leave, or something else
-abbrev Kinds : Mark → Type 0
-Kinds k = ((k.rank ≡ 0) × (cause_of_mark k ≡ Some Join)) ⊎ (IsOther k ⊎ IsLeave k)
-
-kinds : (k : Mark) → Kinds k
-kinds k = grind arith
 
 -- of member j: a join is at the time of its join, and a leave at that of its leave
 pub record IsOwnMark (t : Traffic) (j : ℕ) (k : Mark) : Type 0 where
@@ -126,13 +108,7 @@ pub record RowMarks (t : Traffic) (r : Row) : Type 0 where
   pub join : r.cause ≡ word.Join → r.key ≡ own_key (t.join r.key.member) r.key.member 0
   pub leave : r.cause ≡ word.Leave → (at : ℕ) × (t.leave r.key.member ≡ Some at) × (r.key ≡ own_key at r.key.member 6)
 
-cause_word : (c : Cause) → (c ≢ Join → word_of (Some c) ≢ word.Join) × (word_of (Some c) ≢ word.Leave)
-cause_word c = grind arith
-
 module _ (t : Traffic) (m : ℕ) (e : Event) (d : Stepped) (does : Does e d) where
-  row_of_other : (c : Cause) → e.cause ≡ Some c → c ≢ Join → RowMarks t d.row
-  row_of_other c is no_join = grind arith
-
   pub row_marks : MarksOf (IsOwnMark t m) m e → RowMarks t d.row
   row_marks h = grind arith
 

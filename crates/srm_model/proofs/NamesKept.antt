@@ -32,9 +32,10 @@ use Rattle.srm_model.specs.Handed.{SentIn}
 use Rattle.srm_model.specs.HeldNames.{Draws, Drew, Carries, TellsOfName, ToldOf, Got, Lost, Lacks, EndsHolding, ExitsAreWhatRowsSay}
 use Rattle.srm_model.specs.HeldNames.{RequestsAreForLosses, RepairsAreOfHeld}
 use Rattle.srm_model.proofs.OneStep.{Takes, Sends, Answers, Leaves, Steps, StepFacts, each_after, run_keeps}
-use Rattle.srm_model.proofs.TraceRows.{contains_none, contains_last, contains_cases, sent_more, sent_cases, IsSplit, split_cases}
+use Rattle.srm_model.proofs.TraceRows.{contains_none, contains_last, contains_cases, sent_more, sent_cases, IsSplit, no_split, split_cases}
 use Rattle.srm_model.proofs.HandedOnce as handing
-use Rattle.srm_model.proofs.HandedOnce.{EachCell, Handed, handed_step, handed_opening}
+use Rattle.srm_model.proofs.HandedOnce.{same_of, Handed, handed_step, handed_opening}
+use Rattle.srm_model.proofs.Settled.{EachCell}
 
 -- ---- what rows say of a member's tables
 
@@ -504,9 +505,6 @@ module _ (s : Setting) (fit : IsFit s) where
             same_packet : (x y : Packet) → Some (Arrival x) ≡ Some (Arrival y) → x ≡ y
             same_packet x y h = cc
 
-            same_of : (x y : Packet) → Of x ≡ Of y → x ≡ y
-            same_of x y h = cc
-
             not_both : d.row.told ≡ Fresh → d.row.told ≡ Fixed → ⊥
             not_both h q = let x : Fresh ≡ Fixed = sym h ∙ q in cc
 
@@ -662,9 +660,6 @@ module _ (s : Setting) (fit : IsFit s) where
   none_drew : (j : ℕ) (n : Name) (ink : ℕ) → ¬ Drew j n ink []
   none_drew j n ink h = contains_none h.0 h.1
 
-  none_told : (t : Told) (j : ℕ) (n : Name) → ¬ ToldOf t j n []
-  none_told t j n h = contains_none h.0 h.1
-
   knows_nothing : (j : ℕ) → j < s.traffic.members → CellKnows [] j (opening_cell s j).holds (opening_cell s j).exit
   knows_nothing j lt = grind arith
 
@@ -689,8 +684,8 @@ module _ (s : Setting) (fit : IsFit s) where
     source = λ j n ink h. absurd (none_drew j n ink h);
     one = λ n a b h g. absurd (none_drew n.source n a h);
     inks = λ p n ink h b. absurd (contains_none h.0 h.1);
-    asks = λ before after r p n split q h. absurd (handing.no_split s before after r split);
-    answers = λ before after r p n ink split q h. absurd (handing.no_split s before after r split);
+    asks = λ before after r p n split q h. absurd (no_split before after r split);
+    answers = λ before after r p n ink split q h. absurd (no_split before after r split);
   }
 
   pub names_reached : (w : World) → IsReached s w → Names w.cells w.trace

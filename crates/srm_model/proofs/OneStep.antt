@@ -1,5 +1,5 @@
 -- One step of the sequential run: the event that it takes, the cell from which, the row, and the cells after it.
-use Rattle.std.proofs.Common.{◌≡◌, ℕ, zero, suc, ◌<◌, ◌≤◌, Bool, true, false, cond, not, ◌&&◌, List, [], ◌∷◌, ◌++◌, length, refl}
+use Rattle.std.proofs.Common.{◌≡◌, ℕ, zero, suc, ◌<◌, ◌≤◌, List, [], ◌∷◌, ◌++◌, length, refl}
 use Rattle.std.proofs.Common.{sym, ap, ◌∙◌, subst, ◌≢◌, ◌⊎◌, inr, arith, Option, Some, None, option_map, slice_get}
 use Rattle.std.proofs.Common.{le_refl}
 use Rattle.srm_net.specs.declared.packet.Body.{Body}
@@ -206,18 +206,6 @@ module _ (s : Setting) where
   run_keeps P kept (suc n) w v p h = let r = run_begins n w v h in run_keeps P kept n _ v (kept w r.0 r.1 r.2 p) r.3
 
   -- ---- flights
-
-  and_parts : (a b : Bool) → (a && b) ≡ true → (a ≡ true) × (b ≡ true)
-  and_parts true b h = (refl, h)
-  and_parts false b h = cc
-
-  if_some : (b : Bool) (n at : ℕ) → cond b (Some n) None ≡ Some at → (b ≡ true) × (n ≡ at)
-  if_some true n at h = (refl, cc)
-  if_some false n at h = cc
-
-  not_true : (b : Bool) → not b ≡ true → b ≡ false
-  not_true true h = cc
-  not_true false h = refl
 
   -- a flight is to another member, and arrives before the end of the run
   pub arrival_is : (p : Packet) (m at : ℕ) → arrival_of s.traffic p m ≡ Some at → (m < s.traffic.members) × (m ≢ p.id.sender)

@@ -37,7 +37,7 @@ use Rattle.srm_model.specs.Handed.{SentIn}
 use Rattle.srm_model.specs.HeldNames.{Drew, Carries, ToldOf, Lost, Lacks}
 use Rattle.srm_model.specs.Tables.{TracesAreOrderly}
 use Rattle.srm_model.proofs.HandedOnce as handing
-use Rattle.srm_model.proofs.HandedOnce.{EachCell, all_contained}
+use Rattle.srm_model.proofs.HandedOnce.{all_contained}
 use Rattle.srm_model.proofs.LostNames.{Apart, none_before, OfMembers, PagesOf, BodyOf, CauseOf, SessionOf, Known, known}
 use Rattle.srm_model.proofs.MarkRows.{ascends_first, IsOwnMark, MarksOf, next_marks, script_after, RowMarks, row_marks, joins_once}
 use Rattle.srm_model.proofs.MarkRows.{leaves_once}
@@ -45,8 +45,9 @@ use Rattle.srm_model.proofs.NamesKept.{CellKnows, Knows, Names, names_step, name
 use Rattle.srm_model.proofs.OneStep.{Takes, Sends, Answers, Leaves, Steps, StepFacts, each_after, run_keeps}
 use Rattle.srm_model.proofs.RunLemmas.{least_from}
 use Rattle.srm_model.proofs.StrictRuns.{keys_rise}
-use Rattle.srm_model.proofs.TraceRows.{contains_none, contains_cases, sent_more, sent_cases, sent_now, IsSplit, split_cases}
-use Rattle.srm_model.proofs.WindowPackets.{split_at}
+use Rattle.srm_model.proofs.TraceRows.{contains_none, contains_cases, contained_split, sent_more, sent_cases, sent_now}
+use Rattle.srm_model.proofs.TraceRows.{no_split, split_cases}
+use Rattle.srm_model.proofs.Settled.{EachCell}
 
 -- ---- what a row brings
 
@@ -274,7 +275,7 @@ module _ (s : Setting) (fit : IsFit s) (own : (j : ℕ) → j < s.traffic.member
     told_fixed : (n : Name) → FixedIn m n trace → ToldOf Fixed m n trace
     told_fixed n h =
         let b = brought_of h.0.about n h.4 in
-        let at = split_at trace h.0 h.1 in
+        let at = contained_split trace h.0 h.1 in
         let sent = (was.names.handed.before at.0 at.1 h.0 b.0 at.2 b.1).0 in (
           h.0,
           h.1,
@@ -338,9 +339,6 @@ module _ (s : Setting) (fit : IsFit s) (own : (j : ℕ) → j < s.traffic.member
   reached_first : IsReached s (opening s)
   unfolding run
   reached_first = (0, refl)
-
-  no_split : (before after : List Row) (r : Row) → IsSplit [] before r after → ⊥
-  no_split before after r h = handing.no_split s before after r h
 
   runs_opening : Runs (opening s).cells []
   unfolding opening

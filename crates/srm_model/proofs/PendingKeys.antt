@@ -17,8 +17,9 @@ use Rattle.srm_cell.proofs.CellKeys.{not_same, all_differ_append, cell_keys_diff
 use Rattle.srm_model.specs.World.{World, cells_after, after_step, least_event, step, run, opening}
 use Rattle.srm_model.specs.Laws.{keys_from, PendingKeysDiffer, CreatedEventsAreLater}
 use Rattle.srm_model.proofs.RunLemmas.{Seq, rest, next, shifted, step_is, after_stepped, after_full, after_spent}
-use Rattle.srm_model.proofs.Sequential.{EachCell, Good, step_facts, good_step, above_step, run_seq, good_opening, good_reached}
+use Rattle.srm_model.proofs.Sequential.{Good, step_facts, good_step, above_step, run_seq, good_opening, good_reached}
 use Rattle.srm_model.proofs.StrictRuns.{Strict, strict_step, strict_opening}
+use Rattle.srm_model.proofs.Settled.{EachCell}
 
 -- ---- keys of different cells
 
@@ -57,7 +58,7 @@ module _ (s : Setting) (fit : IsFit s) where
   strict_seq {end} (next {cs = cs} {e = e} {d = d} h x more) good strict =
       strict_seq more (good_step s fit end cs e d good h x) (strict_step s fit end cs e d good strict h x)
 
-  strict_reached : (n : ℕ) (w : World) → run s n (opening s) ≡ Done w → Strict s fit w.cells
+  pub strict_reached : (n : ℕ) (w : World) → run s n (opening s) ≡ Done w → Strict s fit w.cells
   strict_reached n w h = strict_seq (run_seq s fit n (opening s) w h).1 (good_opening s fit) (strict_opening s fit)
 
 pub pending_keys_differ : PendingKeysDiffer
@@ -96,7 +97,7 @@ module _ (P : Key → Type 0) where
   -- where P holds of later keys, and of all that is pending before a step, it holds of all that is pending after it
   kept_above : (s : Setting) (fit : IsFit s) (cs : List PlainCell) (e : Event) (d : Stepped) → Good s fit cs
       → before s.traffic.until (least_event 0 cs) ≡ Some e → step_at (Some e) ≡ Done d
-      → ((k : Key) → e.key.time < k.time → P k) → EachCell s fit (Above P) cs → EachCell s fit (Above P) (cells_after s e.key.member d 0 cs)
+      → ((k : Key) → e.key.time < k.time → P k) → EachCell (Above P) cs → EachCell (Above P) (cells_after s e.key.member d 0 cs)
   kept_above s fit cs e d good h x later all =
       let f = step_facts s fit s.traffic.until cs e d h x in
       let m = e.key.member in
@@ -134,7 +135,7 @@ created_events_are_later s w v e fit reached h done k has =
     let st = step_cells s w v e h done in
     let were : AllIn P (keys_from 0 w.cells) = AllIn-at_places P (keys_from 0 w.cells)
     (λ n l lt. inr (All-contains_itself (keys_from 0 w.cells) n l lt)) in
-    let before_it : EachCell s fit (Above P) w.cells = λ j c g. rw zero-add at (each_above P 0 w.cells were j c g) in
+    let before_it : EachCell (Above P) w.cells = λ j c g. rw zero-add at (each_above P 0 w.cells were j c g) in
     let after_it = kept_above P s fit w.cells e st.0 good h st.1 (λ l lt. inl lt) before_it in
     let all : AllIn P (keys_from 0 v.cells) = all_above_keys P 0 v.cells
     (λ j c g. rw zero-add (after_it j c (ap (λ cs. slice_get cs j) (sym st.2) ∙ g))) in

@@ -11,8 +11,8 @@ use Rattle.srm_cell.specs.Cells.{Done, Full, Idle, PlainCell, Spent, StepOutcome
 use Rattle.srm_cell.specs.OwnRuns.{own_rows, told_to}
 use Rattle.srm_cell.specs.Setting.{Setting, arrival_of}
 use Rattle.srm_model.proofs.Settled.{at_member, get_after, swap_cells}
-use Rattle.srm_model.specs.Schedules.{AllSendLate, SendsLate, own_of}
-use Rattle.srm_model.specs.World.{row_cmp, cells_after}
+use Rattle.srm_model.specs.Schedules.{AllSendLate, SendsLate, own_of, scheduled}
+use Rattle.srm_model.specs.World.{World, row_cmp, cells_after}
 use Rattle.srm_member.proofs.OrderLemmas.{place-comm}
 use Rattle.srm_member.specs.declared.row.Row.{Row}
 use Rattle.srm_net.specs.Keys.{numbers_of_key}
@@ -26,6 +26,10 @@ pub data Sched (s : Setting) (end : ℕ) : List PlainCell → List ℕ → List 
   stop : {cs : List PlainCell} → Sched s end cs [] [] cs
   go : {cs : List PlainCell} {m : ℕ} {ms : List ℕ} {d : Stepped} {rows : List Row} {ds : List PlainCell} → own_of end m (slice_get cs m)
       ≡ Done d → Sched s end (cells_after s m d 0 cs) ms rows ds → Sched s end cs (m ∷ ms) (d.row ∷ rows) ds
+
+-- a schedule goes on from what its first step gives
+unfoldable pub then_schedule : Setting → ℕ → List ℕ → StepOutcome World → StepOutcome World
+then_schedule s end ms o = elim o [ Idle ↦ Idle | Full ↦ Full | Spent ↦ Spent | Done v ↦ scheduled s end ms v ]
 
 abbrev pub Quiet : ℕ → List PlainCell → Type 0
 Quiet end cs = (m : ℕ) → own_of end m (slice_get cs m) ≡ Idle

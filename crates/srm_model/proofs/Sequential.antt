@@ -17,7 +17,7 @@ use Rattle.srm_cell.specs.Setting.{IsFit, Setting, arrival_of}
 use Rattle.srm_model.proofs.RunLemmas.{Seq, least_from, next, rest}
 use Rattle.srm_model.proofs.ScheduleLemmas.{Safe}
 use Rattle.srm_model.proofs.OneStep.{length_opening, run_begins}
-use Rattle.srm_model.proofs.Settled.{each_after, length_after}
+use Rattle.srm_model.proofs.Settled.{EachCell, each_after, length_after}
 use Rattle.srm_model.specs.Schedules.{AllSendLate, SendsLate}
 use Rattle.srm_model.specs.World.{World, least_event, opening, opening_cells, row_cmp, run, cells_after}
 use Rattle.srm_member.proofs.FewerTimers.{SoundRecord}
@@ -48,10 +48,6 @@ least_of_all k i (x ∷ cs) h (suc j) c g =
     rw same (least_of_all k (suc i) cs (least_earlier k (next_event i x) (least_event (suc i) cs) h).1 j c g)
 
 module _ (s : Setting) (fit : IsFit s) where
-  -- every cell is so
-  abbrev pub EachCell : (ℕ → PlainCell → Type 0) → List PlainCell → Type 0
-  EachCell Q cs = (j : ℕ) (c : PlainCell) → slice_get cs j ≡ Some c → Q j c
-
   hear_at_sound : (p : Packet) (o : Option ℕ) (c : PlainCell) → SoundRecord c.holds → SoundRecord (hear_at p o c).holds
   hear_at_sound p None c h = h
   hear_at_sound p (Some at) c h = h

@@ -11,6 +11,10 @@ use Rattle.srm_cell.specs.OwnRuns.{told_to}
 use Rattle.srm_cell.specs.Setting.{Setting}
 use Rattle.srm_model.specs.World.{cells_after}
 
+-- every cell is so
+abbrev pub EachCell : (ℕ → PlainCell → Type 0) → List PlainCell → Type 0
+EachCell Q cs = (j : ℕ) (c : PlainCell) → slice_get cs j ≡ Some c → Q j c
+
 module _ (s : Setting) where
   -- ---- the cells after a step, one by one
 

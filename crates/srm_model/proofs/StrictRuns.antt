@@ -18,8 +18,8 @@ use Rattle.srm_cell.specs.Setting.{HasOwnRanks, IsFit, Setting, arrival_of}
 use Rattle.srm_cell.specs.declared.flight.Flight.{Flight}
 use Rattle.srm_model.proofs.OneStep.{hear_at_sent}
 use Rattle.srm_model.proofs.RunLemmas.{Seq, next, rest, seq_run}
-use Rattle.srm_model.proofs.Sequential.{EachCell, Good, StepFacts, above_after, above_all, above_step, good_opening, good_step}
-use Rattle.srm_model.proofs.Settled.{each_after}
+use Rattle.srm_model.proofs.Sequential.{Good, StepFacts, above_after, above_all, above_step, good_opening, good_step}
+use Rattle.srm_model.proofs.Settled.{EachCell, each_after}
 use Rattle.srm_model.proofs.Sequential.{run_seq, step_facts}
 use Rattle.srm_model.proofs.Settled.{at_member, get_after}
 use Rattle.srm_model.specs.Laws.{KeysRise}
@@ -86,8 +86,8 @@ fresh_apart cs f (g ∷ gs) h a = (
 
 module _ (s : Setting) (fit : IsFit s) where
   pub record Strict (cs : List PlainCell) : Type 0 where
-    pub distinct : EachCell s fit (λ j c. IsDistinct c) cs
-    pub fresh : EachCell s fit (λ j c. IsFresh cs c) cs
+    pub distinct : EachCell (λ j c. IsDistinct c) cs
+    pub fresh : EachCell (λ j c. IsFresh cs c) cs
 
   told_sent : (x : Option Packet) (m : ℕ) (c : PlainCell) → (told_to s.traffic x m c).sent ≡ c.sent
   unfolding hear
@@ -111,10 +111,6 @@ module _ (s : Setting) (fit : IsFit s) where
 
     abbrev after : List PlainCell
     after = cells_after s m d 0 cs
-
-    grows : (y : Option Packet) (b a : ℕ) → CountAfter b y a → b ≤ a
-    grows None b a c = omega arith
-    grows (Some p) b a c = let q = c.1 in omega arith
 
     here_after : slice_get after m ≡ Some d.cell
     here_after = grind (arith, get_after, facts)
@@ -201,7 +197,7 @@ module _ (s : Setting) (fit : IsFit s) where
           (λ f u v. then_after k (timer_key j f) u v) (timers c.holds) a.dues b.dues;
     }
 
-    strictly_after : EachCell s fit (Above (After e.key)) after
+    strictly_after : EachCell (Above (After e.key)) after
     strictly_after =
         let besides = subst (OnEvent (Besides m facts.cell)) facts.event
         (before_on (Besides m facts.cell) end (next_event m facts.cell)
@@ -213,7 +209,7 @@ module _ (s : Setting) (fit : IsFit s) where
         (λ k lt. then_after e.key k (later_not_before e.key k lt) (later_differs e.key k lt)) (both e.key m d.cell from clear)
         (λ j c g ne. both e.key j c (above_all s fit end cs e good h j c g) (other_member e.key j c (λ q. ne (sym q))))
 
-    still_after : (k : Key) → EachCell s fit (Above (After k)) cs → (After k e.key) × EachCell s fit (Above (After k)) after
+    still_after : (k : Key) → EachCell (Above (After k)) cs → (After k e.key) × EachCell (Above (After k)) after
     still_after k all =
         let a = subst (OnEvent (IsAbove (After k) m)) facts.event
         (before_on (IsAbove (After k) m) end (next_event m facts.cell)
@@ -227,7 +223,7 @@ module _ (s : Setting) (fit : IsFit s) where
         )
 
   seq_after : {end : ℕ} {cs ds : List PlainCell} {rows : List Row} (r : Row) → Seq s end cs rows ds → Good s fit cs → Strict cs
-      → EachCell s fit (Above (λ l. key_cmp r.key l ≡ Less)) cs → AllAfter row_cmp r rows
+      → EachCell (Above (λ l. key_cmp r.key l ≡ Less)) cs → AllAfter row_cmp r rows
   seq_after r rest good strict all = tt
   seq_after {end} r (next {cs = cs} {e = e} {d = d} h x more) good strict all =
       let a = still_after end cs e d good strict h x r.key all in
@@ -242,7 +238,7 @@ module _ (s : Setting) (fit : IsFit s) where
       let good' = good_step s fit end cs e d good h x in
       let strict' = strict_step end cs e d good strict h x in
       let all = strictly_after end cs e d good strict h x in (
-        seq_after d.row more good' strict' (subst (λ k. EachCell s fit (Above (λ l. key_cmp k l ≡ Less))
+        seq_after d.row more good' strict' (subst (λ k. EachCell (Above (λ l. key_cmp k l ≡ Less))
             (cells_after s e.key.member d 0 cs))
             (sym f.key) all),
         seq_ascends more good' strict',

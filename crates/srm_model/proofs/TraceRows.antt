@@ -1,7 +1,7 @@
 -- Rows, packets and counts of a trace that grows by a row.
 use Rattle.std.proofs.Common.{◌≡◌, ℕ, zero, suc, ◌<◌, ◌+◌, Bool, true, false, cond, ◌&&◌, List, [], ◌∷◌, ◌++◌, refl, sym, ap, ◌∙◌}
 use Rattle.std.proofs.Common.{◌≢◌, ◌⊎◌, inl, inr, arith, Ordering, Some, is_lt}
-use Rattle.std.proofs.Common.{◌==◌, eqb-true}
+use Rattle.std.proofs.Common.{◌==◌}
 use Rattle.std.specs.List.{Contains, count_by}
 use Rattle.std.proofs.lemmas.List.Sums.{sum_by-cons}
 use Rattle.std.proofs.lemmas.List.Elements.{Contains-append_left, Contains-append_right, Contains-append_cases}
@@ -78,11 +78,6 @@ pub same_self : (p : PacketId) → same_packet p p ≡ true
 same_self p = let a : (p.sender == p.sender) ≡ true = Rattle.std.proofs.Common.eq-eqb _ _ refl in let b : (p.count == p.count)
     ≡ true = Rattle.std.proofs.Common.eq-eqb _ _ refl in simp (a, b)
 
--- a row at another member, or of which the packet is another, or which is no arrival, is not an arrival of this packet
--- here
-pub elsewhere : (k : PacketId) (m : ℕ) (r : Row) → r.key.member ≢ m → is_arrival_of k m r ≡ false
-elsewhere k m r ne = grind arith
-
 pub not_of : (k : PacketId) (a : About) → ((q : Packet) → a ≡ Of q → k ≢ q.id) → is_about k a ≡ false
 not_of k a h = grind arith
 
@@ -95,8 +90,17 @@ here k q m r e a = let b : (r.key.member == m) ≡ true = Rattle.std.proofs.Comm
 
 -- ---- a row of a list, and the rows before it
 
+pub contained_split : {A : Type 0} (xs : List A) (x : A) → Contains xs x → (before : List A) × (after : List A) × (xs ≡ before ++ x ∷ after)
+contained_split [] x h = absurd (contains_none x h)
+contained_split (y ∷ ys) x (zero, l, e) = ([], ys, ap (λ z. z ∷ ys) e)
+contained_split (y ∷ ys) x (suc k, l, e) = let r = contained_split ys x (k, omega arith, e) in (y ∷ r.0, r.1, ap (λ l. y ∷ l) r.2)
+
 abbrev pub IsSplit : List Row → List Row → Row → List Row → Type 0
 IsSplit rows before r after = rows ≡ before ++ r ∷ after
+
+pub no_split : (rows after : List Row) (r : Row) → IsSplit [] rows r after → ⊥
+no_split [] after r e = cc
+no_split (b ∷ rows) after r e = cc
 
 same_head : {A : Type 0} (x y : A) (xs ys : List A) → x ∷ xs ≡ y ∷ ys → x ≡ y
 same_head x y xs ys e = cc

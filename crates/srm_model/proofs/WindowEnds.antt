@@ -70,7 +70,7 @@ least_is_a_rule p seed accepted = elim (least_delay (network_of p)) as
           (λ k h. let x = same_Some d k (sym e ∙ h) in omega arith)
     ] refl
 
-promise_within : (s : Setting) (i : ℕ) (cs : List PlainCell) → least_promise s i cs ≤ s.traffic.until
+pub promise_within : (s : Setting) (i : ℕ) (cs : List PlainCell) → least_promise s i cs ≤ s.traffic.until
 promise_within s i [] = omega arith
 promise_within s i (c ∷ cs) = let a = least_with_le (least_promise s (i + 1) cs) (promise_of s i c) in
     let b = promise_within s (i + 1) cs in omega arith

@@ -1,8 +1,7 @@
 -- The packets of a window's rows are new to every cell that hears them one after the other.
 use Rattle.std.proofs.lemmas.Grind.{common_steps}
 use Rattle.std.proofs.Common.{◌≡◌, ◌≢◌, ℕ, zero, suc, ◌<◌, ◌+◌, List, [], ◌∷◌, ◌++◌, refl, sym, ap, ◌∙◌, subst, arith, Option, Some}
-use Rattle.std.proofs.Common.{None, option_map, slice_get, add-zero, append_assoc}
-use Rattle.std.specs.List.{Contains}
+use Rattle.std.proofs.Common.{None, slice_get, add-zero, append_assoc}
 use Rattle.std.proofs.lemmas.List.Elements.{Contains-append_left, Contains-append_right}
 use Rattle.std.proofs.lemmas.Option.{same_Some}
 use Rattle.srm_net.specs.declared.key.Key.{Key}
@@ -25,11 +24,12 @@ use Rattle.srm_model.specs.Hearing.{IsUnheard}
 use Rattle.srm_model.specs.WindowRuns.{OwnResult, AreOwnRuns, cells_in, each_hears, after_window, IsWindow}
 use Rattle.srm_model.specs.WindowLaws.{WindowPacketsAreNew}
 use Rattle.srm_model.proofs.HandedOnce.{handed_reached, packets_are_numbered, IsFlight}
-use Rattle.srm_model.proofs.TraceRows.{contains_none, sent_more}
+use Rattle.srm_model.proofs.TraceRows.{contained_split, sent_more}
 use Rattle.srm_model.proofs.OneWindow.{new_rows_are, part_rows, windows_agree}
 use Rattle.srm_model.proofs.RunLemmas.{Seq, rest, next, shifted}
 use Rattle.srm_model.proofs.Sequential.{Good, good_reached, good_step, member_below, step_facts}
 use Rattle.srm_model.proofs.WindowRows.{get_heard}
+use Rattle.srm_model.proofs.AllSchedules.{mapped}
 
 -- ---- rows of the run are of its members, and before its end
 
@@ -51,11 +51,6 @@ all_at Q xs y ys h = (AllIn-second Q xs (y ∷ ys) h).0
 
 -- ---- packets that are sent later are others
 
-pub split_at : {A : Type 0} (xs : List A) (x : A) → Contains xs x → (before : List A) × (after : List A) × (xs ≡ before ++ x ∷ after)
-split_at [] x h = absurd (contains_none x h)
-split_at (y ∷ ys) x (zero, l, e) = ([], ys, ap (λ z. z ∷ ys) e)
-split_at (y ∷ ys) x (suc k, l, e) = let r = split_at ys x (k, omega arith, e) in (y ∷ r.0, r.1, ap (λ l. y ∷ l) r.2)
-
 counted_more : (m : ℕ) (before : List Row) (r : Row) (after : List Row) (p : Packet) → r.key.member ≡ m → r.sent ≡ Some p
     → sending_count m before < sending_count m (before ++ r ∷ after)
 counted_more m before r after p member sent = grind (arith, common_steps)
@@ -64,7 +59,7 @@ module _ (s : Setting) (v : World) (reached : IsReached s v) (earlier after : Li
     (split : v.trace ≡ earlier ++ r ∷ after) (sent : r.sent ≡ Some p) where
   pub later_is_new : (q : Packet) → SentIn q earlier → q.id ≢ p.id
   later_is_new q (r', at, q_sent) same =
-      let cut = split_at earlier r' at in
+      let cut = contained_split earlier r' at in
       let whole : v.trace ≡ cut.0 ++ r' ∷ (cut.1 ++ r ∷ after) = split ∙ ap (λ l. l ++ r ∷ after) cut.2
       ∙ append_assoc cut.0 (r' ∷ cut.1) (r ∷ after) in
       let a = packets_are_numbered s v reached earlier after r p split sent in
@@ -138,10 +133,6 @@ get_cell end i (c ∷ cs) (r ∷ rs) h zero d g = (
 get_cell end i (c ∷ cs) (r ∷ rs) h (suc j) d g = rw (shifted i j) (get_cell end (suc i) cs rs h.1 j d g)
 get_cell end i [] (r ∷ rs) h j d g = absurd h
 get_cell end i (c ∷ cs) [] h j d g = absurd h
-
-mapped : {A B : Type 0} (f : A → B) (o : Option A) (y : B) → option_map f o ≡ Some y → (x : A) × (o ≡ Some x) × (f x ≡ y)
-mapped f None y h = cc
-mapped f (Some x) y h = (x, refl, same_Some _ _ h)
 
 -- where every packet that was sent before is another, it is new to every cell that has heard those of the rows
 pub new_after : (s : Setting) (w : World) (end : ℕ) (results : List OwnResult) (rows : List Row) (p : Packet) → IsReached s w

@@ -104,11 +104,6 @@ turn_told links u n next m le e f =
     let here : meets_node u (Some (get_or links m no_link)) ≡ true = sym (ap (meets_node u) g) ∙ r.met in
     record { below = below; link = g; meets_it = here; joins = joins_other (get_or links m no_link) u here }
 
--- what is told of the link's end is the link before
-pub before_is : (links : List LinkSpec) (u l : ℕ) (k : LinkSpec) (e : Earlier) → meets_node u (Some k) ≡ true → TellsEarlier links l k e
-    → cond (eqb k.a u) e.a e.b ≡ last_meeting links u l
-before_is links u l k e m t = grind arith
-
 -- the same as it is read
 pub before_told : (nodes : ℕ) (links : List LinkSpec) (u m i j : ℕ) (t : Adjacency) (r : Earlier) (v : ℕ) → TellsLinks nodes links t
     → Turn links u m → i ≡ m → j ≡ m → r ≡ get_or t.earlier.items j r → v ≡ cond (eqb (get_or links i no_link).a u) r.a r.b

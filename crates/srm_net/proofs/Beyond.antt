@@ -22,22 +22,16 @@ module _ (w : Network) (ps : List Position) (r : IsRooted w ps) (l : ℕ) (k : L
   link_of : LinkOf w l k
   link_of = record { tree = r.tree; link = g }
 
-  some : 1 ≤ w.nodes
-  some = r.tree.some_nodes
-
   apart : k.a ≢ k.b
   apart = joins_others w r.tree l k g
-
-  place_of : (u : ℕ) → u < w.nodes → (at ps u).place ≡ r.place u
-  place_of u hu = (r.each u hu).place_is
 
   -- the link leads up from its end of the later place
   lower : (u v : ℕ) → u < w.nodes → v < w.nodes → Joins k u v → u ≢ v → (at ps v).place < (at ps u).place
       → IsSubtree w r.place u l (at ps u).end
   lower u v hu hv j d lt =
       let t : IsTree w = r.tree in
-      let eu = place_of u hu in
-      let ev = place_of v hv in
+      let eu = (r.each u hu).place_is in
+      let ev = (r.each v hv).place_is in
       let h = (r.each u hu).parent (omega arith) in
       let way : route w u v ≡ (at ps u).link ∷ route w (at ps u).parent v = h.route v hv (omega arith) in
       let one : l ∷ [] ≡ route w u v =
@@ -48,7 +42,7 @@ module _ (w : Network) (ps : List Position) (r : IsRooted w ps) (l : ℕ) (k : L
       subst (λ n. IsSubtree w r.place u n (at ps u).end) same ((r.each u hu).subtree (omega arith))
 
   over_from_root : (x : ℕ) → x < w.nodes → is_in (route w 0 x) l ≡ cond (is_beyond w l k 0) (not (is_beyond w l k x)) (is_beyond w l k x)
-  over_from_root x hx = on_route w l k link_of 0 x some hx
+  over_from_root x hx = on_route w l k link_of 0 x r.tree.some_nodes hx
 
   end_a : is_beyond w l k k.a ≡ false
   end_a = ap (λ ls. is_in ls l) (route_nowhere w k.a)
@@ -62,8 +56,8 @@ module _ (w : Network) (ps : List Position) (r : IsRooted w ps) (l : ℕ) (k : L
       → (h ≡ true → IsHeld (at ps u) (at ps x)) → ((at ps u).place ≤ (at ps x).place → (at ps x).place < (at ps u).end → h ≡ true)
       → h ≡ is_in (route w 0 x) l
   held u hu sub x hx h f b =
-      let eu = place_of u hu in
-      let ex = place_of x hx in
+      let eu = (r.each u hu).place_is in
+      let ex = (r.each x hx).place_is in
       same_tests h (is_in (route w 0 x) l)
       (λ t. let p = f t in
       let p0 : (at ps u).place ≤ (at ps x).place = p.0 in
@@ -81,8 +75,8 @@ module _ (w : Network) (ps : List Position) (r : IsRooted w ps) (l : ℕ) (k : L
       → h ≡ is_beyond w l k x
   b_holds lt x hx h f b =
       let ends = ends_below w l k link_of in
-      let ea = place_of k.a ends.0 in
-      let eb = place_of k.b ends.1 in
+      let ea = (r.each k.a ends.0).place_is in
+      let eb = (r.each k.b ends.1).place_is in
       let sub = lower k.b k.a ends.1 ends.0 (inr (refl, refl)) (λ e. apart (sym e)) lt in
       let root : is_beyond w l k 0 ≡ false =
       elim (cases_Bool (is_beyond w l k 0)) [
@@ -99,8 +93,8 @@ module _ (w : Network) (ps : List Position) (r : IsRooted w ps) (l : ℕ) (k : L
       → not h ≡ is_beyond w l k x
   a_holds le x hx h f b =
       let ends = ends_below w l k link_of in
-      let ea = place_of k.a ends.0 in
-      let eb = place_of k.b ends.1 in
+      let ea = (r.each k.a ends.0).place_is in
+      let eb = (r.each k.b ends.1).place_is in
       let other : r.place k.b ≢ r.place k.a = λ e. apart (sym (r.apart k.b k.a ends.1 ends.0 e)) in
       let lt : (at ps k.b).place < (at ps k.a).place =
       elim (cases_eq (r.place k.b) (r.place k.a)) [ inl e ↦ absurd (other e) | inr d ↦ omega arith ] in

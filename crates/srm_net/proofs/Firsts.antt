@@ -37,12 +37,6 @@ parted_back false true false e f = refl
 parted_back false false v e f = cc
 
 module _ (w : Network) (ps : List Position) (r : IsRooted w ps) where
-  some : 1 ≤ w.nodes
-  some = r.tree.some_nodes
-
-  place_of : (u : ℕ) → u < w.nodes → (at ps u).place ≡ r.place u
-  place_of u hu = (r.each u hu).place_is
-
   -- the link of a node, with its ends
   link_up : (u : ℕ) → u < w.nodes → 1 ≤ r.place u
       → (k : LinkSpec) × LinkOf w (at ps u).link k × Joins k u (at ps u).parent
@@ -58,8 +52,8 @@ module _ (w : Network) (ps : List Position) (r : IsRooted w ps) where
   under : (u x : ℕ) → u < w.nodes → x < w.nodes → 1 ≤ r.place u → IsHeld (at ps u) (at ps x)
       → is_in (route w 0 x) (at ps u).link ≡ true
   under u x hu hx h held =
-      let eu = place_of u hu in
-      let ex = place_of x hx in
+      let eu = (r.each u hu).place_is in
+      let ex = (r.each x hx).place_is in
       let h0 : (at ps u).place ≤ (at ps x).place = held.0 in
       let h1 : (at ps x).place < (at ps u).end = held.1 in
       ((r.each u hu).subtree h).whole x hx (omega arith) (omega arith)
@@ -68,8 +62,8 @@ module _ (w : Network) (ps : List Position) (r : IsRooted w ps) where
       → is_in (route w 0 x) (at ps u).link ≡ false
   not_under u x hu hx h n =
       not_in (route w 0 x) (at ps u).link (λ i.
-      let eu = place_of u hu in
-      let ex = place_of x hx in
+      let eu = (r.each u hu).place_is in
+      let ex = (r.each x hx).place_is in
       let p = ((r.each u hu).subtree h).within x hx i in
       let p0 : r.place u ≤ r.place x = p.0 in
       let p1 : r.place x < (at ps u).end = p.1 in
@@ -86,8 +80,8 @@ module _ (w : Network) (ps : List Position) (r : IsRooted w ps) where
       → (1 ≤ r.place x) × ((at ps x).parent < w.nodes) × IsHeld (at ps u) (at ps (at ps x).parent)
       × ((at ps (at ps x).parent).place < (at ps x).place)
   parent_held u x hu hx d held =
-      let eu = place_of u hu in
-      let ex = place_of x hx in
+      let eu = (r.each u hu).place_is in
+      let ex = (r.each x hx).place_is in
       let h0 : (at ps u).place ≤ (at ps x).place = held.0 in
       let h1 : (at ps x).place < (at ps u).end = held.1 in
       let other : r.place u ≢ r.place x = λ e. d (r.apart u x hu hx e) in
@@ -95,7 +89,7 @@ module _ (w : Network) (ps : List Position) (r : IsRooted w ps) where
       let p = (at ps x).parent in
       let l = (at ps x).link in
       let up = (r.each x hx).parent (omega arith) in
-      let ep = place_of p up.node in
+      let ep = (r.each p up.node).place_is in
       let low : r.place p < r.place x = up.earlier in
       let root : r.place 0 ≡ 0 = r.root in
       let first : r.place u ≤ r.place p =
@@ -104,7 +98,7 @@ module _ (w : Network) (ps : List Position) (r : IsRooted w ps) where
         | inr z ↦ (let su = (r.each u hu).subtree (omega arith) in
             let sx = (r.each x hx).subtree (omega arith) in
             let i = under u x hu hx (omega arith) held in
-            let way = route_there w r.tree 0 x p l some hx up.node (up.route 0 some (omega arith)) up.leads in
+            let way = route_there w r.tree 0 x p l r.tree.some_nodes hx up.node (up.route 0 r.tree.some_nodes (omega arith)) up.leads in
             elim (in_append_cases (route w 0 p) (l ∷ []) (at ps u).link (subst (λ ls. is_in ls (at ps u).link ≡ true) way i)) [
               | inl j ↦ (su.within p up.node j).0
               | inr j ↦ elim (in_cases l (at ps u).link [] j) [
@@ -126,8 +120,8 @@ module _ (w : Network) (ps : List Position) (r : IsRooted w ps) where
   pub first_down : (u v x : ℕ) → u < w.nodes → v < w.nodes → IsChildAbove w ps u v x → IsFirstLink w u v (at ps x).link x
   first_down u v x hu hv c =
       let l = (at ps x).link in
-      let ex = place_of x c.node in
-      let eu = place_of u hu in
+      let ex = (r.each x c.node).place_is in
+      let eu = (r.each u hu).place_is in
       let below : (at ps u).place < (at ps x).place = c.below in
       let h : 1 ≤ r.place x = omega arith in
       let k = link_up x c.node h in
@@ -136,8 +130,8 @@ module _ (w : Network) (ps : List Position) (r : IsRooted w ps) where
       let there : Joins k.0 u x = turned k.0 x u joins in
       let i = under x v c.node hv h c.held in
       let n = not_under x u c.node hu h (λ z. (let z0 : (at ps x).place ≤ (at ps u).place = z.0 in absurd (omega arith))) in
-      let bu = on_route w l k.0 k.1 0 u some hu in
-      let bv = on_route w l k.0 k.1 0 v some hv in
+      let bu = on_route w l k.0 k.1 0 u r.tree.some_nodes hu in
+      let bv = on_route w l k.0 k.1 0 v r.tree.some_nodes hv in
       let on : is_in (route w u v) l ≡ true = on_route w l k.0 k.1 u v hu hv
       ∙ parted (is_beyond w l k.0 0) (is_beyond w l k.0 u) (is_beyond w l k.0 v) (sym bu ∙ n) (sym bv ∙ i) in
       record {
@@ -152,12 +146,12 @@ module _ (w : Network) (ps : List Position) (r : IsRooted w ps) where
       → IsFirstLink w u v (at ps u).link (at ps u).parent
   first_up u v hu hv n =
       let l = (at ps u).link in
-      let eu = place_of u hu in
-      let ev = place_of v hv in
+      let eu = (r.each u hu).place_is in
+      let ev = (r.each v hv).place_is in
       let root : r.place 0 ≡ 0 = r.root in
       let h : 1 ≤ r.place u =
       elim (cases_eq (r.place u) 0) [
-        | inl z ↦ (let same : u ≡ 0 = r.apart u 0 hu some (z ∙ sym root) in
+        | inl z ↦ (let same : u ≡ 0 = r.apart u 0 hu r.tree.some_nodes (z ∙ sym root) in
             let all : r.place v < (at ps u).end = subst (λ y. r.place v < (at ps y).end) (sym same) (r.whole v hv) in
             absurd (n (omega arith, omega arith)))
         | inr z ↦ omega arith
@@ -166,8 +160,8 @@ module _ (w : Network) (ps : List Position) (r : IsRooted w ps) where
       let up = (r.each u hu).parent h in
       let i = own u hu h in
       let o = not_under u v hu hv h n in
-      let bu = on_route w l k.0 k.1 0 u some hu in
-      let bv = on_route w l k.0 k.1 0 v some hv in
+      let bu = on_route w l k.0 k.1 0 u r.tree.some_nodes hu in
+      let bv = on_route w l k.0 k.1 0 v r.tree.some_nodes hv in
       let on : is_in (route w u v) l ≡ true = on_route w l k.0 k.1 u v hu hv
       ∙ parted_back (is_beyond w l k.0 0) (is_beyond w l k.0 u) (is_beyond w l k.0 v) (sym bu ∙ i) (sym bv ∙ o) in
       record {
@@ -179,10 +173,10 @@ module _ (w : Network) (ps : List Position) (r : IsRooted w ps) where
 
   pub held_itself : (u : ℕ) → u < w.nodes → IsHeld (at ps u) (at ps u)
   held_itself u hu =
-      let eu = place_of u hu in
+      let eu = (r.each u hu).place_is in
       let root : r.place 0 ≡ 0 = r.root in
       elim (cases_eq (r.place u) 0) [
-        | inl z ↦ (let same : u ≡ 0 = r.apart u 0 hu some (z ∙ sym root) in
+        | inl z ↦ (let same : u ≡ 0 = r.apart u 0 hu r.tree.some_nodes (z ∙ sym root) in
             let all : r.place u < (at ps u).end = subst (λ y. r.place u < (at ps y).end) (sym same) (r.whole u hu) in
             (omega arith, omega arith))
         | inr z ↦ (let own : r.place u < (at ps u).end = ((r.each u hu).subtree (omega arith)).own in
@@ -192,8 +186,8 @@ module _ (w : Network) (ps : List Position) (r : IsRooted w ps) where
   -- a node that is held by another one has a later place
   pub held_later : (u x : ℕ) → u < w.nodes → x < w.nodes → u ≢ x → IsHeld (at ps u) (at ps x) → (at ps u).place < (at ps x).place
   held_later u x hu hx d held =
-      let eu = place_of u hu in
-      let ex = place_of x hx in
+      let eu = (r.each u hu).place_is in
+      let ex = (r.each x hx).place_is in
       let h0 : (at ps u).place ≤ (at ps x).place = held.0 in
       let other : r.place u ≢ r.place x = λ e. d (r.apart u x hu hx e) in
       elim (cases_eq (r.place u) (r.place x)) [ inl e ↦ absurd (other e) | inr e ↦ omega arith ]
@@ -206,12 +200,12 @@ module _ (w : Network) (ps : List Position) (r : IsRooted w ps) where
       → (y < w.nodes) × (u ≢ y) × IsHeld (at ps u) (at ps y) × IsHeld (at ps y) (at ps v) × ((at ps y).place < (at ps x).place)
   climb u v x y hu hv hx d below held n which =
       let later = held_later u x hu hx d below in
-      let ex = place_of x hx in
+      let ex = (r.each x hx).place_is in
       let one : 1 ≤ r.place x = omega arith in
       elim which [
         | inl c ↦ (let j = (at ps x).jump in
             let jn = (r.each x hx).jump.node in
-            let ej = place_of j jn in
+            let ej = (r.each j jn).place_is in
             let low : r.place j < r.place x = (r.each x hx).jump_earlier one in
             subst (λ z. (z < w.nodes) × (u ≢ z) × IsHeld (at ps u) (at ps z) × IsHeld (at ps z) (at ps v)
             × ((at ps z).place < (at ps x).place)) (sym c.0)
@@ -226,8 +220,8 @@ module _ (w : Network) (ps : List Position) (r : IsRooted w ps) where
   by_steps : (n u v : ℕ) → u < w.nodes → v < w.nodes → (at ps v).place ≤ n → IsHeld (at ps u) (at ps v)
       → (takes w 0 v ≡ takes w 0 u + takes w u v) × (takes w v 0 ≡ takes w v u + takes w u 0)
   by_steps zero u v hu hv le held =
-      let eu = place_of u hu in
-      let ev = place_of v hv in
+      let eu = (r.each u hu).place_is in
+      let ev = (r.each v hv).place_is in
       let h0 : (at ps u).place ≤ (at ps v).place = held.0 in
       let same : u ≡ v = r.apart u v hu hv (omega arith) in
       let none = takes_nothing w u in
@@ -245,14 +239,14 @@ module _ (w : Network) (ps : List Position) (r : IsRooted w ps) where
             let rest = by_steps n u p hu up.1 (omega arith) up.2 in
             let rest0 : takes w 0 p ≡ takes w 0 u + takes w u p = rest.0 in
             let rest1 : takes w p 0 ≡ takes w p u + takes w u 0 = rest.1 in
-            let eu = place_of u hu in
-            let ev = place_of v hv in
-            let ep = place_of p up.1 in
+            let eu = (r.each u hu).place_is in
+            let ev = (r.each v hv).place_is in
+            let ep = (r.each p up.1).place_is in
             let root : r.place 0 ≡ 0 = r.root in
             let h = (r.each v hv).parent up.0 in
-            let a = parent_back w r.tree r.place v p l hv h 0 some (omega arith) in
+            let a = parent_back w r.tree r.place v p l hv h 0 r.tree.some_nodes (omega arith) in
             let b = parent_back w r.tree r.place v p l hv h u hu (omega arith) in
-            let c = parent_there w r.place v p l h 0 some (omega arith) in
+            let c = parent_there w r.place v p l h 0 r.tree.some_nodes (omega arith) in
             let e = parent_there w r.place v p l h u hu (omega arith) in
             (omega arith, omega arith))
       ]

@@ -1,15 +1,10 @@
 -- Least numbers of lists, and the least delay of a link.
-use Rattle.std.proofs.Common.{◌≡◌, ℕ, ◌≤◌, min, List, length, take, map}
-use Rattle.std.proofs.Common.{Option, Some, None, sym, ap}
+use Rattle.std.proofs.Common.{◌≡◌, ℕ, ◌≤◌, List, length, take, map}
+use Rattle.std.proofs.Common.{Option, sym, ap}
 use Rattle.std.proofs.lemmas.List.{take_all}
 use Rattle.srm_net.specs.declared.link.LinkSpec.{LinkSpec}
 use Rattle.srm_net.specs.Network.{Network}
 use Rattle.srm_net.specs.Least.{least, lesser_delay, least_delay}
-
--- the least of what there was, if anything, and one more
-abbrev pub least_with : Option ℕ → ℕ → Option ℕ
-least_with None y = Some y
-least_with (Some x) y = Some (min x y)
 
 -- the least delay of the first n links
 abbrev pub least_of_first : List LinkSpec → ℕ → Option ℕ

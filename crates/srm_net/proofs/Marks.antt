@@ -1,5 +1,5 @@
 -- Nodes that are marked.
-use Rattle.std.proofs.Common.{◌≡◌, ℕ, zero, suc, ◌<◌, Bool, true, false, cond, List, [], ◌∷◌, ◌++◌, length, replicate, refl}
+use Rattle.std.proofs.Common.{◌≡◌, ℕ, ◌<◌, Bool, true, false, cond, List, [], ◌∷◌, ◌++◌, length, refl}
 use Rattle.std.proofs.Common.{sym, ap, ◌∙◌, arith, eqb, slice_set, ◌||◌, ◌==◌}
 use Rattle.std.proofs.lemmas.List.{get_or-set_same, get_or-set_other}
 use Rattle.srm_net.specs.declared.step.Step.{Step}
@@ -38,8 +38,3 @@ mark_push nodes xs n known e h k x lt =
 pub known_more : (nodes : ℕ) (ss : List Step) (s : Step) (known : List Bool) → length known ≡ nodes → s.node < nodes
     → KnownAre nodes ss known → KnownAre nodes (s ∷ ss) (slice_set known s.node true)
 known_more nodes ss s known e h k = mark_more nodes (attached ss) s.node known e h k
-
-pub none_known : (n x : ℕ) → is_known (replicate n false) x ≡ false
-none_known zero x = refl
-none_known (suc n) zero = refl
-none_known (suc n) (suc x) = none_known n x

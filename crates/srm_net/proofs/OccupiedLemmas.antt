@@ -1,9 +1,8 @@
 -- Which places have members, and on which sides of links members are.
 use Rattle.std.proofs.Common.{◌≡◌, ℕ, zero, suc, ◌+◌, ◌<◌, ◌≤◌, min, Bool, true, false, not, cond, List, [], ◌∷◌, ◌++◌, length, Some}
-use Rattle.std.proofs.Common.{}
 use Rattle.std.proofs.Common.{refl, sym, ap, ◌∙◌, subst, inl, inr, arith, slice_get, slice_index, slice_set, take}
 use Rattle.std.proofs.Common.{◌||◌}
-use Rattle.std.proofs.lemmas.Bool.{cases_Bool, cases_eq, false≢true}
+use Rattle.std.proofs.lemmas.Bool.{cases_Bool, cases_eq, false≢true, or_right}
 use Rattle.std.proofs.lemmas.List.{get_or-set_same, get_or-set_other, take_more}
 use Rattle.srm_net.specs.declared.link.LinkSpec.{LinkSpec}
 use Rattle.srm_net.specs.declared.occupied.Occupied.{Occupied}
@@ -77,12 +76,8 @@ some_found f zero m h e = absurd (omega arith)
 some_found f (suc n) m h e =
     elim (cases_eq m n) [
       | inl q ↦ (let here : f n ≡ true = subst (λ k. f k ≡ true) q e in rw here refl)
-      | inr q ↦ (let rest = some_found f n m (omega arith) e in either (f n) (some_below f n) rest)
+      | inr q ↦ (let rest = some_found f n m (omega arith) e in or_right (f n) (some_below f n) rest)
     ]
-  where
-    either : (a b : Bool) → b ≡ true → (a || b) ≡ true
-    either true b h = refl
-    either false b h = h
 
 none_found : (f : ℕ → Bool) (n : ℕ) → ((m : ℕ) → m < n → f m ≡ false) → some_below f n ≡ false
 none_found f zero h = refl

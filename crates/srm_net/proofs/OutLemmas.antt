@@ -132,12 +132,6 @@ module _ (w : Network) (n : IsNetwork w) (table : List Nearest) (s : IsSound w t
 -- ---- a node and its parent
 
 module _ (w : Network) (ps : List Position) (r : IsRooted w ps) where
-  some : 1 ≤ w.nodes
-  some = r.tree.some_nodes
-
-  place_of : (u : ℕ) → u < w.nodes → (at ps u).place ≡ r.place u
-  place_of u hu = (r.each u hu).place_is
-
   held_or_not : (q p : Position) → IsHeld q p ⊎ (IsHeld q p → ⊥)
   held_or_not q p = grind arith
 
@@ -153,7 +147,7 @@ module _ (w : Network) (ps : List Position) (r : IsRooted w ps) where
 
   module _ (c : ℕ) (hc : c < w.nodes) (one : 1 ≤ (at ps c).place) where
     one_at : 1 ≤ r.place c
-    one_at = let e = place_of c hc in omega arith
+    one_at = let e = (r.each c hc).place_is in omega arith
 
     pub parent_there_below : (at ps c).parent < w.nodes
     parent_there_below = ((r.each c hc).parent one_at).node
@@ -162,8 +156,8 @@ module _ (w : Network) (ps : List Position) (r : IsRooted w ps) where
     parent_before =
         let up = (r.each c hc).parent one_at in
         let low : r.place (at ps c).parent < r.place c = up.earlier in
-        let e = place_of c hc in
-        let f = place_of (at ps c).parent up.node in
+        let e = (r.each c hc).place_is in
+        let f = (r.each (at ps c).parent up.node).place_is in
         omega arith
 
     pub from_parent : (x : ℕ) → x < w.nodes → IsHeld (at ps c) (at ps x) → takes w (at ps c).parent x ≡ takes w c x + over_down c
@@ -188,7 +182,7 @@ module _ (w : Network) (ps : List Position) (r : IsRooted w ps) where
         let root : r.place 0 ≡ 0 = r.root in
         let k = one_at in
         (r.each c hc).down
-        ∙ parent_back w r.tree r.place c (at ps c).parent (at ps c).link hc ((r.each c hc).parent one_at) 0 some (omega arith)
+        ∙ parent_back w r.tree r.place c (at ps c).parent (at ps c).link hc ((r.each c hc).parent one_at) 0 r.tree.some_nodes (omega arith)
         ∙ ap (λ d. d + over_down c) (sym (r.each (at ps c).parent parent_there_below).down)
 
     pub up_more : (at ps c).up ≡ over_up c + (at ps (at ps c).parent).up
@@ -196,7 +190,7 @@ module _ (w : Network) (ps : List Position) (r : IsRooted w ps) where
         let root : r.place 0 ≡ 0 = r.root in
         let k = one_at in
         (r.each c hc).up
-        ∙ parent_there w r.place c (at ps c).parent (at ps c).link ((r.each c hc).parent one_at) 0 some (omega arith)
+        ∙ parent_there w r.place c (at ps c).parent (at ps c).link ((r.each c hc).parent one_at) 0 r.tree.some_nodes (omega arith)
         ∙ ap (λ d. over_up c + d) (sym (r.each (at ps c).parent parent_there_below).up)
 
   -- the node next below one on the way to another that is below it
@@ -218,13 +212,13 @@ module _ (w : Network) (ps : List Position) (r : IsRooted w ps) where
   child_over u v hu hv d h = child_from u v hu hv (at ps v).place v (omega arith) hv d h (held_itself w ps r v hv)
 
   pub place_most : (u : ℕ) → u < w.nodes → (at ps u).place < (at ps 0).end
-  place_most u hu = subst (λ p. p < (at ps 0).end) (sym (place_of u hu)) (r.whole u hu)
+  place_most u hu = subst (λ p. p < (at ps 0).end) (sym (r.each u hu).place_is) (r.whole u hu)
 
   pub root_holds : (u x : ℕ) → u < w.nodes → x < w.nodes → (at ps u).place ≡ 0 → IsHeld (at ps u) (at ps x)
   root_holds u x hu hx z =
       let root : r.place 0 ≡ 0 = r.root in
-      let e = place_of u hu in
-      let same : u ≡ 0 = r.apart u 0 hu some (sym e ∙ z ∙ sym root) in
+      let e = (r.each u hu).place_is in
+      let same : u ≡ 0 = r.apart u 0 hu r.tree.some_nodes (sym e ∙ z ∙ sym root) in
       let most = place_most x hx in
       (omega arith, subst (λ v. (at ps x).place < (at ps v).end) (sym same) most)
 
@@ -275,7 +269,7 @@ placed_more w ps r xs n long hn old u h =
           (get_or-set_same xs (at ps n).place n 0 (omega arith))
       | inr d ↦ (let hu : u < w.nodes = omega arith in
           let other : (at ps u).place ≢ (at ps n).place =
-          λ e. d (r.apart u n hu hn (sym (place_of w ps r u hu) ∙ e ∙ place_of w ps r n hn)) in
+          λ e. d (r.apart u n hu hn (sym (r.each u hu).place_is ∙ e ∙ (r.each n hn).place_is)) in
           get_or-set_other xs (at ps n).place (at ps u).place n 0 other ∙ old u (omega arith))
     ]
 

@@ -1,5 +1,5 @@
 -- Counts of rows, row by row.
-use Rattle.std.proofs.Common.{◌≡◌, ◌∙◌, ℕ, ◌+◌, ◌<◌, ◌≤◌, ◌≢◌, All, Bool, true, false, cond, ◌&&◌, List, [], ◌∷◌, ◌++◌}
+use Rattle.std.proofs.Common.{◌≡◌, ◌∙◌, ℕ, ◌+◌, ◌<◌, ◌≢◌, All, Bool, true, false, cond, ◌&&◌, List, [], ◌∷◌, ◌++◌}
 use Rattle.std.proofs.Common.{length, Option}
 use Rattle.std.proofs.Common.{refl, ap, sym, get_or, slice_set, ◌==◌, eqb-true, eq-eqb, true≢false, arith}
 use Rattle.std.specs.List.{count_by}
@@ -97,10 +97,6 @@ member_rows-more rows m (q ∷ ks) k n e = ap (λ l. member_fields m q (counts_o
     (member_rows-more rows (m + 1) ks k n (omega arith))
 
 -- ---- how great counts are
-
--- so after any more rows
-pub at_most : (n m : ℕ) (c : Counts) → n ≤ m → IsAtMost n c → IsAtMost m c
-at_most n m c up b = grind arith
 
 -- of the member whose row was counted, and of the others
 pub bounds_set : (n : ℕ) (cs : List Counts) (k : ℕ) (c : Counts) → All (IsAtMost n) cs → k < length cs → IsAtMost (n + 1) c

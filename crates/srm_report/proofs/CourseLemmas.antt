@@ -14,7 +14,7 @@ use Rattle.std.proofs.lemmas.Grind.{flat_map-append}
 use Rattle.std.proofs.lemmas.List.{map-append}
 use Rattle.std.proofs.lemmas.List.Elements.{Contains-append_left, Contains-append_right}
 use Rattle.std.proofs.lemmas.Map.Views.{Contains-from_any}
-use Rattle.std.proofs.lemmas.Bool.{and_from}
+use Rattle.std.proofs.lemmas.Bool.{and_from, and_right, or_right, false_from_ne_true}
 use Rattle.srm_net.specs.declared.packet.Name.{Name}
 use Rattle.srm_net.specs.Orders.{place, ordered}
 use Rattle.srm_net.proofs.Basics.{T_first, T_second, T_less, or_turn}
@@ -30,6 +30,7 @@ use Rattle.srm_report.specs.declared.loss.Loss.{Loss}
 use Rattle.srm_report.specs.Courses.{TellLosses, after_fix, fixed_at, course_of, losing, name_fixed}
 use Rattle.srm_report.specs.Losses.{loss_cmp, numbers_of_loss, losses_in, detects, fixes, detected_at, recovered_at}
 use Rattle.srm_report.specs.Rows.{is_name, row_time}
+use Rattle.std.proofs.lemmas.List.Folds.{list_any-append}
 
 -- ---- losses that tie are the same
 
@@ -58,10 +59,6 @@ pub second_true : (a b : Bool) → (a && b) ≡ true → b ≡ true
 second_true true b h = h
 second_true false b h = absurd (true≢false (sym h))
 
-and_false : (a b : Bool) → b ≡ false → (a && b) ≡ false
-and_false true b h = h
-and_false false b h = refl
-
 first_false : (a b : Bool) → (a || b) ≡ false → a ≡ false
 first_false true b h = h
 first_false false b h = refl
@@ -70,21 +67,9 @@ second_false : (a b : Bool) → (a || b) ≡ false → b ≡ false
 second_false true b h = absurd (true≢false h)
 second_false false b h = h
 
-not_true : (b : Bool) → (b ≡ true → ⊥) → b ≡ false
-not_true true h = absurd (h refl)
-not_true false h = refl
-
 T_both : (a b : Bool) → T a → T b → T (a && b)
 T_both true b p q = q
 T_both false b p q = p
-
-any_append : {A : Type 0} (p : A → Bool) (xs ys : List A) → list_any p (xs ++ ys) ≡ (list_any p xs || list_any p ys)
-any_append p [] ys = refl
-any_append p (x ∷ xs) ys = ap (λ b. p x || b) (any_append p xs ys) ∙ sym (grouped (p x) (list_any p xs) (list_any p ys))
-  where
-    grouped : (a b c : Bool) → ((a || b) || c) ≡ (a || (b || c))
-    grouped true b c = refl
-    grouped false b c = refl
 
 pub told_is : (t : Told) → is_fixed t ≡ true → t ≡ Fixed
 told_is t h = grind arith
@@ -101,11 +86,7 @@ named_in n ns h = Contains-from_any {eq = is_name} same_names n ns h
 in_named : (n : Name) (ns : List Name) → Contains ns n → list_any (is_name n) ns ≡ true
 in_named n [] c = absurd (let l = c.1 in omega arith)
 in_named n (x ∷ xs) (zero, l, e) = ap (λ b. b || list_any (is_name n) xs) (ap (is_name n) e ∙ name_is n)
-in_named n (x ∷ xs) (suc i, l, e) = right (is_name n x) (list_any (is_name n) xs) (in_named n xs (i, omega arith, e))
-  where
-    right : (a b : Bool) → b ≡ true → (a || b) ≡ true
-    right true b h = refl
-    right false b h = h
+in_named n (x ∷ xs) (suc i, l, e) = or_right (is_name n x) (list_any (is_name n) xs) (in_named n xs (i, omega arith, e))
 
 -- ---- entries
 
@@ -204,10 +185,6 @@ if_so b q = cond b (Some q) None
 at_push : (t : Row → Bool) (rows : List Row) (q : Row) → at t (rows ++ q ∷ []) ≡ row_time (option_or (lists.find t rows) (if_so (t q) q))
 at_push t rows q = ap row_time (find-append t rows (q ∷ []))
 
-alike : (o : Option Row) (b : Bool) (p q : Row) → p.key.time ≡ q.key.time
-    → row_time (option_or o (if_so b p)) ≡ row_time (option_or o (if_so b q))
-alike o b p q e = grind arith
-
 none_more : (o : Option Row) → row_time (option_or o None) ≡ row_time o
 none_more (Some r) = refl
 none_more None = refl
@@ -226,7 +203,7 @@ at_first t rows q none h =
 find_none : (t : Row → Bool) (rows : List Row) → ((q : Row) → Contains rows q → t q ≡ true → ⊥) → lists.find t rows ≡ None
 find_none t [] h = refl
 find_none t (q ∷ rows) h =
-    ap (λ b. cond b (Some q) (lists.find t rows)) (not_true (t q) (h q (0, omega arith, refl)))
+    ap (λ b. cond b (Some q) (lists.find t rows)) (false_from_ne_true (t q) (h q (0, omega arith, refl)))
     ∙ find_none t rows (λ r c. h r (Contains-append_right (q ∷ []) rows r c))
 
 find_some : (t : Row → Bool) (rows : List Row) (q : Row) → Contains rows q → t q ≡ true → (n : ℕ) × (at t rows ≡ Some n)
@@ -278,7 +255,7 @@ module _ (rows : List Row) (r : Row) (front : List Name) (n : Name) (es : List (
   not_fixed = grind (arith, find_none, second_true, brought_is)
 
   detects_not : detects k q0 ≡ false
-  detects_not = and_false (m == m) _ (not_true _ (λ h. new_here (named_in n front h)))
+  detects_not = and_right (m == m) _ (false_from_ne_true _ (λ h. new_here (named_in n front h)))
 
   none : find loss_cmp k es ≡ None
   none =
@@ -294,9 +271,6 @@ module _ (rows : List Row) (r : Row) (front : List Name) (n : Name) (es : List (
       sym (any_ordered (eq_by_cmp loss_cmp k) (losses_in (rows ++ q0 ∷ []))) ∙ ap (list_any (eq_by_cmp loss_cmp k)) (sym was.losses)
       ∙ sym (is_some-find loss_cmp k es) ∙ ap is_some none
 
-  course : Course
-  course = record { detected = r.key.time; recovered = None }
-
   lost_now : course_of (rows ++ q1 ∷ []) k ≡ Some (record { detected = r.key.time; recovered = None })
   lost_now = grind (arith, at_first, not_before, in_named, Contains-append_right, at_none, not_fixed)
 
@@ -305,10 +279,10 @@ module _ (rows : List Row) (r : Row) (front : List Name) (n : Name) (es : List (
   other j ne = elim (m == j.member) as (λ b. (m == j.member) ≡ b → (b && list_any (is_name j.name) (front ++ n ∷ []))
       ≡ (b && list_any (is_name j.name) front)) [
         | true ↦ λ e.
-            let name : is_name j.name n ≡ false = not_true (is_name j.name n) (λ h.
+            let name : is_name j.name n ≡ false = false_from_ne_true (is_name j.name n) (λ h.
             (let s = same_names j.name n h in let g = eqb-true m j.member e in
             differ j k ne (λ i. record { member = sym g i; name = s i }))) in
-            any_append (is_name j.name) front (n ∷ []) ∙ ap (λ b. list_any (is_name j.name) front || (b || false)) name
+            list_any-append (is_name j.name) front (n ∷ []) ∙ ap (λ b. list_any (is_name j.name) front || (b || false)) name
             ∙ or_false (list_any (is_name j.name) front)
         | false ↦ λ e. refl
       ] refl
@@ -351,7 +325,7 @@ module _ (rows : List Row) (r : Row) (es : List (Loss × Course)) (was : TellLos
   fixes_is j = ap (λ b. (r.key.member == j.member) && b) (fixes_by (is_name j.name) (is_fixed r.told) (brought r.about))
 
   unfixed_now : (j : Loss) → fixes j q ≡ false
-  unfixed_now j = and_false (r.key.member == j.member) false refl
+  unfixed_now j = and_right (r.key.member == j.member) false refl
 
   -- a loss that the row does not fix
   course_stays : (j : Loss) → fixes j r ≡ false → course_of (rows ++ r ∷ []) j ≡ course_of (rows ++ q ∷ []) j
@@ -396,7 +370,8 @@ module _ (rows : List Row) (r : Row) (es : List (Loss × Course)) (was : TellLos
         (ap (λ o. option_map_or (is_name n) o false) fix ∙ name_is n)))
 
     apart : (j : Loss) → eq_by_cmp loss_cmp j k2 ≡ false → fixes j r ≡ false
-    apart j ne = fixes_is j ∙ ap (λ o. (r.key.member == j.member) && option_map_or (is_name j.name) o false) fix ∙ not_true _ (λ h.
+    apart j ne = fixes_is j ∙ ap (λ o. (r.key.member == j.member) && option_map_or (is_name j.name) o false) fix
+        ∙ false_from_ne_true _ (λ h.
         (let s = same_names j.name n (second_true (r.key.member == j.member) _ h) in
         let g = eqb-true r.key.member j.member (first_true (r.key.member == j.member) _ h) in
         differ j k2 ne (λ i. record { member = sym g i; name = s i })))

@@ -1,7 +1,7 @@
 -- The table of losses, loss by loss, over orderly rows.
 use Rattle.std.proofs.Common.{◌≡◌, ◌∙◌, ℕ, zero, suc, ◌+◌, ◌<◌, Bool, true, false, cond, List, [], ◌∷◌, ◌++◌, length, map, Some, None, refl}
 use Rattle.std.proofs.Common.{ap, sym, subst, take, drop, get_or, append_assoc, ◌==◌, eqb-true, arith}
-use Rattle.std.proofs.Math.Seq.{take-length}
+use Rattle.std.proofs.Math.Seq.{take-length, split_at as split_suc}
 use Rattle.std.specs.List.{Contains, All}
 use Rattle.std.specs.List as lists
 use Rattle.std.specs.FinMap.Entries.{find, put}
@@ -22,6 +22,7 @@ use Rattle.srm_report.specs.Rows.{row_time}
 use Rattle.srm_report.specs.Tables.{table_lines}
 use Rattle.srm_report.proofs.CourseLemmas.{found, named_in, first_true, second_true, told_is, one_more}
 use Rattle.srm_report.proofs.TableLemmas.{table_more}
+use Rattle.srm_model.proofs.TraceRows.{contained_split}
 
 length-keys : (es : List (Loss × Course)) → length (map (λ (e : Loss × Course). e.0) es) ≡ length es
 length-keys [] = refl
@@ -30,19 +31,8 @@ length-keys (e ∷ es) = ap suc (length-keys es)
 -- ---- parts of lists
 
 -- a list about one of its places
-split_suc : {A : Type 0} (xs : List A) (i : ℕ) (d : A) → i < length xs → xs ≡ take i xs ++ get_or xs i d ∷ drop (suc i) xs
-split_suc [] i d l = absurd (omega arith)
-split_suc (y ∷ ys) zero d l = refl
-split_suc (y ∷ ys) (suc i) d l = ap (λ zs. y ∷ zs) (split_suc ys i d (omega arith))
-
 pub split_at : {A : Type 0} (xs : List A) (i : ℕ) (d : A) → i < length xs → xs ≡ take i xs ++ get_or xs i d ∷ drop (i + 1) xs
 split_at xs i d l = grind (arith, split_suc)
-
-pub split : {A : Type 0} (xs : List A) (i : ℕ) (x : A) → i < length xs → x ≡ get_or xs i x → xs ≡ take i xs ++ x ∷ drop (i + 1) xs
-split xs i x l e = split_at xs i x l ∙ ap (λ y. take i xs ++ y ∷ drop (i + 1) xs) (sym e)
-
-contained_split : {A : Type 0} (xs : List A) (x : A) → Contains xs x → (before : List A) × (after : List A) × (xs ≡ before ++ x ∷ after)
-contained_split xs x (i, l, e) = (take i xs, drop (i + 1) xs, split xs i x l (sym e))
 
 -- ---- what was fixed was lost
 

@@ -8,7 +8,7 @@ use Rattle.srm_report.specs.declared.standing.Standing.{Standing}
 use Rattle.srm_report.specs.declared.listing_sink.ListingSink.{ListingSink}
 use Rattle.srm_report.specs.Listings.{Form}
 use Rattle.srm_report.specs.Standings.{text_next, after_answer, TakesText}
-use Rattle.srm_report.specs.ListingSinks.{outlet_under, gathered_by, written_by, Wrote, PutsAll}
+use Rattle.srm_report.specs.ListingSinks.{outlet_under, gathered_by, written_by, PutsAll}
 use Rattle.srm_report.specs.ListingSinks.{PutsText, PutsRows, PutsPart, WritesThrough}
 use Rattle.srm_report.specs.SinkLaws.{all_more, front_more}
 
@@ -24,12 +24,6 @@ written_after taken a b c text (Ok v) none same h k =
     )
 written_after taken a b c text (Err e) none same h k =
     front_more taken a b c [] text h (k.0, k.1, ap (λ (l : List ℕ). l ++ text) none ∙ k.2, record { bytes = k.3; counted = k.4 })
-
--- where a sink stands, and whether it took rows, has no part in what it wrote
-stood : {L O : Type 0} (taken : O → Option (List ℕ)) (a b : ListingSink L O) (out : List ℕ) (begun : Bool) (s : Standing)
-    (fits : length b.gathered.items ≤ b.room)
-    → Wrote taken a out b → Wrote taken a out (record b { has_begun = begun; standing = s; within = fits })
-stood taken a b out begun s fits h = record { bytes = h.bytes; counted = h.counted }
 
 -- after the text of rows was put, and the sink stands as the answer says
 pub rows_put : {L O A : Type 0} (taken : O → Option (List ℕ)) (f : Form) (a b : ListingSink L O) (rows : List Row) (r : Result A SinkFault)

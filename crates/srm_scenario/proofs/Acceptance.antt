@@ -1,8 +1,8 @@
 -- What has no fault is as every accepted scenario is.
-use Rattle.std.proofs.Common.{◌≡◌, ℕ, ◌+◌, ◌<◌, ◌≤◌, Bool, true, false, not, cond, List, [], ◌∷◌, ◌++◌, length, map, Option, Some}
-use Rattle.std.proofs.Common.{None, nat_eq, Ordering, refl, sym, ap, ◌∙◌, subst, arith}
+use Rattle.std.proofs.Common.{◌≡◌, ℕ, ◌+◌, ◌<◌, Bool, true, false, not, cond, List, [], ◌∷◌, ◌++◌, length, map}
+use Rattle.std.proofs.Common.{nat_eq, Ordering, refl, sym, ap, ◌∙◌, subst, arith}
 use Rattle.std.proofs.Common.{inl, inr}
-use Rattle.std.proofs.lemmas.Bool.{cases_Bool, false≢true}
+use Rattle.std.proofs.lemmas.Bool.{cases_Bool, false≢true, or_right}
 use Rattle.std.proofs.lemmas.Bool.Decides.{nat_tests}
 use Rattle.std.proofs.lemmas.List.Elements.{All-from_recursion}
 use Rattle.std.specs.List.{AllByRecursion, IsDistinct}
@@ -10,8 +10,6 @@ use Rattle.std.specs.Ordering.{match_ordering}
 use Rattle.std.specs.Prelude.{◌||◌, ◌==◌}
 use Rattle.srm_net.specs.declared.link.DropSpec.{DropSpec}
 use Rattle.srm_net.specs.declared.link.OutageSpec.{OutageSpec}
-use Rattle.srm_net.specs.declared.role.Role.{Role}
-use Rattle.srm_net.specs.declared.role.Role.TheVariants.{Sender, Late}
 use Rattle.srm_net.specs.DropSets.{with_once, ordered_once}
 use Rattle.srm_net.specs.Network.{HasDelays}
 use Rattle.srm_net.specs.Paths.{drop_cmp}
@@ -22,17 +20,15 @@ use Rattle.srm_scenario.specs.declared.fault.ScenarioFault.TheVariants.{NotTree,
 use Rattle.srm_scenario.specs.declared.parts.DrawSpec.{DrawSpec}
 use Rattle.srm_scenario.specs.declared.parts.MemberSpec.{MemberSpec}
 use Rattle.srm_scenario.specs.declared.parts.SessionSpec.{SessionSpec}
-use Rattle.srm_scenario.specs.Accepted.{IsMember, IsThere, IsDraw, IsSession, IsDrop, IsOutage, IsAccepted}
-use Rattle.srm_scenario.specs.Presence.{is_up_to}
-use Rattle.srm_net.specs.Roles.{is_sender, is_late}
-use Rattle.srm_scenario.specs.Faults.{faults_by, fault_unless, is_there, leaves_after, is_taken, member_faults}
+use Rattle.srm_scenario.specs.Accepted.{IsMember, IsDraw, IsSession, IsDrop, IsOutage, IsAccepted}
+use Rattle.srm_net.specs.Roles.{is_late}
+use Rattle.srm_scenario.specs.Faults.{faults_by, fault_unless, leaves_after, is_taken, member_faults}
 use Rattle.srm_scenario.specs.Faults.{fits_draw, fits_session, fits_drop, fits_outage, meaning_faults}
 use Rattle.srm_scenario.specs.Plain.{PlainScenario, network_of}
 use Rattle.srm_scenario.specs.Ranges.{MemberInRange, HasItsPages, InRange}
 use Rattle.srm_scenario.specs.Trees.{is_tree}
 use Rattle.srm_scenario.proofs.TreeLemmas.{tree_from_test}
 use Rattle.srm_scenario.proofs.Placed.{all_weaker}
-use Rattle.srm_net.specs.Limits.{end_of_time}
 
 -- ---- lists of faults without one
 
@@ -56,19 +52,6 @@ none_by fault test i (x ∷ xs) h = by (test x) refl (none_by fault test (i + 1)
     by false e rest h = cc
 
 -- ---- draws, session messages, drops and outages
-
-stays : (at : ℕ) (o : Option ℕ) → is_up_to at o ≡ true → (end : ℕ) → o ≡ Some end → at ≤ end
-stays at None h end e = cc
-stays at (Some last) h end e = let same : last ≡ end = cc in grind (arith, nat_tests)
-
-there : (until at : ℕ) (k : MemberSpec) → is_there until at k ≡ true → IsThere until at k
-there until at k h = grind arith
-
-sends : (r : Role) → is_sender r ≡ true → r ≡ Sender
-sends r h = grind arith
-
-late : (r : Role) → is_late r ≡ true → r ≡ Late
-late r h = grind arith
 
 draw_fits : (s : PlainScenario) (d : DrawSpec) → fits_draw s.until s.members d ≡ true → IsDraw s d
 draw_fits s d h = grind arith
@@ -98,11 +81,6 @@ all_once cmp P [] h = tt
 all_once cmp P (x ∷ xs) h = all_with cmp P x (ordered_once cmp xs) h.0 (all_once cmp P xs h.1)
 
 -- ---- members
-
-leaves : (join : ℕ) (o : Option ℕ) → leaves_after join o ≡ true → ((at : ℕ) → o ≡ Some at → at ≤ end_of_time) → (at : ℕ) → o ≡ Some at
-    → (join < at) × (at ≤ end_of_time)
-leaves join None h few at e = cc
-leaves join (Some end) h few at e = let same : end ≡ at = cc in (grind (arith, nat_tests), few at e)
 
 pub record Fits (until nodes : ℕ) (star : Bool) (earlier : List MemberEntry) (e : MemberEntry) : Type 0 where
   pub within : e.spec.node < nodes
@@ -166,10 +144,6 @@ none_on until nodes star earlier i (e ∷ es) n taken h =
           p.1,
     )
 
-or_true : (b : Bool) → (b || true) ≡ true
-or_true true = refl
-or_true false = refl
-
 nodes_apart : (until nodes : ℕ) (star : Bool) (earlier : List MemberEntry) (i : ℕ) (es : List MemberEntry)
     → member_faults until nodes star earlier i es ≡ []
     → IsDistinct nat_eq (map (λ k. k.node) (map (λ e. e.spec) es))
@@ -179,7 +153,7 @@ nodes_apart until nodes star earlier i (e ∷ es) h =
     let p = head_faults until nodes star earlier i e es h in
     let self : (e.spec.node == e.spec.node) ≡ true = grind (arith, nat_tests) in
     let here : is_taken (earlier ++ e ∷ []) e.spec.node ≡ true = taken_more earlier e e.spec.node
-    ∙ ap (λ b. is_taken earlier e.spec.node || b) self ∙ or_true (is_taken earlier e.spec.node) in (
+    ∙ ap (λ b. is_taken earlier e.spec.node || b) self ∙ or_right (is_taken earlier e.spec.node) true refl in (
       none_on until nodes star (earlier ++ e ∷ []) (i + 1) es e.spec.node here p.1,
       nodes_apart until nodes star (earlier ++ e ∷ []) (i + 1) es p.1,
     )

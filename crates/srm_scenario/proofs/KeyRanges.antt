@@ -40,7 +40,7 @@ back_fits m allowed h delay = or_fits allowed key.Back 1 greatest_delay (number 
 
 -- ---- the rules of a table
 
-all_at : {A : Type 0} (p : A → Bool) (xs : List A) (n : ℕ) (x : A) → list_all p xs ≡ true → slice_get xs n ≡ Some x → p x ≡ true
+pub all_at : {A : Type 0} (p : A → Bool) (xs : List A) (n : ℕ) (x : A) → list_all p xs ≡ true → slice_get xs n ≡ Some x → p x ≡ true
 all_at p [] n x h e = cc
 all_at p (y ∷ ys) zero x h e =
     let same : y ≡ x = cc in

@@ -1,7 +1,7 @@
 -- What a top table that fits its rules holds.
 use Rattle.std.proofs.Common.{slice_get, ◌≡◌, ℕ, suc, ◌+◌, ◌≤◌, Bool, true, false, not, length, Option, Some, None, is_some, codes, refl}
 use Rattle.std.proofs.Common.{ap, subst, sym, ◌∙◌, arith, sum_by, nat_le, unwrap_or, inl, inr}
-use Rattle.std.proofs.lemmas.Bool.{false≢true, and_parts, cases_Bool}
+use Rattle.std.proofs.lemmas.Bool.{false≢true, and_parts, cases_Bool, or_right}
 use Rattle.std.proofs.lemmas.List.Sums.{sum_by-cons}
 use Rattle.std.specs.List.{list_all}
 use Rattle.std.proofs.lemmas.Bool.Decides.{nat_tests}
@@ -44,12 +44,6 @@ named_one true c s n = refl
 named_one false true s n = refl
 named_one false false true n = refl
 named_one false false false n = refl
-
-of_three : (t c s p : Bool) → (c || (s || (t || false))) ≡ true → ((t || (c || s)) || p) ≡ true
-of_three true c s p h = refl
-of_three false true s p h = refl
-of_three false false true p h = refl
-of_three false false false p h = absurd (false≢true h)
 
 -- a word that is there is one of a topology that is made of its size, or says that parents are given
 known_word : (v : Version) (d : Data) → is_kind (Word (topologies_in v)) d ≡ true
@@ -267,11 +261,7 @@ module _ (ms : Members) (h : fits_rules (rules_of_top ms) ms ≡ true) where
   one_delay p none =
       required_number key.Delay 1 greatest_delay ms
       (subst (λ b. is_met ms (rule_where b key.Delay (Whole 1 greatest_delay)) ≡ true)
-      (ap (λ b. is_some (topology_of ms) || b) (λ i. p i && not (none i)) ∙ or-right (is_some (topology_of ms))) delay_met)
-    where
-      or-right : (b : Bool) → (b || true) ≡ true
-      or-right true = refl
-      or-right false = refl
+      (ap (λ b. is_some (topology_of ms) || b) (λ i. p i && not (none i)) ∙ or_right (is_some (topology_of ms)) true refl) delay_met)
 
   -- and the way back is in range where the way there is
   pub one_back : (other : ℕ) → IsLinkDelay other → IsLinkDelay (unwrap_or (optional_number (codes "back") ms) other)

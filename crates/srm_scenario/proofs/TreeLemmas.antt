@@ -1,7 +1,7 @@
 -- The test of a tree, and what a tree is.
-use Rattle.std.proofs.Common.{◌≡◌, ℕ, zero, suc, ◌+◌, ◌<◌, Bool, true, false, List, [], ◌∷◌, length, Option, Some, None, is_some, nat_le}
+use Rattle.std.proofs.Common.{◌≡◌, ℕ, zero, suc, ◌+◌, ◌<◌, Bool, true, false, List, [], ◌∷◌, length, Option, is_some, nat_le}
 use Rattle.std.proofs.Common.{nat_lt, refl, ap, arith, inl, inr, eqb}
-use Rattle.std.proofs.lemmas.Bool.{and_parts, cases_Bool, false≢true, and_from}
+use Rattle.std.proofs.lemmas.Bool.{and_parts, cases_Bool, and_from}
 use Rattle.std.proofs.lemmas.Bool.Decides.{nat_tests}
 use Rattle.std.proofs.lemmas.List.Elements.{recursion_from_All, All-from_recursion}
 use Rattle.std.specs.List.{list_all, AllByRecursion}
@@ -42,10 +42,6 @@ ends_all n (k ∷ ks) h =
 all_ends : (n : ℕ) (ks : List LinkSpec) → AllByRecursion (IsWithin n) ks → list_all (λ k. nat_lt k.a n && nat_lt k.b n) ks ≡ true
 all_ends n [] h = refl
 all_ends n (k ∷ ks) h = and_from _ _ (both_within n k h.0) (all_ends n ks h.1)
-
-some_found : (o : Option (List ℕ)) → is_some o ≡ true → Found o
-some_found None h = absurd (false≢true h)
-some_found (Some ls) h = (ls, refl)
 
 found_some : (o : Option (List ℕ)) → Found o → is_some o ≡ true
 found_some o f = ap is_some f.1

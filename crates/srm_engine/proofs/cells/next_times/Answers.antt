@@ -1,12 +1,11 @@
 use Rattle.std.proofs.Common.{◌≡◌, ◌∙◌, ◌+◌, ◌∷◌, ◌++◌, [], ℕ, List, Option, Some, sym}
 use Rattle.std.proofs.Common.{ap, subst, arith, length, length-append, slice_get}
-use Rattle.std.proofs.lemmas.Option.{slice_get-get_or, slice_get_within}
+use Rattle.std.proofs.lemmas.Option.{slice_get-get_or, slice_get_within, same_Some}
 use Rattle.srm_member.specs.Record.{Record}
 use Rattle.srm_cell.specs.declared.cell.Cell.{Cell}
 use Rattle.srm_cell.specs.Cells.{PlainCell}
 use Rattle.srm_cell.specs.Views.{IsNextTime}
 use Rattle.srm_engine.specs.Seen.{AreCellsInOrder, AreTimes}
-use Rattle.srm_engine.proofs.SeenLemmas.{same_some}
 use Rattle.srm_engine.proofs.SoonGroups.{pushed_each}
 use Rattle.srm_engine.proofs.cells.next_times.Goals as goal
 use Rattle.srm_net.proofs.Lists.{below_get}
@@ -37,7 +36,7 @@ loop-cell-preserved g c =
           pushed_each (λ k (y : Option ℕ). (d : _) → slice_get c.args.cells.now k ≡ Some d
           → IsNextTime (λ b. (goal.Member-dyn g (b.vtable, b.value)).plain b.value) d y) ts t i.1
           (λ d at.
-          let is = same_some _ d (ap Some c.cell-item.is
+          let is = same_Some _ d (ap Some c.cell-item.is
           ∙ sym (slice_get-get_or c.args.cells.now c.loop-cell.cell-index c.cell-item.result c.loop-cell-test.true)
           ∙ ap (slice_get c.args.cells.now) (sym i.0) ∙ at) in
           subst (λ e. IsNextTime (λ b. (goal.Member-dyn g (b.vtable, b.value)).plain b.value) e t) is c.next_time.ensures)

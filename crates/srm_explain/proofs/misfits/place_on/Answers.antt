@@ -1,6 +1,6 @@
 use Rattle.std.proofs.Common.{◌≡◌, Some, length, slice_get, refl, eq-eqb}
 use Rattle.std.proofs.lemmas.Option.{slice_get_read}
-use Rattle.srm_explain.proofs.Listed.{any_at}
+use Rattle.std.proofs.lemmas.Map.Keys.{any_passes_from_place}
 use Rattle.srm_explain.proofs.misfits.place_on.Goals as goal
 
 pub returns-then-member-node : goal.returns-then-member-node
@@ -11,4 +11,4 @@ returns-then-member-node c =
     let at : slice_get members place ≡ Some member =
     slice_get_read members (length members) place member refl c.loop-place-test.true c.index-members-place.is in
     let node = c.if-member-node.true in
-    (any_at _ members place member at (eq-eqb member.spec.node c.args.node node), member, at, node)
+    (any_passes_from_place _ members place member at (eq-eqb member.spec.node c.args.node node), member, at, node)

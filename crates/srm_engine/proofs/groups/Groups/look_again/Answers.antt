@@ -1,14 +1,13 @@
 use Rattle.std.proofs.Common.{◌≡◌, ◌∙◌, ◌++◌, ◌∷◌, [], List, ℕ, ◌<◌, ◌≤◌, ◌/◌, Some, refl, sym, ap, subst, arith, length, get_or, slice_get}
 use Rattle.std.proofs.Common.{take, drop, append-nil}
 use Rattle.std.proofs.lemmas.List.{take_all}
-use Rattle.std.proofs.lemmas.Option.{slice_get-get_or}
+use Rattle.std.proofs.lemmas.Option.{slice_get-get_or, same_Some}
 use Rattle.srm_scenario.proofs.Members.{few_members}
 use Rattle.srm_cell.specs.Setting.{setting_of}
 use Rattle.srm_engine.specs.declared.soonest.Soonest.{Soonest}
 use Rattle.srm_model.specs.WindowRuns.{cells_in}
 use Rattle.srm_engine.specs.Groups.{AreCuts, AreGrouped, all_in, sizes}
 use Rattle.srm_engine.specs.Soonest.{IsSoonest, AreSoonest}
-use Rattle.srm_engine.proofs.SeenLemmas.{same_some}
 use Rattle.srm_engine.proofs.SoonGroups.{looked_at, group_within, soonest_idle, one_set, one_kept, all_looked}
 use Rattle.srm_engine.proofs.groups.Groups.look_again.Goals.{then-kept-place, else-kept-place}
 use Rattle.srm_engine.proofs.groups.Groups.look_again.Goals as goal
@@ -100,7 +99,7 @@ loop-place-preserved g c =
           (λ n (z : Soonest). IsSoonest s (λ m. m / c.args.self.cut ≡ n) ps z) old k
           (c.loop-place.invariant seed ps results alone h soon)
           (λ x get was.
-          let is : get_or old k none ≡ x = same_some (get_or old k none) x (sym at ∙ get) in
+          let is : get_or old k none ≡ x = same_Some (get_or old k none) x (sym at ∙ get) in
           soonest_idle s c.args.self.cut k c.args.end ps results x alone (subst (λ (z : Soonest). c.args.end ≤ z.time) is late) was)
           )
     ]

@@ -5,9 +5,10 @@ use Rattle.srm_cell.specs.Cells.{PlainCell}
 use Rattle.srm_model.specs.World.{opening, opening_cells}
 use Rattle.srm_model.specs.WindowChains.{no_window}
 use Rattle.srm_engine.specs.Groups.{AreKept}
-use Rattle.srm_engine.proofs.Opened.{opening_is, length_opening}
+use Rattle.srm_engine.proofs.Opened.{opening_is}
 use Rattle.srm_engine.proofs.WindowLemmas.{opened_counted}
 use Rattle.srm_engine.proofs.window_engine.WindowEngine.open.Goals as goal
+use Rattle.srm_model.proofs.OneStep.{length_opening}
 
 pub of-requires-clause-members : goal.of-requires-clause-members
 of-requires-clause-members g c =
