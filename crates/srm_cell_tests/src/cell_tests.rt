@@ -112,8 +112,8 @@ fn cell_of(alloc: Global, drops: &Arc<AtomicU64>, script: Vec<Mark>) -> Result<C
 type Outcome = (Told, Option<PacketId>);
 
 // What came of the cell's next event, if it has one before this tick.
-fn step_before(alloc: Global, cell: &mut Cell, end: u32) -> Result<Option<Outcome>, CellFault> {
-    let Some(row) = cell.step(alloc, u64::from(end))? else {
+fn step_before(alloc: Global, cell: &mut Cell, till: u32) -> Result<Option<Outcome>, CellFault> {
+    let Some(row) = cell.step(alloc, u64::from(till))? else {
         return Ok(None);
     };
     let sent = match &row.sent {
@@ -140,11 +140,11 @@ fn expect_steps(
     drops: &AtomicU64,
     steps: &[(u32, Step)],
 ) {
-    for (end, expected) in steps {
+    for (till, expected) in steps {
         let next_time = cell.next_time();
-        let outcome = step_before(alloc, cell, *end);
+        let outcome = step_before(alloc, cell, *till);
         let step = (next_time, outcome, drops.load(Ordering::SeqCst));
-        assert_eq!(rt; step, *expected, "before tick {end}");
+        assert_eq!(rt; step, *expected, "before tick {till}");
     }
 }
 

@@ -130,49 +130,49 @@ as_many_kept s cut gs xs ps pos cuts all soon = elim (nat_lt (length xs) (length
 
 -- ---- after own runs
 
-not_before : (end : ℕ) (o : Option Event) → ((u : ℕ) → time_of o ≡ Some u → end ≤ u) → before end o ≡ None
-not_before end None h = refl
-not_before end (Some e) h = ap (λ b. cond b (Some e) None) (le-ltb e.key.time end (h e.key.time refl))
+not_before : (till : ℕ) (o : Option Event) → ((u : ℕ) → time_of o ≡ Some u → till ≤ u) → before till o ≡ None
+not_before till None h = refl
+not_before till (Some e) h = ap (λ b. cond b (Some e) None) (le-ltb e.key.time till (h e.key.time refl))
 
-idle_step : (end m : ℕ) (c : PlainCell) → ((u : ℕ) → due m c ≡ Some u → end ≤ u) → own_step end m c ≡ Idle
+idle_step : (till m : ℕ) (c : PlainCell) → ((u : ℕ) → due m c ≡ Some u → till ≤ u) → own_step till m c ≡ Idle
 unfolding own_step
-idle_step end m c h = ap step_at (not_before end (next_event m c) h)
+idle_step till m c h = ap step_at (not_before till (next_event m c) h)
 
 -- a cell in which nothing is due before the end is as it was
-idle_from : (end i : ℕ) (cs : List PlainCell) (rs : List OwnResult) → AreOwnRuns end i cs rs → (j : ℕ) (c : PlainCell) → slice_get cs j
+idle_from : (till i : ℕ) (cs : List PlainCell) (rs : List OwnResult) → AreOwnRuns till i cs rs → (j : ℕ) (c : PlainCell) → slice_get cs j
     ≡ Some c
-    → ((u : ℕ) → due (i + j) c ≡ Some u → end ≤ u) → slice_get (cells_in rs) j ≡ Some c
-idle_from end i [] rs h j c get late = cc
-idle_from end i (x ∷ cs) [] h j c get late = absurd h
-idle_from end i (x ∷ cs) (r ∷ rs) h zero c get late =
+    → ((u : ℕ) → due (i + j) c ≡ Some u → till ≤ u) → slice_get (cells_in rs) j ≡ Some c
+idle_from till i [] rs h j c get late = cc
+idle_from till i (x ∷ cs) [] h j c get late = absurd h
+idle_from till i (x ∷ cs) (r ∷ rs) h zero c get late =
     let same = same_some x c get in
     let here : i + 0 ≡ i = omega arith in
-    let idle : own_step end i c ≡ Idle = idle_step end i c (λ u e. late u (ap (λ m. due m c) here ∙ e)) in
+    let idle : own_step till i c ≡ Idle = idle_step till i c (λ u e. late u (ap (λ m. due m c) here ∙ e)) in
     let run = h.0 in
-    ap Some (run.leaves ∙ ap (λ d. own_after end i run.steps d) same ∙ after_idle end i run.steps c idle)
-idle_from end i (x ∷ cs) (r ∷ rs) h (suc j) c get late =
-    idle_from end (suc i) cs rs h.1 j c get (λ u e. late u (ap (λ m. due m c) (shifted i j) ∙ e))
+    ap Some (run.leaves ∙ ap (λ d. own_after till i run.steps d) same ∙ after_idle till i run.steps c idle)
+idle_from till i (x ∷ cs) (r ∷ rs) h (suc j) c get late =
+    idle_from till (suc i) cs rs h.1 j c get (λ u e. late u (ap (λ m. due m c) (shifted i j) ∙ e))
 
-pub idle_stays : (end : ℕ) (cs : List PlainCell) (rs : List OwnResult) → AreOwnRuns end 0 cs rs → (m : ℕ) (c : PlainCell) → slice_get cs m
+pub idle_stays : (till : ℕ) (cs : List PlainCell) (rs : List OwnResult) → AreOwnRuns till 0 cs rs → (m : ℕ) (c : PlainCell) → slice_get cs m
     ≡ Some c
-    → ((u : ℕ) → due m c ≡ Some u → end ≤ u) → slice_get (cells_in rs) m ≡ Some c
-idle_stays end cs rs h m c get late = idle_from end 0 cs rs h m c get (λ u e. late u (ap (λ k. due k c) (sym (zero-add m)) ∙ e))
+    → ((u : ℕ) → due m c ≡ Some u → till ≤ u) → slice_get (cells_in rs) m ≡ Some c
+idle_stays till cs rs h m c get late = idle_from till 0 cs rs h m c get (λ u e. late u (ap (λ k. due k c) (sym (zero-add m)) ∙ e))
 
 -- where nothing is due in a group before the end, it is as it was
-pub soonest_idle : (s : Setting) (cut k end : ℕ) (ps : List PlainCell) (rs : List OwnResult) (x : Soonest) → AreOwnRuns end 0 ps rs
-    → end ≤ x.time
+pub soonest_idle : (s : Setting) (cut k till : ℕ) (ps : List PlainCell) (rs : List OwnResult) (x : Soonest) → AreOwnRuns till 0 ps rs
+    → till ≤ x.time
     → IsSoonest s (λ m. m / cut ≡ k) ps x → IsSoonest s (λ m. m / cut ≡ k) (cells_in rs) x
-soonest_idle s cut k end ps rs x alone late h =
+soonest_idle s cut k till ps rs x alone late h =
     soon_same_cells s (λ m. m / cut ≡ k) ps (cells_in rs) x stays
     (λ m c p get.
-    let many = as_many_results end 0 ps rs alone in
+    let many = as_many_results till 0 ps rs alone in
     let below = get_below (cells_in rs) m c get in
     let q = below_get ps m (omega arith) in
     q.1 ∙ sym (stays m q.0 p q.1) ∙ get)
     h
   where
     stays : (m : ℕ) (c : PlainCell) → m / cut ≡ k → slice_get ps m ≡ Some c → slice_get (cells_in rs) m ≡ Some c
-    stays m c p get = idle_stays end ps rs alone m c get (λ u e. let le = h.time.none_less m c u p get e in omega arith)
+    stays m c p get = idle_stays till ps rs alone m c get (λ u e. let le = h.time.none_less m c u p get e in omega arith)
 
 -- ---- after a packet was heard
 
@@ -220,7 +220,8 @@ module _ {A : Type 0} (N O : ℕ → A → Type 0) (xs : List A) (k : ℕ)
   one_kept kept j x g = grind arith
 
 module _ {M : Type 0} (f : M → Record) (cut : ℕ) (gs : List (Vec (Cell M))) (ps : List PlainCell)
-    (results : List OwnResult) (pos : 0 < cut) (end : ℕ) (alone : AreOwnRuns end 0 ps results) (h : AreGrouped f cut gs (cells_in results))
+    (results : List OwnResult) (pos : 0 < cut) (till : ℕ) (alone : AreOwnRuns till 0 ps results)
+    (h : AreGrouped f cut gs (cells_in results))
   where
     -- each group was looked through again, or has no cells
     pub all_looked : (s : Setting) (xs ys : List Soonest) (place : ℕ) → length gs ≤ place → length ys ≡ length xs → length gs ≤ length xs
@@ -236,7 +237,7 @@ module _ {M : Type 0} (f : M → Record) (cut : ℕ) (gs : List (Vec (Cell M))) 
             let le : place ≤ k = grind (arith, nat_tests) in
             soon_same_cells s (λ m. m / cut ≡ k) ps (cells_in results) x
             (λ m c p get.
-            let long = as_many_results end 0 ps results alone in
+            let long = as_many_results till 0 ps results alone in
             let below = group_below f cut gs (cells_in results) pos h m (let lt = get_below ps m c get in omega arith) in
             absurd (omega (arith, p)))
             (λ m c p get. let below = group_below f cut gs (cells_in results) pos h m (get_below (cells_in results) m c get) in

@@ -10,7 +10,7 @@ returns g c =
     let at : slice_get c.args.self.now.cells.items c.args.member ≡ Some c.index_mut-cell.result.now =
     slice_get-get_or c.args.self.now.cells.items c.args.member c.index_mut-cell.result.now place
     ∙ ap Some (sym (rw c.from.ensures at c.index_mut-cell.ensures.value)) in
-    put_taken (λ b. (goal.Member-dyn g (b.vtable, b.value)).plain b.value) c.args.member c.args.until c.args.self.now
+    put_taken (λ b. (goal.Member-dyn g (b.vtable, b.value)).plain b.value) c.args.member c.args.till c.args.self.now
     c.index_mut-cell.result.now c.step_onto.new.self (slice_set c.args.self.now.cells.items c.from.result c.step_onto.new.self)
     c.set.new.self c.in-Ok.is_event _ _
     (λ ps p row h k told.

@@ -95,13 +95,13 @@ loop-place-preserved g c =
           let qs = cells_in results in
           let none : Soonest = record { time = 0; promise = 0 } in
           let at : slice_get old k ≡ Some (get_or old k none) = slice_get-get_or old k none within in
-          let late : c.args.end ≤ (get_or old k none).time = w.if-kept-place.false in
+          let late : c.args.till ≤ (get_or old k none).time = w.if-kept-place.false in
           one_kept (λ n (z : Soonest). IsSoonest s (λ m. m / c.args.self.cut ≡ n) qs z)
           (λ n (z : Soonest). IsSoonest s (λ m. m / c.args.self.cut ≡ n) ps z) old k
           (c.loop-place.invariant seed ps results alone h soon)
           (λ x get was.
           let is : get_or old k none ≡ x = same_some (get_or old k none) x (sym at ∙ get) in
-          soonest_idle s c.args.self.cut k c.args.end ps results x alone (subst (λ (z : Soonest). c.args.end ≤ z.time) is late) was)
+          soonest_idle s c.args.self.cut k c.args.till ps results x alone (subst (λ (z : Soonest). c.args.till ≤ z.time) is late) was)
           )
     ]
 
@@ -123,6 +123,6 @@ returns-clause-soon g c = λ seed ps results alone h soon.
           (sym (written c.args.self.soon.len c.args.self.soon.items c.loop-place.kept c.args.self.soon.ok.0
           (c.loop-place.auto.kept ∙ kept)))
           (all_looked g.M.Participant.plain c.args.self.cut c.as_slice-all.result.now ps results
-          may.cut.0 c.args.end alone grouped s c.as_mut_slice-kept.result.now c.loop-place.kept c.loop-place.place c.loop-place-test.false
+          may.cut.0 c.args.till alone grouped s c.as_mut_slice-kept.result.now c.loop-place.kept c.loop-place.place c.loop-place-test.false
           c.loop-place.auto.kept (omega arith) began (c.loop-place.invariant seed ps results alone grouped began));
     }

@@ -10,7 +10,7 @@ use Rattle.srm_engine.proofs.groups.Groups.look_again.Given as goal
 -- the groups so far were looked through again, and of the others what was kept stands
 abbrev pub invariant-loop-place : goal.invariant-loop-place
 invariant-loop-place g l =
-    (seed : ℕ) (ps : List PlainCell) (results : List OwnResult) → AreOwnRuns l.end 0 ps results
+    (seed : ℕ) (ps : List PlainCell) (results : List OwnResult) → AreOwnRuns l.till 0 ps results
     → AreGrouped g.M.Participant.plain l.cut l.all (cells_in results)
     → AreSoonest (setting_of l.scenario l.net seed) l.cut l.initial.kept ps
     → (j : ℕ) (x : Soonest) → slice_get l.kept j ≡ Some x
