@@ -25,7 +25,7 @@ use Rattle.srm_engine.specs.declared.soonest.Soonest.{Soonest}
 use Rattle.srm_engine.specs.Groups.{AreCuts, AreGrouped, sizes, all_in}
 use Rattle.srm_model.specs.WindowRuns.{OwnResult, AreOwnRuns, cells_in}
 use Rattle.srm_engine.specs.Soonest.{IsSoonest, AreSoonest, AreThose, IsInRange, due}
-use Rattle.srm_engine.proofs.CellLists.{first_cut, no_more_groups, in_group, at_place}
+use Rattle.srm_engine.proofs.CellLists.{first_cut, no_more_groups, in_group, at_index}
 use Rattle.srm_model.proofs.OneWindow.{as_many_results}
 use Rattle.srm_model.proofs.RunLemmas.{shifted}
 use Rattle.srm_engine.proofs.SeenLemmas.{same_some}
@@ -89,8 +89,8 @@ module _ {M : Type 0} (f : M → Record) (cut : ℕ) (gs : List (Vec (Cell M))) 
       (λ m in_all a. let le = a.0 in let less = a.1 in let most = at.most in let d = at_offset m le in
       ap (λ n. n / cut) d.1 ∙ div-mul-add k cut d.0 (let e = d.1 in omega arith))
       (λ m in_all e.
-      let place = at_place cut gs m m pos h.cuts refl (omega arith) in
-      let within : m % cut < length (get_or gs k g).items = subst (λ n. m % cut < length (get_or gs n g).items) e (place.place g) in
+      let there = at_index cut gs m m pos h.cuts refl (omega arith) in
+      let within : m % cut < length (get_or gs k g).items = subst (λ n. m % cut < length (get_or gs n g).items) e (there.index g) in
       let whole : k * cut + m % cut ≡ m = ap (λ n. n * cut + m % cut) (sym e) ∙ div-add-mod' m cut in
       (omega arith, omega arith))
       soon
@@ -107,7 +107,7 @@ module _ {M : Type 0} (f : M → Record) (cut : ℕ) (gs : List (Vec (Cell M))) 
       soonest_of_group s k g x lt is (subst (λ l. IsSoonest s (IsInRange (k * cut) (length l)) ps x) same (told those))
 
   pub group_below : (m : ℕ) → m < length ps → m / cut < length gs
-  group_below m lt = let all = h.cells.as_many in (at_place cut gs m m pos h.cuts refl (omega arith)).group
+  group_below m lt = let all = h.cells.as_many in (at_index cut gs m m pos h.cuts refl (omega arith)).group
 
 -- for each group it is kept how soon something is due in it
 pub as_many_kept : {A : Type 0} (s : Setting) (cut : ℕ) (gs : List (Vec A)) (xs : List Soonest) (ps : List PlainCell) → 0 < cut
@@ -224,17 +224,17 @@ module _ {M : Type 0} (f : M → Record) (cut : ℕ) (gs : List (Vec (Cell M))) 
     (h : AreGrouped f cut gs (cells_in results))
   where
     -- each group was looked through again, or has no cells
-    pub all_looked : (s : Setting) (xs ys : List Soonest) (place : ℕ) → length gs ≤ place → length ys ≡ length xs → length gs ≤ length xs
+    pub all_looked : (s : Setting) (xs ys : List Soonest) (index : ℕ) → length gs ≤ index → length ys ≡ length xs → length gs ≤ length xs
         → AreSoonest s cut xs ps
         → ((j : ℕ) (x : Soonest) → slice_get ys j ≡ Some x
-        → (j < place → IsSoonest s (λ m. m / cut ≡ j) (cells_in results) x) × (place ≤ j → IsSoonest s (λ m. m / cut ≡ j) ps x))
+        → (j < index → IsSoonest s (λ m. m / cut ≡ j) (cells_in results) x) × (index ≤ j → IsSoonest s (λ m. m / cut ≡ j) ps x))
         → AreSoonest s cut ys (cells_in results)
-    all_looked s xs ys place past same many soon each = record {
+    all_looked s xs ys index past same many soon each = record {
       many = λ m lt. let below = group_below f cut gs (cells_in results) pos h m lt in omega arith;
-      each = λ k x g. elim (nat_lt k place) as (λ b. nat_lt k place ≡ b → IsSoonest s (λ m. m / cut ≡ k) (cells_in results) x) [
+      each = λ k x g. elim (nat_lt k index) as (λ b. nat_lt k index ≡ b → IsSoonest s (λ m. m / cut ≡ k) (cells_in results) x) [
         | true ↦ λ e. (each k x g).0 (grind (arith, nat_tests))
         | false ↦ λ e.
-            let le : place ≤ k = grind (arith, nat_tests) in
+            let le : index ≤ k = grind (arith, nat_tests) in
             soon_same_cells s (λ m. m / cut ≡ k) ps (cells_in results) x
             (λ m c p get.
             let long = as_many_results till 0 ps results alone in

@@ -266,9 +266,6 @@ module _ (s : Setting) (fit : IsFit s) (w : World) (reached : IsReached s w) (e 
   pub sent_by : SentBy e.key.member d.row.sent
   sent_by = (step_facts s fit s.traffic.until w.cells e d least done).sender
 
-  pub place_of : e.key.member < length w.cells
-  place_of = let f = step_facts s fit s.traffic.until w.cells e d least done in get_below w.cells e.key.member f.cell f.here
-
 pub not_spent : (s : Setting) (fit : IsFit s) (w : World) → IsReached s w → step s w ≢ Spent
 not_spent s fit w reached h = (never_spent s w fit reached).0 1
     (run_first s s.traffic.until (le_refl s.traffic.until) 0 w ∙ ap (run_by s s.traffic.until (le_refl s.traffic.until) 0) h)

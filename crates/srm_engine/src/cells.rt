@@ -84,7 +84,7 @@ impl Cells {
         rows: &mut Vec<Row>,
     ) -> Result<bool, CellFault>
         requires till { till ≤ end_of_time }
-        requires place { member < length self.old.cells.items }
+        requires cell { member < length self.old.cells.items }
         requires time { member < length self.old.times }
         ensures { PutsStep (λ r. TakesStep (λ b. plain b) member till self.old r self.new) rows.old.items result rows.new.items }
     {
@@ -100,7 +100,7 @@ impl Cells {
 
     /// A member is handed a packet, which arrives at tick `at`.
     pub(crate) fn hand(&mut self, member: u16, packet: &Packet, at: u64) -> Result<(), AllocError>
-        requires place { member < length self.old.cells.items }
+        requires cell { member < length self.old.cells.items }
         requires time { member < length self.old.times }
         requires new { IsNewAt member packet.now.id self.old }
         ensures { IfOk result (λ _. HandsTo (λ b. plain b) member packet.now at self.old self.new) }

@@ -73,9 +73,9 @@ impl<M: Participant> Groups<M> {
         let mut soon = soon;
         let all = groups.as_slice();
         let kept = soon.as_mut_slice();
-        for (place, group) in all.iter().enumerate() {
-            if kept[place].time < till {
-                kept[place] = soonest_in(scenario, net, group.as_slice(), place * cut, until);
+        for (index, group) in all.iter().enumerate() {
+            if kept[index].time < till {
+                kept[index] = soonest_in(scenario, net, group.as_slice(), index * cut, until);
             }
         }
         Groups { cut, groups, soon }
