@@ -45,10 +45,10 @@ first_le k l h = head_le k.time l.time _ h
 pub second_le : (k l : Key) → key_cmp k l ≡ Greater → l.time ≤ k.time
 second_le k l h = first_le l k (λ g. let e : Greater ≡ Less = sym g ∙ key_total.antisymm l k ∙ ap ordering_reverse h in cc)
 
-pub before-by_key : (end : ℕ) (r : Ordering) (d e : Event) → before end (Some (by_key r d e))
-    ≡ cond (elim r [ Less ↦ nat_lt d.key.time end | Equal ↦ nat_lt d.key.time end | Greater ↦ nat_lt e.key.time end ])
+pub before-by_key : (till : ℕ) (r : Ordering) (d e : Event) → before till (Some (by_key r d e))
+    ≡ cond (elim r [ Less ↦ nat_lt d.key.time till | Equal ↦ nat_lt d.key.time till | Greater ↦ nat_lt e.key.time till ])
     (Some (by_key r d e)) None
-before-by_key end r d e = grind arith
+before-by_key till r d e = grind arith
 
 both_kept : (bd be : Bool) (r : Ordering) (d e : Event) → key_cmp d.key e.key ≡ r → earlier (keep bd d) (keep be e)
     ≡ cond bd (cond be (Some (by_key r d e)) (Some d)) (keep be e)
@@ -60,16 +60,16 @@ none_left : (b : Bool) (d : Event) → keep b d ≡ earlier (keep b d) None
 none_left true d = refl
 none_left false d = refl
 
-pub before-earlier : (end : ℕ) (x y : Option Event) → before end (earlier x y) ≡ earlier (before end x) (before end y)
-before-earlier end None y = refl
-before-earlier end (Some d) None = none_left (nat_lt d.key.time end) d
-before-earlier end (Some d) (Some e) =
+pub before-earlier : (till : ℕ) (x y : Option Event) → before till (earlier x y) ≡ earlier (before till x) (before till y)
+before-earlier till None y = refl
+before-earlier till (Some d) None = none_left (nat_lt d.key.time till) d
+before-earlier till (Some d) (Some e) =
     let r = key_cmp d.key e.key in
-    before-by_key end r d e
-    ∙ picked r (nat_lt d.key.time end) (nat_lt e.key.time end) d e
+    before-by_key till r d e
+    ∙ picked r (nat_lt d.key.time till) (nat_lt e.key.time till) d e
     (λ ng be. let le = first_le d.key e.key ng in let lt = ltb-true _ _ be in lt-ltb _ _ (omega arith))
     (λ g bd. let le = second_le d.key e.key g in let lt = ltb-true _ _ bd in lt-ltb _ _ (omega arith))
-    ∙ sym (both_kept (nat_lt d.key.time end) (nat_lt e.key.time end) r d e refl)
+    ∙ sym (both_kept (nat_lt d.key.time till) (nat_lt e.key.time till) r d e refl)
 
 -- ---- the first of all timers
 
@@ -114,12 +114,12 @@ keep-map : (h : PlainCell → PlainCell) (b : Bool) (e : Event) → keep b (even
 keep-map h true e = refl
 keep-map h false e = refl
 
-before-map : (h : PlainCell → PlainCell) (end : ℕ) (x : Option Event) → before end (option_map (event_map h) x)
-    ≡ option_map (event_map h) (before end x)
-before-map h end None = refl
-before-map h end (Some e) = keep-map h (nat_lt e.key.time end) e
+before-map : (h : PlainCell → PlainCell) (till : ℕ) (x : Option Event) → before till (option_map (event_map h) x)
+    ≡ option_map (event_map h) (before till x)
+before-map h till None = refl
+before-map h till (Some e) = keep-map h (nat_lt e.key.time till) e
 
-module _ (end : ℕ) (p : Packet) (at : ℕ) (late : end ≤ at) where
+module _ (till : ℕ) (p : Packet) (at : ℕ) (late : till ≤ at) where
   abbrev late_hear : PlainCell → PlainCell
   late_hear c = hear_at p (Some at) c
 
@@ -136,19 +136,19 @@ module _ (end : ℕ) (p : Packet) (at : ℕ) (late : end ≤ at) where
   timers_alike m c [] = refl
   timers_alike m c (d ∷ ds) = rw (timers_alike m c ds) (earlier-map late_hear (Some _) (first_timer m c ds))
 
-  arrivals_alike : (m : ℕ) (c : PlainCell) (fs : List Flight) → before end (first_arrival m (late_hear c) (place flight_cmp flight fs))
-      ≡ option_map (event_map late_hear) (before end (first_arrival m c fs))
+  arrivals_alike : (m : ℕ) (c : PlainCell) (fs : List Flight) → before till (first_arrival m (late_hear c) (place flight_cmp flight fs))
+      ≡ option_map (event_map late_hear) (before till (first_arrival m c fs))
   arrivals_alike m c fs = grind arith
 
   -- the least own event before the end is the same, and what is left of the cell hears the packet
-  all_alike : (m : ℕ) (c : PlainCell) → before end (earlier (first_arrival m (late_hear c) (place flight_cmp flight c.inbox))
+  all_alike : (m : ℕ) (c : PlainCell) → before till (earlier (first_arrival m (late_hear c) (place flight_cmp flight c.inbox))
       (earlier (first_mark m (late_hear c) c.script) (first_timer m (late_hear c) (timers c.holds))))
       ≡ option_map (event_map late_hear)
-      (before end (earlier (first_arrival m c c.inbox) (earlier (first_mark m c c.script) (first_timer m c (timers c.holds)))))
+      (before till (earlier (first_arrival m c c.inbox) (earlier (first_mark m c c.script) (first_timer m c (timers c.holds)))))
   all_alike m c = grind (arith, before-earlier, marks_alike, timers_alike, earlier-map, before-map, arrivals_alike)
 
-  next_event_alike : (m : ℕ) (c : PlainCell) → before end (next_event m (late_hear c))
-      ≡ option_map (event_map late_hear) (before end (next_event m c))
+  next_event_alike : (m : ℕ) (c : PlainCell) → before till (next_event m (late_hear c))
+      ≡ option_map (event_map late_hear) (before till (next_event m c))
   next_event_alike m c = grind (arith, next_event_is, all_alike)
 
   handle_alike : (e : Event) (holds : Record) (cause : Option Cause) → handle (event_map late_hear e) holds cause
@@ -161,6 +161,6 @@ module _ (end : ℕ) (p : Packet) (at : ℕ) (late : end ≤ at) where
   step_alike (Some e) = handle_alike e e.rest.holds e.cause
 
   -- a flight that arrives at the end or later changes nothing of the own step
-  pub own_step_late : (m : ℕ) (c : PlainCell) → own_step end m (late_hear c) ≡ outcome_map (stepped_map late_hear) (own_step end m c)
+  pub own_step_late : (m : ℕ) (c : PlainCell) → own_step till m (late_hear c) ≡ outcome_map (stepped_map late_hear) (own_step till m c)
   unfolding own_step
-  own_step_late m c = ap step_at (next_event_alike m c) ∙ step_alike (before end (next_event m c))
+  own_step_late m c = ap step_at (next_event_alike m c) ∙ step_alike (before till (next_event m c))

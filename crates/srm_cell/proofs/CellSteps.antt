@@ -31,9 +31,9 @@ keep_of : (m : ℕ) (b : Bool) (e : Event) → IsOf m (Some e) → IsOf m (keep 
 keep_of m true e h = h
 keep_of m false e h = tt
 
-pub before_of : (m end : ℕ) (x : Option Event) → IsOf m x → IsOf m (before end x)
-before_of m end None h = tt
-before_of m end (Some e) h = keep_of m (nat_lt e.key.time end) e h
+pub before_of : (m till : ℕ) (x : Option Event) → IsOf m x → IsOf m (before till x)
+before_of m till None h = tt
+before_of m till (Some e) h = keep_of m (nat_lt e.key.time till) e h
 
 arrival_is_of : (m : ℕ) (c : PlainCell) (fs : List Flight) → IsOf m (first_arrival m c fs)
 arrival_is_of m c [] = tt
@@ -70,12 +70,12 @@ pub step_at_of : (m : ℕ) (x : Option Event) → IsOf m x → IsStepOf m (step_
 step_at_of m None h = tt
 step_at_of m (Some e) h = handle_of m e e.rest.holds e.cause h
 
-pub own_step_of : (end m : ℕ) (c : PlainCell) → IsStepOf m (own_step end m c)
+pub own_step_of : (till m : ℕ) (c : PlainCell) → IsStepOf m (own_step till m c)
 unfolding own_step
-own_step_of end m c = step_at_of m (before end (next_event m c)) (before_of m end (next_event m c) (next_event_of m c))
+own_step_of till m c = step_at_of m (before till (next_event m c)) (before_of m till (next_event m c) (next_event_of m c))
 
-pub own_step_is : (end m : ℕ) (c : PlainCell) (d : Stepped) → own_step end m c ≡ Done d → (d.row.key.member ≡ m) × SentBy m d.row.sent
-own_step_is end m c d e = subst (IsStepOf m) e (own_step_of end m c)
+pub own_step_is : (till m : ℕ) (c : PlainCell) (d : Stepped) → own_step till m c ≡ Done d → (d.row.key.member ≡ m) × SentBy m d.row.sent
+own_step_is till m c d e = subst (IsStepOf m) e (own_step_of till m c)
 
 -- ---- two packets of different senders may be heard in either order
 
@@ -98,26 +98,26 @@ module _ (s : Traffic) where
   -- ---- a cell hears late packets alone
 
   abbrev IsLateFor : ℕ → Option Packet → Type 0
-  IsLateFor end x = (p : Packet) → x ≡ Some p → (m at : ℕ) → arrival_of s p m ≡ Some at → end ≤ at
+  IsLateFor till x = (p : Packet) → x ≡ Some p → (m at : ℕ) → arrival_of s p m ≡ Some at → till ≤ at
 
-  hear_at_late : (end m : ℕ) (p : Packet) (a : Option ℕ) → ((at : ℕ) → a ≡ Some at → end ≤ at) → (c : PlainCell)
-      → own_step end m (hear_at p a c) ≡ outcome_map (stepped_map (hear_at p a)) (own_step end m c)
-  hear_at_late end m p None h c = unmapped (own_step end m c)
-  hear_at_late end m p (Some at) h c = own_step_late end p at (h at refl) m c
+  hear_at_late : (till m : ℕ) (p : Packet) (a : Option ℕ) → ((at : ℕ) → a ≡ Some at → till ≤ at) → (c : PlainCell)
+      → own_step till m (hear_at p a c) ≡ outcome_map (stepped_map (hear_at p a)) (own_step till m c)
+  hear_at_late till m p None h c = unmapped (own_step till m c)
+  hear_at_late till m p (Some at) h c = own_step_late till p at (h at refl) m c
 
-  pub told_late : (end m : ℕ) (x : Option Packet) → IsLateFor end x → (c : PlainCell) → own_step end m (told_to s x m c)
-      ≡ outcome_map (stepped_map (told_to s x m)) (own_step end m c)
+  pub told_late : (till m : ℕ) (x : Option Packet) → IsLateFor till x → (c : PlainCell) → own_step till m (told_to s x m c)
+      ≡ outcome_map (stepped_map (told_to s x m)) (own_step till m c)
   unfolding hear
-  told_late end m None h c = unmapped (own_step end m c)
-  told_late end m (Some p) h c = hear_at_late end m p (arrival_of s p m) (h p refl m) c
+  told_late till m None h c = unmapped (own_step till m c)
+  told_late till m (Some p) h c = hear_at_late till m p (arrival_of s p m) (h p refl m) c
 
 -- ---- events before an end
 
-pub before_some : (end : ℕ) (x : Option Event) (e : Event) → before end x ≡ Some e → (x ≡ Some e) × (e.key.time < end)
-before_some end x e h = grind arith
+pub before_some : (till : ℕ) (x : Option Event) (e : Event) → before till x ≡ Some e → (x ≡ Some e) × (e.key.time < till)
+before_some till x e h = grind arith
 
-pub before_more : (end until : ℕ) → end ≤ until → (x : Option Event) (e : Event) → before end x ≡ Some e → before until x ≡ Some e
-before_more end until le x e h = grind arith
+pub before_more : (till until : ℕ) → till ≤ until → (x : Option Event) (e : Event) → before till x ≡ Some e → before until x ≡ Some e
+before_more till until le x e h = grind arith
 
 -- ---- steps that are neither the last nor refused
 

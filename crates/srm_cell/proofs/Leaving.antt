@@ -172,21 +172,21 @@ stays_hear_at leave p o c h s = grind (arith, AllIn-place)
 
 -- ---- own runs
 
-pub own_step_not_spent : (leave : Option ℕ) (end m : ℕ) (c : PlainCell) → Stays leave c → own_step end m c ≢ Spent
+pub own_step_not_spent : (leave : Option ℕ) (till m : ℕ) (c : PlainCell) → Stays leave c → own_step till m c ≢ Spent
 unfolding own_step
-own_step_not_spent leave end m c s h = elim (before end (next_event m c)) as (λ o. before end (next_event m c) ≡ o → ⊥) [
+own_step_not_spent leave till m c s h = elim (before till (next_event m c)) as (λ o. before till (next_event m c) ≡ o → ⊥) [
   | None ↦ λ q. let x : Idle ≡ Spent = sym (ap step_at q) ∙ h in cc
-  | Some e ↦ λ q. not_spent e (rest_active leave m c s e (before_some end (next_event m c) e q).0) (sym (ap step_at q) ∙ h)
+  | Some e ↦ λ q. not_spent e (rest_active leave m c s e (before_some till (next_event m c) e q).0) (sym (ap step_at q) ∙ h)
 ] refl
 
-stays_own : (leave : Option ℕ) (end m : ℕ) (c : PlainCell) (d : Stepped) → IsTidy c → Stays leave c → own_step end m c ≡ Done d
+stays_own : (leave : Option ℕ) (till m : ℕ) (c : PlainCell) (d : Stepped) → IsTidy c → Stays leave c → own_step till m c ≡ Done d
     → Stays leave d.cell × IsTidy d.cell
 unfolding own_step
-stays_own leave end m c d tidy s h = elim (before end (next_event m c)) as
-    (λ o. before end (next_event m c) ≡ o → Stays leave d.cell × IsTidy d.cell) [
+stays_own leave till m c d tidy s h = elim (before till (next_event m c)) as
+    (λ o. before till (next_event m c) ≡ o → Stays leave d.cell × IsTidy d.cell) [
       | None ↦ λ q. let x : Idle ≡ Done d = sym (ap step_at q) ∙ h in cc
       | Some e ↦ λ q.
-          let next = (before_some end (next_event m c) e q).0 in
+          let next = (before_some till (next_event m c) e q).0 in
           let x = sym (ap step_at q) ∙ h in (
             stays_step leave m c e d tidy s next x,
             subst (OnStep (λ d. IsTidy d.cell)) x
@@ -195,14 +195,14 @@ stays_own leave end m c d tidy s h = elim (before end (next_event m c)) as
     ] refl
 
 -- an own run meets no record that is gone
-pub own_never_spent : (leave : Option ℕ) (end m n : ℕ) (c : PlainCell) → IsTidy c → Stays leave c → own_end end m n c ≢ Spent
-own_never_spent leave end m zero c tidy s h = own_step_not_spent leave end m c s (sym (end_now end m c) ∙ h)
-own_never_spent leave end m (suc n) c tidy s h = elim (own_step end m c) as (λ o. own_step end m c ≡ o → ⊥) [
-  | Idle ↦ λ q. let x : Idle ≡ Spent = sym (ap (end_by end m n) q) ∙ sym (end_first end m n c) ∙ h in cc
-  | Full ↦ λ q. let x : Full ≡ Spent = sym (ap (end_by end m n) q) ∙ sym (end_first end m n c) ∙ h in cc
-  | Spent ↦ λ q. own_step_not_spent leave end m c s q
-  | Done d ↦ λ q. let after = stays_own leave end m c d tidy s q in
-      own_never_spent leave end m n d.cell after.1 after.0 (sym (ap (end_by end m n) q) ∙ sym (end_first end m n c) ∙ h)
+pub own_never_spent : (leave : Option ℕ) (till m n : ℕ) (c : PlainCell) → IsTidy c → Stays leave c → own_end till m n c ≢ Spent
+own_never_spent leave till m zero c tidy s h = own_step_not_spent leave till m c s (sym (end_now till m c) ∙ h)
+own_never_spent leave till m (suc n) c tidy s h = elim (own_step till m c) as (λ o. own_step till m c ≡ o → ⊥) [
+  | Idle ↦ λ q. let x : Idle ≡ Spent = sym (ap (end_by till m n) q) ∙ sym (end_first till m n c) ∙ h in cc
+  | Full ↦ λ q. let x : Full ≡ Spent = sym (ap (end_by till m n) q) ∙ sym (end_first till m n c) ∙ h in cc
+  | Spent ↦ λ q. own_step_not_spent leave till m c s q
+  | Done d ↦ λ q. let after = stays_own leave till m c d tidy s q in
+      own_never_spent leave till m n d.cell after.1 after.0 (sym (ap (end_by till m n) q) ∙ sym (end_first till m n c) ∙ h)
 ] refl
 
 -- a member that is gone after a step left at the time of the step

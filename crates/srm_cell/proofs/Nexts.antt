@@ -74,16 +74,16 @@ sooner_stands m c d e x y h g = grind (arith, sooner_by)
 
 -- ---- the own step
 
-module _ (end m : ℕ) (p : PlainCell) where
-  pub none_pending : Stands m p None (next_event m p) → own_step end m p ≡ Idle
+module _ (till m : ℕ) (p : PlainCell) where
+  pub none_pending : Stands m p None (next_event m p) → own_step till m p ≡ Idle
   unfolding own_step
-  none_pending h = ap (λ o. step_at (before end o)) h
+  none_pending h = ap (λ o. step_at (before till o)) h
 
-  pub none_before : (q : Pending) → Stands m p (Some q) (next_event m p) → end ≤ q.key.time → own_step end m p ≡ Idle
+  pub none_before : (q : Pending) → Stands m p (Some q) (next_event m p) → till ≤ q.key.time → own_step till m p ≡ Idle
   unfolding own_step
   none_before q h le = grind arith
 
-  pub takes : (q : Pending) → (h : Stands m p (Some q) (next_event m p)) → q.key.time < end → own_step end m p
+  pub takes : (q : Pending) → (h : Stands m p (Some q) (next_event m p)) → q.key.time < till → own_step till m p
       ≡ handle h.0 h.0.rest.holds h.0.cause
   unfolding own_step
   takes q h lt = grind arith

@@ -23,39 +23,39 @@ use Rattle.srm_net.proofs.TotalOrders.{key_total}
 
 -- ---- an own run ends
 
-module _ (leave : Option ℕ) (end m : ℕ) where
+module _ (leave : Option ℕ) (till m : ℕ) where
   abbrev pub Ended : PlainCell → Type 0
-  Ended c = (n : ℕ) × ((own_end end m n c ≡ Idle) ⊎ (own_end end m n c ≡ Full))
+  Ended c = (n : ℕ) × ((own_end till m n c ≡ Idle) ⊎ (own_end till m n c ≡ Full))
 
-  ended_now : (c : PlainCell) → (own_step end m c ≡ Idle) ⊎ (own_step end m c ≡ Full) → Ended c
+  ended_now : (c : PlainCell) → (own_step till m c ≡ Idle) ⊎ (own_step till m c ≡ Full) → Ended c
   unfolding own_end
   ended_now c h = (0, h)
 
-  ended_next : (c : PlainCell) (d : Stepped) → own_step end m c ≡ Done d → Ended d.cell → Ended c
-  ended_next c d h r = (suc r.0, elim r.1 [ inl e ↦ inl (end_done end m r.0 c d h ∙ e) | inr e ↦ inr (end_done end m r.0 c d h ∙ e) ])
+  ended_next : (c : PlainCell) (d : Stepped) → own_step till m c ≡ Done d → Ended d.cell → Ended c
+  ended_next c d h r = (suc r.0, elim r.1 [ inl e ↦ inl (end_done till m r.0 c d h ∙ e) | inr e ↦ inr (end_done till m r.0 c d h ∙ e) ])
 
-  none_before : (x : Option Event) → OnEvent (λ e. end ≤ e.key.time) x → before end x ≡ None
+  none_before : (x : Option Event) → OnEvent (λ e. till ≤ e.key.time) x → before till x ≡ None
   none_before None h = refl
-  none_before (Some e) h = let no : nat_lt e.key.time end ≡ false = le-ltb _ _ h in ap (λ b. keep b e) no
+  none_before (Some e) h = let no : nat_lt e.key.time till ≡ false = le-ltb _ _ h in ap (λ b. keep b e) no
 
   abbrev FromTick : ℕ → Key → Type 0
   FromTick t k = t ≤ k.time
 
-  past_end : (c : PlainCell) → Above (FromTick end) m c → own_step end m c ≡ Idle
+  past_end : (c : PlainCell) → Above (FromTick till) m c → own_step till m c ≡ Idle
   unfolding own_step
-  past_end c a = ap step_at (none_before (next_event m c) (weak (next_event m c) (next_above (FromTick end) m c a)))
+  past_end c a = ap step_at (none_before (next_event m c) (weak (next_event m c) (next_above (FromTick till) m c a)))
     where
-      weak : (x : Option Event) → OnEvent (IsAbove (FromTick end) m) x → OnEvent (λ e. end ≤ e.key.time) x
+      weak : (x : Option Event) → OnEvent (IsAbove (FromTick till) m) x → OnEvent (λ e. till ≤ e.key.time) x
       weak None h = tt
       weak (Some e) h = h.0
 
-  one_tick : (t : ℕ) → t < end → (c : PlainCell) → IsTidy c → SoundRecord c.holds → Stays leave c → Above (FromTick t) m c
+  one_tick : (t : ℕ) → t < till → (c : PlainCell) → IsTidy c → SoundRecord c.holds → Stays leave c → Above (FromTick t) m c
       → ((b : PlainCell) → IsTidy b → SoundRecord b.holds → Stays leave b → Above (FromTick (suc t)) m b → Ended b)
       → ((b : PlainCell) → pending_at t b < pending_at t c → IsTidy b → SoundRecord b.holds → Stays leave b → Above (FromTick t) m b
       → Ended b)
       → (o : Option Event) → next_event m c ≡ o → Ended c
   unfolding own_step
-  one_tick t lt c tidy sound stays above later again None h = ended_now c (inl (ap (λ o. step_at (before end o)) h))
+  one_tick t lt c tidy sound stays above later again None h = ended_now c (inl (ap (λ o. step_at (before till o)) h))
   one_tick t lt c tidy sound stays above later again (Some e) h =
       let facts = subst (OnEvent (IsAbove (FromTick t) m)) h (next_above (FromTick t) m c above) in
       let rest_tidy = subst (OnEvent RestTidy) h (next_tidy m c tidy) in
@@ -63,8 +63,8 @@ module _ (leave : Option ℕ) (end m : ℕ) where
       elim (e.key.time == t) as (λ b. (e.key.time == t) ≡ b → Ended c) [
         | true ↦ λ q.
             let now : e.key.time ≡ t = eqb-true _ _ q in
-            let yes : nat_lt e.key.time end ≡ true = lt-ltb _ _ (omega arith) in
-            let own : own_step end m c ≡ step_at (Some e) = ap (λ o. step_at (before end o)) h ∙ ap (λ b. step_at (keep b e)) yes in
+            let yes : nat_lt e.key.time till ≡ true = lt-ltb _ _ (omega arith) in
+            let own : own_step till m c ≡ step_at (Some e) = ap (λ o. step_at (before till o)) h ∙ ap (λ b. step_at (keep b e)) yes in
             elim (step_at (Some e)) as (λ o. step_at (Some e) ≡ o → Ended c) [
               | Idle ↦ λ x. absurd (some_not_idle e x)
               | Full ↦ λ x. ended_now c (inr (own ∙ x))
@@ -85,21 +85,22 @@ module _ (leave : Option ℕ) (end m : ℕ) where
             (λ k n. let le = not_before_time e.key k n in omega arith) m c (above_least e.key m c tidy least))
       ] refl
 
-  at_tick : (t : ℕ) → t < end → ((b : PlainCell) → IsTidy b → SoundRecord b.holds → Stays leave b → Above (FromTick (suc t)) m b → Ended b)
+  at_tick : (t : ℕ) → t < till → ((b : PlainCell) → IsTidy b → SoundRecord b.holds → Stays leave b → Above (FromTick (suc t)) m b → Ended b)
       → (j : ℕ) (c : PlainCell) → pending_at t c ≤ j → IsTidy c → SoundRecord c.holds → Stays leave c → Above (FromTick t) m c → Ended c
   at_tick t lt later zero c le tidy sound stays above = one_tick t lt c tidy sound stays above later
       (λ b less bt bs bl ba. absurd (omega arith)) (next_event m c) refl
   at_tick t lt later (suc j) c le tidy sound stays above = one_tick t lt c tidy sound stays above later
       (λ b less bt bs bl ba. at_tick t lt later j b (omega arith) bt bs bl ba) (next_event m c) refl
 
-  ended_from : (k t : ℕ) → t + k ≡ end → (c : PlainCell) → IsTidy c → SoundRecord c.holds → Stays leave c → Above (FromTick t) m c → Ended c
+  ended_from : (k t : ℕ) → t + k ≡ till → (c : PlainCell) → IsTidy c → SoundRecord c.holds → Stays leave c
+      → Above (FromTick t) m c → Ended c
   ended_from zero t e c tidy sound stays above = ended_now c
-      (inl (past_end c (above_weaker (FromTick t) (FromTick end) (λ k h. omega arith) m c above)))
+      (inl (past_end c (above_weaker (FromTick t) (FromTick till) (λ k h. omega arith) m c above)))
   ended_from (suc k) t e c tidy sound stays above = at_tick t (omega arith)
       (λ b bt bs bl ba. ended_from k (suc t) (omega arith) b bt bs bl ba) (pending_at t c) c (le_refl _) tidy sound stays above
 
   pub own_run_ends : (c : PlainCell) → IsTidy c → SoundRecord c.holds → Stays leave c → Ended c
-  own_run_ends c tidy sound stays = ended_from end 0 (omega arith) c tidy sound stays (from_zero m c)
+  own_run_ends c tidy sound stays = ended_from till 0 (omega arith) c tidy sound stays (from_zero m c)
 
 -- ---- a listener sends nothing
 

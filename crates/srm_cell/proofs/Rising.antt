@@ -29,9 +29,9 @@ module _ (Q : Event → Type 0) where
   keep_on true e h = h
   keep_on false e h = tt
 
-  pub before_on : (end : ℕ) (x : Option Event) → OnEvent Q x → OnEvent Q (before end x)
-  before_on end None h = tt
-  before_on end (Some e) h = keep_on (nat_lt e.key.time end) e h
+  pub before_on : (till : ℕ) (x : Option Event) → OnEvent Q x → OnEvent Q (before till x)
+  before_on till None h = tt
+  before_on till (Some e) h = keep_on (nat_lt e.key.time till) e h
 
 abbrev pub OnStep : (Stepped → Type 0) → StepOutcome Stepped → Type 0
 OnStep Q Idle = Unit {0}

@@ -38,95 +38,97 @@ counts_at : (c : PlainCell) (x : Option Event) → OnEvent (RestOf c) x → Coun
 counts_at c None h = tt
 counts_at c (Some e) h = subst (λ n. CountsFrom n (step_at (Some e))) h.sent (counts_handle e e.rest.holds e.cause)
 
-counts_own : (end m : ℕ) (c : PlainCell) → CountsFrom c.sent (own_step end m c)
+counts_own : (till m : ℕ) (c : PlainCell) → CountsFrom c.sent (own_step till m c)
 unfolding own_step
-counts_own end m c = counts_at c (before end (next_event m c)) (before_on (RestOf c) end (next_event m c) (next_rest m c))
+counts_own till m c = counts_at c (before till (next_event m c)) (before_on (RestOf c) till (next_event m c) (next_rest m c))
 
 -- ---- when
 
 abbrev SentBefore : ℕ → Option Packet → Type 0
-SentBefore end None = Unit {0}
-SentBefore end (Some p) = p.sent < end
+SentBefore till None = Unit {0}
+SentBefore till (Some p) = p.sent < till
 
-sent_before : (t end : ℕ) (o : Option Packet) → t < end → SentAt t o → SentBefore end o
-sent_before t end None lt h = tt
-sent_before t end (Some p) lt h = omega arith
+sent_before : (t till : ℕ) (o : Option Packet) → t < till → SentAt t o → SentBefore till o
+sent_before t till None lt h = tt
+sent_before t till (Some p) lt h = omega arith
 
-early_by : (end : ℕ) (b : Bool) (e : Event) → (b ≡ true → e.key.time < end) → (d : Stepped) → step_at (cond b (Some e) None) ≡ Done d
-    → SentBefore end d.row.sent
-early_by end true e lt d h = let r = subst (OnStep (RowOf e.key)) h (row_step e) in sent_before e.key.time end d.row.sent (lt refl) r.1
-early_by end false e lt d h = cc
+early_by : (till : ℕ) (b : Bool) (e : Event) → (b ≡ true → e.key.time < till) → (d : Stepped) → step_at (cond b (Some e) None) ≡ Done d
+    → SentBefore till d.row.sent
+early_by till true e lt d h = let r = subst (OnStep (RowOf e.key)) h (row_step e) in sent_before e.key.time till d.row.sent (lt refl) r.1
+early_by till false e lt d h = cc
 
-early_at : (end : ℕ) (x : Option Event) (d : Stepped) → step_at (before end x) ≡ Done d → SentBefore end d.row.sent
-early_at end None d h = cc
-early_at end (Some e) d h = early_by end (nat_lt e.key.time end) e (λ t. ltb-true e.key.time end t) d h
+early_at : (till : ℕ) (x : Option Event) (d : Stepped) → step_at (before till x) ≡ Done d → SentBefore till d.row.sent
+early_at till None d h = cc
+early_at till (Some e) d h = early_by till (nat_lt e.key.time till) e (λ t. ltb-true e.key.time till t) d h
 
-early : (end m : ℕ) (c : PlainCell) (d : Stepped) → own_step end m c ≡ Done d → SentBefore end d.row.sent
+early : (till m : ℕ) (c : PlainCell) (d : Stepped) → own_step till m c ≡ Done d → SentBefore till d.row.sent
 unfolding own_step
-early end m c d h = early_at end (next_event m c) d h
+early till m c d h = early_at till (next_event m c) d h
 
-module _ (end m : ℕ) where
-  few_by : (n before : ℕ) → ((d : PlainCell) → length (packets_of (own_rows end m n d)) ≤ most_sent - d.sent) → (o : StepOutcome Stepped)
-      → CountsFrom before o → length (packets_of (rows_by end m n o)) ≤ most_sent - before
+module _ (till m : ℕ) where
+  few_by : (n before : ℕ) → ((d : PlainCell) → length (packets_of (own_rows till m n d)) ≤ most_sent - d.sent) → (o : StepOutcome Stepped)
+      → CountsFrom before o → length (packets_of (rows_by till m n o)) ≤ most_sent - before
   few_by n before more o h = grind arith
 
-  few_left : (n : ℕ) (c : PlainCell) → length (packets_of (own_rows end m n c)) ≤ most_sent - c.sent
-  few_left zero c = let e = ap (λ rs. length (packets_of rs)) (rows_none end m c) in omega (arith, e)
-  few_left (suc n) c = subst (λ rs. length (packets_of rs) ≤ most_sent - c.sent) (sym (rows_first end m n c))
-      (few_by n c.sent (λ d. few_left n d) (own_step end m c) (counts_own end m c))
+  few_left : (n : ℕ) (c : PlainCell) → length (packets_of (own_rows till m n c)) ≤ most_sent - c.sent
+  few_left zero c = let e = ap (λ rs. length (packets_of rs)) (rows_none till m c) in omega (arith, e)
+  few_left (suc n) c = subst (λ rs. length (packets_of rs) ≤ most_sent - c.sent) (sym (rows_first till m n c))
+      (few_by n c.sent (λ d. few_left n d) (own_step till m c) (counts_own till m c))
 
   -- ---- whose
 
-  below_by : (k n : ℕ) → m < k → end ≤ end_of_time → ((d : PlainCell) → All (λ r. IsSentBelow k r.sent) (own_rows end m n d))
+  below_by : (k n : ℕ) → m < k → till ≤ end_of_time → ((d : PlainCell) → All (λ r. IsSentBelow k r.sent) (own_rows till m n d))
       → (o : StepOutcome Stepped)
-      → ((d : Stepped) → o ≡ Done d → SentBy m d.row.sent × SentBefore end d.row.sent) → All (λ r. IsSentBelow k r.sent) (rows_by end m n o)
+      → ((d : Stepped) → o ≡ Done d → SentBy m d.row.sent × SentBefore till d.row.sent)
+      → All (λ r. IsSentBelow k r.sent) (rows_by till m n o)
   below_by k n lt le more o h = grind arith
 
-  own_below : (k n : ℕ) (c : PlainCell) → m < k → end ≤ end_of_time → All (λ r. IsSentBelow k r.sent) (own_rows end m n c)
-  own_below k zero c lt le = subst (All (λ r. IsSentBelow k r.sent)) (sym (rows_none end m c)) (All-nil (λ (r : Row). IsSentBelow k r.sent))
+  own_below : (k n : ℕ) (c : PlainCell) → m < k → till ≤ end_of_time → All (λ r. IsSentBelow k r.sent) (own_rows till m n c)
+  own_below k zero c lt le = subst (All (λ r. IsSentBelow k r.sent)) (sym (rows_none till m c))
+      (All-nil (λ (r : Row). IsSentBelow k r.sent))
   own_below k (suc n) c lt le =
-      subst (All (λ r. IsSentBelow k r.sent)) (sym (rows_first end m n c))
-      (below_by k n lt le (λ d. own_below k n d lt le) (own_step end m c) (λ d e. ((own_step_is end m c d e).1, early end m c d e)))
+      subst (All (λ r. IsSentBelow k r.sent)) (sym (rows_first till m n c))
+      (below_by k n lt le (λ d. own_below k n d lt le) (own_step till m c) (λ d e. ((own_step_is till m c d e).1, early till m c d e)))
 
 -- ---- of several cells
 
 module _ {M : Type 0} where
-  pub rows_few : (f : M → Record) (end : ℕ) (qs : List OwnCell) (rows : List (List Row)) (cs : List (Cell M))
-      → RanEach f end qs rows cs → length (packets_of (joined rows)) ≤ length cs * most_sent
-  rows_few f end [] [] [] h = omega arith
-  rows_few f end [] [] (c ∷ cs) h = absurd h
-  rows_few f end [] (r ∷ rs) cs h = absurd h
-  rows_few f end (q ∷ qs) [] cs h = absurd h
-  rows_few f end (q ∷ qs) (r ∷ rs) [] h = absurd h
-  rows_few f end (q ∷ qs) (r ∷ rs) (c ∷ cs) h =
+  pub rows_few : (f : M → Record) (till : ℕ) (qs : List OwnCell) (rows : List (List Row)) (cs : List (Cell M))
+      → RanEach f till qs rows cs → length (packets_of (joined rows)) ≤ length cs * most_sent
+  rows_few f till [] [] [] h = omega arith
+  rows_few f till [] [] (c ∷ cs) h = absurd h
+  rows_few f till [] (r ∷ rs) cs h = absurd h
+  rows_few f till (q ∷ qs) [] cs h = absurd h
+  rows_few f till (q ∷ qs) (r ∷ rs) [] h = absurd h
+  rows_few f till (q ∷ qs) (r ∷ rs) (c ∷ cs) h =
       let run = h.0.1 in
       let one : length (packets_of r) ≤ most_sent - q.cell.sent = subst (λ xs. length (packets_of xs) ≤ most_sent - q.cell.sent)
-      (sym run.rows_are) (few_left end q.member run.steps q.cell) in
-      let more = rows_few f end qs rs cs h.1 in
+      (sym run.rows_are) (few_left till q.member run.steps q.cell) in
+      let more = rows_few f till qs rs cs h.1 in
       let e = ap length (packets_joined r rs) ∙ length-append (packets_of r) (packets_of (joined rs)) in
       omega (arith, one, more, e)
 
-  pub rows_below : (f : M → Record) (end k : ℕ) (qs : List OwnCell) (rows : List (List Row)) (cs : List (Cell M))
-      → end ≤ end_of_time → AreMembers k qs → RanEach f end qs rows cs → All (λ rs. All (λ r. IsSentBelow k r.sent) rs) rows
-  rows_below f end k [] [] [] le a h = All-nil (λ (rs : List Row). All (λ r. IsSentBelow k r.sent) rs)
-  rows_below f end k [] [] (c ∷ cs) le a h = absurd h
-  rows_below f end k [] (r ∷ rs) cs le a h = absurd h
-  rows_below f end k (q ∷ qs) [] cs le a h = absurd h
-  rows_below f end k (q ∷ qs) (r ∷ rs) [] le a h = absurd h
-  rows_below f end k (q ∷ qs) (r ∷ rs) (c ∷ cs) le a h =
+  pub rows_below : (f : M → Record) (till k : ℕ) (qs : List OwnCell) (rows : List (List Row)) (cs : List (Cell M))
+      → till ≤ end_of_time → AreMembers k qs → RanEach f till qs rows cs → All (λ rs. All (λ r. IsSentBelow k r.sent) rs) rows
+  rows_below f till k [] [] [] le a h = All-nil (λ (rs : List Row). All (λ r. IsSentBelow k r.sent) rs)
+  rows_below f till k [] [] (c ∷ cs) le a h = absurd h
+  rows_below f till k [] (r ∷ rs) cs le a h = absurd h
+  rows_below f till k (q ∷ qs) [] cs le a h = absurd h
+  rows_below f till k (q ∷ qs) (r ∷ rs) [] le a h = absurd h
+  rows_below f till k (q ∷ qs) (r ∷ rs) (c ∷ cs) le a h =
       let run = h.0.1 in
       All-cons (λ (rs : List Row). All (λ r. IsSentBelow k r.sent) rs) r rs
-      (subst (All (λ r. IsSentBelow k r.sent)) (sym run.rows_are) (own_below end q.member k run.steps q.cell a.0 le))
-      (rows_below f end k qs rs cs le a.1 h.1)
+      (subst (All (λ r. IsSentBelow k r.sent)) (sym run.rows_are) (own_below till q.member k run.steps q.cell a.0 le))
+      (rows_below f till k qs rs cs le a.1 h.1)
 
-  pub as_many : (f : M → Record) (end : ℕ) (qs : List OwnCell) (rows : List (List Row)) (cs : List (Cell M))
-      → RanEach f end qs rows cs → length cs ≡ length qs
-  as_many f end [] [] [] h = refl
-  as_many f end [] [] (c ∷ cs) h = absurd h
-  as_many f end [] (r ∷ rs) cs h = absurd h
-  as_many f end (q ∷ qs) [] cs h = absurd h
-  as_many f end (q ∷ qs) (r ∷ rs) [] h = absurd h
-  as_many f end (q ∷ qs) (r ∷ rs) (c ∷ cs) h = ap suc (as_many f end qs rs cs h.1)
+  pub as_many : (f : M → Record) (till : ℕ) (qs : List OwnCell) (rows : List (List Row)) (cs : List (Cell M))
+      → RanEach f till qs rows cs → length cs ≡ length qs
+  as_many f till [] [] [] h = refl
+  as_many f till [] [] (c ∷ cs) h = absurd h
+  as_many f till [] (r ∷ rs) cs h = absurd h
+  as_many f till (q ∷ qs) [] cs h = absurd h
+  as_many f till (q ∷ qs) (r ∷ rs) [] h = absurd h
+  as_many f till (q ∷ qs) (r ∷ rs) (c ∷ cs) h = ap suc (as_many f till qs rs cs h.1)
 
   pub as_many_seen : (f : M → Record) (cs : List (Cell M)) (qs : List OwnCell) → AreCells f cs qs → length cs ≡ length qs
   as_many_seen f [] [] h = refl

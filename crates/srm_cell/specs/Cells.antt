@@ -157,8 +157,8 @@ next_time c = time_of (next_event 0 c)
 
 -- the event, if its time is before the end
 abbrev pub before : ℕ → Option Event → Option Event
-before end None = None
-before end (Some e) = if nat_lt e.key.time end then Some e else None
+before till None = None
+before till (Some e) = if nat_lt e.key.time till then Some e else None
 
 -- ---- steps
 
@@ -255,7 +255,7 @@ step_at (Some e) = handle e e.rest.holds e.cause
 
 -- the cell's own step to an end: it takes its least own pending event, if that is before the end
 unfoldable pub own_step : ℕ → ℕ → PlainCell → StepOutcome Stepped
-own_step end m c = step_at (before end (next_event m c))
+own_step till m c = step_at (before till (next_event m c))
 
 -- a record that sends nothing: a listener's, or that of a member that left
 abbrev pub Silent : Record → Type 0

@@ -36,23 +36,23 @@ AreMembers members (q ∷ qs) = (q.member < members) × AreMembers members qs
 
 -- of the own runs to an end, taken one after the other, the first that does not come to the end ends with this
 abbrev pub FirstEnds : StepOutcome Stepped → ℕ → List OwnCell → Type 0
-FirstEnds o end [] = ⊥
-FirstEnds o end (q ∷ qs) =
-    ((n : ℕ) × (own_end end q.member n q.cell ≡ o))
-    ⊎ (((n : ℕ) × (own_end end q.member n q.cell ≡ Idle)) × FirstEnds o end qs)
+FirstEnds o till [] = ⊥
+FirstEnds o till (q ∷ qs) =
+    ((n : ℕ) × (own_end till q.member n q.cell ≡ o))
+    ⊎ (((n : ℕ) × (own_end till q.member n q.cell ≡ Idle)) × FirstEnds o till qs)
 
 -- own runs, taken one after the other, ask for memory: for the first cell's first own step, or to keep the first cell
 -- and its rows. They ask for none where there is no cell, or where the first has an event at once and no member to
 -- answer it
 abbrev pub AskMemory : ℕ → List OwnCell → Type 0
-AskMemory end [] = ⊥
-AskMemory end (q ∷ qs) = own_step end q.member q.cell ≢ Spent
+AskMemory till [] = ⊥
+AskMemory till (q ∷ qs) = own_step till q.member q.cell ≢ Spent
 
 -- what a refusal of own runs tells, taken one after the other
 abbrev pub TellsFault : ℕ → List OwnCell → CellFault → Type 0
-TellsFault end qs fault.NoMemory = AskMemory end qs
-TellsFault end qs fault.Spent = FirstEnds Spent end qs
-TellsFault end qs fault.CountFull = FirstEnds Full end qs
+TellsFault till qs fault.NoMemory = AskMemory till qs
+TellsFault till qs fault.Spent = FirstEnds Spent till qs
+TellsFault till qs fault.CountFull = FirstEnds Full till qs
 
 module _ {M : Type 0} where
   -- the cells are seen as these, where f is what is seen of a box
@@ -75,32 +75,32 @@ module _ {M : Type 0} where
 
   -- the cell of member m, seen as p, has these rows in its own run to an end, and is then this cell
   abbrev pub RanAlone : (M → Record) → ℕ → ℕ → PlainCell → List Row → Cell M → Type 0
-  RanAlone f end m p rows after = (d : PlainCell) × IsOwnRun end m p rows d × IsCell f m after d
+  RanAlone f till m p rows after = (d : PlainCell) × IsOwnRun till m p rows d × IsCell f m after d
 
   -- so each of the cells
   abbrev pub RanEach : (M → Record) → ℕ → List OwnCell → List (List Row) → List (Cell M) → Type 0
-  RanEach f end [] [] [] = Unit {0}
-  RanEach f end (q ∷ qs) (rows ∷ more) (c ∷ cs) = RanAlone f end q.member q.cell rows c × RanEach f end qs more cs
-  RanEach f end qs more cs = ⊥
+  RanEach f till [] [] [] = Unit {0}
+  RanEach f till (q ∷ qs) (rows ∷ more) (c ∷ cs) = RanAlone f till q.member q.cell rows c × RanEach f till qs more cs
+  RanEach f till qs more cs = ⊥
 
   -- what an own run tells. Memory is asked for only where its first step has work. After a refusal nothing is known of
   -- the cell
   abbrev pub TellsRun : (M → Record) → ℕ → ℕ → PlainCell
       → Result (List Row) CellFault → Cell M → Type 0
-  TellsRun f end m p (Ok rows) after = RanAlone f end m p rows after
-  TellsRun f end m p (Err fault.NoMemory) after = HasWork (own_step end m p)
-  TellsRun f end m p (Err fault.Spent) after = MeetsSpent end m p
-  TellsRun f end m p (Err fault.CountFull) after = MeetsFull end m p
+  TellsRun f till m p (Ok rows) after = RanAlone f till m p rows after
+  TellsRun f till m p (Err fault.NoMemory) after = HasWork (own_step till m p)
+  TellsRun f till m p (Err fault.Spent) after = MeetsSpent till m p
+  TellsRun f till m p (Err fault.CountFull) after = MeetsFull till m p
 
   -- what an own run to an end tells, of each plain cell that the cell is seen as
   abbrev pub Runs : (M → Record) → ℕ → Cell M → Result (List Row) CellFault → Cell M → Type 0
-  Runs f end old result new = (m : ℕ) (p : PlainCell) → IsCell f m old p → TellsRun f end m p result new
+  Runs f till old result new = (m : ℕ) (p : PlainCell) → IsCell f m old p → TellsRun f till m p result new
 
   -- what own runs tell, one after the other, after which these are the cells
   abbrev pub TellsRuns : (M → Record) → ℕ → List OwnCell
       → Result (Vec (List Row)) CellFault → List (Cell M) → Type 0
-  TellsRuns f end qs (Ok rows) after = RanEach f end qs rows.items after
-  TellsRuns f end qs (Err e) after = TellsFault end qs e
+  TellsRuns f till qs (Ok rows) after = RanEach f till qs rows.items after
+  TellsRuns f till qs (Err e) after = TellsFault till qs e
 
   -- this is done of a job: its cells' own runs, and the crossings of their rows
   pub record IsDone (f : M → Record) (t : Traffic) (p : PlainJob) (d : job.Done M) : Type 0 where

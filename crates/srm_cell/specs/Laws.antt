@@ -15,8 +15,8 @@ use Rattle.srm_cell.specs.Crossings.{crossings, added_each}
 -- an own run has one result
 abbrev pub OwnRunsAreOne : Type 0
 OwnRunsAreOne =
-    (end m : ℕ) (c : PlainCell) (qs rs : List Row) (d e : PlainCell)
-    → IsOwnRun end m c qs d → IsOwnRun end m c rs e → (qs ≡ rs) × (d ≡ e)
+    (till m : ℕ) (c : PlainCell) (qs rs : List Row) (d e : PlainCell)
+    → IsOwnRun till m c qs d → IsOwnRun till m c rs e → (qs ≡ rs) × (d ≡ e)
 
 -- the setting of an accepted scenario is fit
 abbrev pub SettingsAreFit : Type 0

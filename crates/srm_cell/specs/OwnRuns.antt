@@ -7,36 +7,36 @@ use Rattle.srm_cell.specs.Cells.{PlainCell, hear, StepOutcome, Idle, Full, Spent
 
 -- the rows of the first n own steps, or of fewer where the own run ends before
 unfoldable pub own_rows : ℕ → ℕ → ℕ → PlainCell → List Row
-own_rows end m zero c = []
-own_rows end m (suc n) c =
-    elim (own_step end m c) [ Idle ↦ [] | Full ↦ [] | Spent ↦ [] | Done d ↦ d.row ∷ own_rows end m n d.cell ]
+own_rows till m zero c = []
+own_rows till m (suc n) c =
+    elim (own_step till m c) [ Idle ↦ [] | Full ↦ [] | Spent ↦ [] | Done d ↦ d.row ∷ own_rows till m n d.cell ]
 
 -- what ends the own run within n steps
 unfoldable pub own_end : ℕ → ℕ → ℕ → PlainCell → StepOutcome Stepped
-own_end end m zero c = own_step end m c
-own_end end m (suc n) c =
-    elim (own_step end m c) [ Idle ↦ Idle | Full ↦ Full | Spent ↦ Spent | Done d ↦ own_end end m n d.cell ]
+own_end till m zero c = own_step till m c
+own_end till m (suc n) c =
+    elim (own_step till m c) [ Idle ↦ Idle | Full ↦ Full | Spent ↦ Spent | Done d ↦ own_end till m n d.cell ]
 
 -- the cell after the first n own steps, or fewer where the own run ends before
 unfoldable pub own_after : ℕ → ℕ → ℕ → PlainCell → PlainCell
-own_after end m zero c = c
-own_after end m (suc n) c =
-    elim (own_step end m c) [ Idle ↦ c | Full ↦ c | Spent ↦ c | Done d ↦ own_after end m n d.cell ]
+own_after till m zero c = c
+own_after till m (suc n) c =
+    elim (own_step till m c) [ Idle ↦ c | Full ↦ c | Spent ↦ c | Done d ↦ own_after till m n d.cell ]
 
 -- member m's own run to the end has these rows and leaves this cell, with no own event before the end pending
-pub record IsOwnRun (end m : ℕ) (c : PlainCell) (rows : List Row) (d : PlainCell) : Type 0 where
+pub record IsOwnRun (till m : ℕ) (c : PlainCell) (rows : List Row) (d : PlainCell) : Type 0 where
   pub steps : ℕ
-  pub ends : own_end end m steps c ≡ Idle
-  pub rows_are : rows ≡ own_rows end m steps c
-  pub leaves : d ≡ own_after end m steps c
+  pub ends : own_end till m steps c ≡ Idle
+  pub rows_are : rows ≡ own_rows till m steps c
+  pub leaves : d ≡ own_after till m steps c
 
 -- the own run meets a step for which the packet count is used up
 abbrev pub MeetsFull : ℕ → ℕ → PlainCell → Type 0
-MeetsFull end m c = (n : ℕ) × (own_end end m n c ≡ Full)
+MeetsFull till m c = (n : ℕ) × (own_end till m n c ≡ Full)
 
 -- the own run meets an event at a record that is gone
 abbrev pub MeetsSpent : ℕ → ℕ → PlainCell → Type 0
-MeetsSpent end m c = (n : ℕ) × (own_end end m n c ≡ Spent)
+MeetsSpent till m c = (n : ℕ) × (own_end till m n c ≡ Spent)
 
 -- ---- what others sent
 

@@ -112,8 +112,8 @@ module _ {M : Type 0} where
 
   -- what the own step to an end tells, of each plain cell that the cell is seen as
   abbrev pub Steps : (M → Record) → ℕ → Cell M → Result (Option Row) CellFault → Cell M → Type 0
-  Steps f end old result new =
-      (m : ℕ) (p : PlainCell) → IsCell f m old p → TellsStep f m p (own_step end m p) result new
+  Steps f till old result new =
+      (m : ℕ) (p : PlainCell) → IsCell f m old p → TellsStep f m p (own_step till m p) result new
 
   -- the least time at which the cell has anything pending, of each plain cell that the cell is seen as
   abbrev pub IsNextTime : (M → Record) → Cell M → Option ℕ → Type 0

@@ -17,7 +17,7 @@ use srm_net::sequence::Sequence;
 use srm_scenario::scenario::Scenario;
 use std::alloc::{AllocError, Global};
 
-/// Each cell of the job handles its own events before the job's end, in key order, and none of another cell.
+/// Each cell of the job handles its own events before the job's tick `till`, in key order, and none of another cell.
 ///
 /// # Errors
 /// `Spent` or `CountFull`, that of the first cell, one after the other, whose own run is refused; or `NoMemory`, but not where

@@ -126,19 +126,19 @@ impl<M: Participant> Cell<M> {
         Ok(())
     }
 
-    /// Takes the cell's least pending event, if it is before tick `end`, and gives its row. At a leave the member is
+    /// Takes the cell's least pending event, if it is before tick `till`, and gives its row. At a leave the member is
     /// finished and its box is dropped.
     ///
     /// # Errors
     /// `Spent` only where there is an event and its member is gone; `CountFull` only where the member is to send a packet with
     /// its packet count used up; `NoMemory` only where there is an event, and a member to answer it. Nothing is known of the cell
     /// then, and it is of no more use.
-    pub fn step(&mut self, alloc: Global, end: u64) -> Result<Option<Row>, CellFault>
-        requires { end ≤ end_of_time }
-        ensures { Steps M.plain end self.old result self.new }
+    pub fn step(&mut self, alloc: Global, till: u64) -> Result<Option<Row>, CellFault>
+        requires { till ≤ end_of_time }
+        ensures { Steps M.plain till self.old result self.new }
     {
         let mut rows = Vec::new(alloc);
-        match self.step_onto(alloc, end, &mut rows) {
+        match self.step_onto(alloc, till, &mut rows) {
             Ok(true) => Ok(rows.pop()),
             Ok(false) => Ok(None),
             Err(fault) => Err(fault),
@@ -153,16 +153,16 @@ impl<M: Participant> Cell<M> {
     pub fn step_onto(
         &mut self,
         alloc: Global,
-        end: u64,
+        till: u64,
         rows: &mut Vec<Row>,
     ) -> Result<bool, CellFault>
-        requires { end ≤ end_of_time }
-        ensures { PutsStep (λ r. Steps M.plain end self.old r self.new) rows.old.items result rows.new.items }
+        requires { till ≤ end_of_time }
+        ensures { PutsStep (λ r. Steps M.plain till self.old r self.new) rows.old.items result rows.new.items }
     {
         let Some(next) = self.next else {
             return Ok(false);
         };
-        if next.key.time >= end {
+        if next.key.time >= till {
             return Ok(false);
         }
         let cause = self.take(next.source);
@@ -175,18 +175,18 @@ impl<M: Participant> Cell<M> {
         }
     }
 
-    /// The cell's own events before tick `end`, one after the other, and a row for each. Where there is none it does not allocate.
+    /// The cell's own events before tick `till`, one after the other, and a row for each. Where there is none it does not allocate.
     ///
     /// # Errors
     /// That of the first [`Cell::step`] that is refused: `Spent`, `CountFull`, or `NoMemory`, only where there is a first event
     /// and a member to answer it. Nothing is known of the cell then, and it is of no more use.
-    pub fn run(&mut self, alloc: Global, end: u64) -> Result<Sequence<Row>, CellFault>
-        requires { end ≤ end_of_time }
-        ensures { Runs M.plain end self.old result self.new }
+    pub fn run(&mut self, alloc: Global, till: u64) -> Result<Sequence<Row>, CellFault>
+        requires { till ≤ end_of_time }
+        ensures { Runs M.plain till self.old result self.new }
     {
         let mut rows = Vec::new(alloc);
         loop {
-            match self.step_onto(alloc, end, &mut rows) {
+            match self.step_onto(alloc, till, &mut rows) {
                 Ok(true) => {}
                 Ok(false) => return Ok(Sequence::from_vec(rows)),
                 Err(fault) => return Err(fault),

@@ -10,7 +10,7 @@ use srm_net::sequence::Sequence;
 pub struct Job<M = Box<dyn Member>> {
     /// Its place among the jobs that are done together.
     pub place: usize,
-    /// The end of the cells' own runs, in ticks.
+    /// The tick before which the cells handle their own events.
     pub till: u64,
     /// The cells.
     pub cells: Vec<Cell<M>>,

@@ -1,6 +1,7 @@
 //! What no clause says of cells: when a box is dropped, and that the calls answer with ample memory.
 ghost use Rattle.std.specs.Prelude.{◌≡◌, ◌<◌, [], IfOk};
 ghost use Rattle.srm_net.specs.Orders.{Rises};
+ghost use Rattle.srm_net.specs.declared.rank.TheConstants.{REPORT, LEAVE};
 ghost use Rattle.srm_scenario.specs.Plain.{mark_cmp};
 ghost use Rattle.srm_cell.specs.Probes.{probe_record, reporter_record};
 
@@ -14,6 +15,7 @@ use srm_member::member::Member;
 use srm_member::react::React;
 use srm_member::told::Told;
 use srm_net::packet::{Body, Name, Packet, PacketId};
+use srm_net::rank;
 use srm_net::sequence::Sequence;
 use srm_scenario::mark::Mark;
 use std::alloc::{AllocError, Global};
@@ -73,11 +75,11 @@ impl Member for Probe {
 }
 
 const fn leave(at: u64) -> Mark
-    ensures { result ≡ record { at = at; rank = 6; place = 0; page = 0; ink = 0 } }
+    ensures { result ≡ record { at = at; rank = LEAVE; place = 0; page = 0; ink = 0 } }
 {
     Mark {
         at,
-        rank: 6,
+        rank: rank::LEAVE,
         place: 0,
         page: 0,
         ink: 0,
@@ -85,11 +87,11 @@ const fn leave(at: u64) -> Mark
 }
 
 const fn report(at: u64) -> Mark
-    ensures { result ≡ record { at = at; rank = 5; place = 0; page = 0; ink = 0 } }
+    ensures { result ≡ record { at = at; rank = REPORT; place = 0; page = 0; ink = 0 } }
 {
     Mark {
         at,
-        rank: 5,
+        rank: rank::REPORT,
         place: 0,
         page: 0,
         ink: 0,
@@ -112,8 +114,8 @@ fn cell_of(alloc: Global, drops: &Arc<AtomicU64>, script: Vec<Mark>) -> Result<C
 type Outcome = (Told, Option<PacketId>);
 
 // What came of the cell's next event, if it has one before this tick.
-fn step_before(alloc: Global, cell: &mut Cell, end: u32) -> Result<Option<Outcome>, CellFault> {
-    let Some(row) = cell.step(alloc, u64::from(end))? else {
+fn step_before(alloc: Global, cell: &mut Cell, till: u32) -> Result<Option<Outcome>, CellFault> {
+    let Some(row) = cell.step(alloc, u64::from(till))? else {
         return Ok(None);
     };
     let sent = match &row.sent {
@@ -140,11 +142,11 @@ fn expect_steps(
     drops: &AtomicU64,
     steps: &[(u32, Step)],
 ) {
-    for (end, expected) in steps {
+    for (till, expected) in steps {
         let next_time = cell.next_time();
-        let outcome = step_before(alloc, cell, *end);
+        let outcome = step_before(alloc, cell, *till);
         let step = (next_time, outcome, drops.load(Ordering::SeqCst));
-        assert_eq!(rt; step, *expected, "before tick {end}");
+        assert_eq!(rt; step, *expected, "before tick {till}");
     }
 }
 

@@ -123,7 +123,7 @@ module _ {A : Type 0} where
       let both = length-append g.items (all_in gs) in
       omega arith
 
-  -- ---- a cell at its place
+  -- ---- a cell in its group
 
   get_early : (xs ys : List A) (i : ℕ) → i < length xs → slice_get (xs ++ ys) i ≡ slice_get xs i
   get_early [] ys i lt = absurd (omega arith)
@@ -150,7 +150,7 @@ module _ {A : Type 0} where
   -- cell i of group k is that of member k * cut + i
   pub record InGroup (gs : List (Vec A)) (m k i : ℕ) : Type 0 where
     pub group : k < length gs
-    pub place : (d : Vec A) → i < length (get_or gs k d).items
+    pub index : (d : Vec A) → i < length (get_or gs k d).items
     pub get : (d : Vec A) → slice_get (all_in gs) m ≡ slice_get (get_or gs k d).items i
     pub set : (d g : Vec A) (x : A) → g.items ≡ slice_set (get_or gs k d).items i x → all_in (slice_set gs k g) ≡ slice_set (all_in gs) m x
     pub size : (d g : Vec A) → length g.items ≡ length (get_or gs k d).items → sizes (slice_set gs k g) ≡ sizes gs
@@ -164,7 +164,7 @@ module _ {A : Type 0} where
       let within : i < length g.items = in_first a.full in
       record {
         group = omega arith;
-        place = λ d. within;
+        index = λ d. within;
         get = λ d. ap (slice_get (g.items ++ all_in gs)) here ∙ get_early g.items (all_in gs) i within;
         set = λ d h x is. ap (λ l. l ++ all_in gs) is ∙ sym (set_early g.items (all_in gs) i x within)
             ∙ ap (λ j. slice_set (g.items ++ all_in gs) j x) (sym here);
@@ -188,7 +188,7 @@ module _ {A : Type 0} where
       let group = more.group in
       record {
         group = omega arith;
-        place = more.place;
+        index = more.index;
         get = λ d. ap (slice_get (g.items ++ all_in gs)) at ∙ get_late g.items (all_in gs) (length g.items) (k * cut + i) refl ∙ more.get d;
         set = λ d h x is. ap (λ l. g.items ++ l) (more.set d h x is) ∙ sym
             (set_late g.items (all_in gs) (length g.items) (k * cut + i) x refl) ∙ ap (λ j. slice_set (g.items ++ all_in gs) j x) (sym at);
@@ -205,9 +205,9 @@ module _ {A : Type 0} where
           absurd (omega (arith, e, suc-mul k cut))
 
   -- by quotient and remainder
-  pub at_place : (cut : ℕ) (gs : List (Vec A)) (m n : ℕ) → 0 < cut → AreCuts cut (sizes gs) → n ≡ m → m < length (all_in gs)
+  pub at_index : (cut : ℕ) (gs : List (Vec A)) (m n : ℕ) → 0 < cut → AreCuts cut (sizes gs) → n ≡ m → m < length (all_in gs)
       → InGroup gs m (n / cut) (n % cut)
-  at_place cut gs m n pos cuts e lt = in_group cut gs m (n / cut) (n % cut) pos cuts (sym e ∙ sym (div-add-mod' n cut)) (mod-lt n pos) lt
+  at_index cut gs m n pos cuts e lt = in_group cut gs m (n / cut) (n % cut) pos cuts (sym e ∙ sym (div-add-mod' n cut)) (mod-lt n pos) lt
 
   -- ---- one group after the other
 

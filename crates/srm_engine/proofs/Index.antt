@@ -85,7 +85,7 @@ no_least (Some v ∷ ts) h i = absurd (true≢false (sym (eq-eqb v v refl) ∙ h
 
 -- the first entry does not come after the second
 abbrev pub NotAfter : Entry → Entry → Type 0
-NotAfter p q = (p.time < q.time) ⊎ ((p.time ≡ q.time) × (p.place ≤ q.place))
+NotAfter p q = (p.time < q.time) ⊎ ((p.time ≡ q.time) × (p.number ≤ q.number))
 
 itself : (p : Entry) → NotAfter p p
 itself p = inr (refl, omega arith)
@@ -146,7 +146,7 @@ module _ (es : List Entry) (n : ℕ) (size : length es ≡ 2 * n) (tree : AreWin
 
 -- what an entry tells: a time and a member, if any
 abbrev pub told : Entry → Option (ℕ × ℕ)
-told e = cond (nat_lt e.place 65536) (Some (e.time, e.place)) None
+told e = cond (nat_lt e.number 65536) (Some (e.time, e.number)) None
 
 timed : (ts : List (Option ℕ)) (u j : ℕ) → is_time u (slice_get ts j) ≡ true → (j < length ts) × (slice_index_or ts j None ≡ Some u)
 timed [] u j h = absurd (true≢false (sym h))
@@ -220,7 +220,7 @@ times_are ts es h =
     let half : length es / 2 ≡ n = omega arith in
     let len : length (drop n es) ≡ n = length-drop n es ∙ omega arith in
     ap (λ k. map time_in (drop k es)) half ∙ leaves_tell ts (drop n es) 0 len (omega arith) (λ m lt.
-    get_or-drop n es m (record { time = 0; place = 0 }) ∙ (h.leaves m lt).0
+    get_or-drop n es m (record { time = 0; number = 0 }) ∙ (h.leaves m lt).0
     ∙ ap (slot_of (slice_index_or ts m None)) (sym (zero-add m)))
 
 -- entries that hold these times are a tournament
@@ -249,7 +249,7 @@ holds_set ts es fs m t e h lt same tree is set =
         let here : j ≡ m = eqb-true j m f in
         let within : length ts + m < length es = omega arith in
         let at : entry_at fs (length ts + m) ≡ e =
-        set (length ts + m) (omega arith) ∙ get_or-set_same es (length ts + m) e (record { time = 0; place = 0 }) within in
+        set (length ts + m) (omega arith) ∙ get_or-set_same es (length ts + m) e (record { time = 0; number = 0 }) within in
         let now : slice_index_or (slice_set ts m t) m None ≡ t = get_or-set_same ts m t None lt in
         subst (λ k. IsEntryOf (slice_index_or (slice_set ts m t) k None) k (entry_at fs (length ts + k))) (sym here)
         (subst (λ (x : Entry). IsEntryOf (slice_index_or (slice_set ts m t) m None) m x) (sym at)
@@ -259,7 +259,7 @@ holds_set ts es fs m t e h lt same tree is set =
         let apart : length ts + j ≢ length ts + m = λ g. there (omega arith) in
         let at : entry_at fs (length ts + j) ≡ entry_at es (length ts + j) =
         set (length ts + j) (omega arith)
-        ∙ get_or-set_other es (length ts + m) (length ts + j) e (record { time = 0; place = 0 }) apart in
+        ∙ get_or-set_other es (length ts + m) (length ts + j) e (record { time = 0; number = 0 }) apart in
         let now : slice_index_or (slice_set ts m t) j None ≡ slice_index_or ts j None = get_or-set_other ts m j t None there in
         subst (λ (x : Entry). IsEntryOf (slice_index_or (slice_set ts m t) j None) j x) (sym at)
         (subst (λ o. IsEntryOf o j (entry_at es (length ts + j))) (sym now) (h.leaves j below))

@@ -85,43 +85,43 @@ fits (suc k) cut till place i n (c ∷ cs) small few le =
     )
 
 -- of the own runs of jobs' cells one ends with this
-some_cell : (o : StepOutcome Stepped) (end i : ℕ) (cs : List PlainCell) → cell.FirstEnds o end (numbered i cs) → (j : ℕ) × (c : PlainCell)
-    × (slice_get cs j ≡ Some c) × ((n : ℕ) × (own_end end (i + j) n c ≡ o))
-some_cell o end i [] h = absurd h
-some_cell o end i (c ∷ cs) (inl h) = (0, c, refl, (h.0, ap (λ m. own_end end m h.0 c) (add-zero i) ∙ h.1))
-some_cell o end i (c ∷ cs) (inr h) =
-    let r = some_cell o end (suc i) cs h.1 in
-    (suc r.0, r.1, r.2, (r.3.0, ap (λ m. own_end end m r.3.0 r.1) (shifted i r.0) ∙ r.3.1))
+some_cell : (o : StepOutcome Stepped) (till i : ℕ) (cs : List PlainCell) → cell.FirstEnds o till (numbered i cs) → (j : ℕ) × (c : PlainCell)
+    × (slice_get cs j ≡ Some c) × ((n : ℕ) × (own_end till (i + j) n c ≡ o))
+some_cell o till i [] h = absurd h
+some_cell o till i (c ∷ cs) (inl h) = (0, c, refl, (h.0, ap (λ m. own_end till m h.0 c) (add-zero i) ∙ h.1))
+some_cell o till i (c ∷ cs) (inr h) =
+    let r = some_cell o till (suc i) cs h.1 in
+    (suc r.0, r.1, r.2, (r.3.0, ap (λ m. own_end till m r.3.0 r.1) (shifted i r.0) ∙ r.3.1))
 
-some_job : (o : StepOutcome Stepped) (k cut end place i : ℕ) (cs : List PlainCell)
-    → AnyEnds o (handed_jobs i (jobs_within k cut end place cs)) → (j : ℕ)
-    × (c : PlainCell) × (slice_get cs j ≡ Some c) × ((n : ℕ) × (own_end end (i + j) n c ≡ o))
-some_job o k cut end place i [] h = absurd h
-some_job o zero cut end place i (c ∷ cs) h = absurd h
-some_job o (suc k) cut end place i (c ∷ cs) (inl h) =
+some_job : (o : StepOutcome Stepped) (k cut till place i : ℕ) (cs : List PlainCell)
+    → AnyEnds o (handed_jobs i (jobs_within k cut till place cs)) → (j : ℕ)
+    × (c : PlainCell) × (slice_get cs j ≡ Some c) × ((n : ℕ) × (own_end till (i + j) n c ≡ o))
+some_job o k cut till place i [] h = absurd h
+some_job o zero cut till place i (c ∷ cs) h = absurd h
+some_job o (suc k) cut till place i (c ∷ cs) (inl h) =
     let all = c ∷ cs in
-    let r = some_cell o end i (take cut all) h in (
+    let r = some_cell o till i (take cut all) h in (
       r.0,
       r.1,
       subst (λ l. slice_get l r.0 ≡ Some r.1) (take-append-drop cut all) (get_first (take cut all) (drop cut all) r.0 r.1 r.2),
       r.3,
     )
-some_job o (suc k) cut end place i (c ∷ cs) (inr h) =
+some_job o (suc k) cut till place i (c ∷ cs) (inr h) =
     let all = c ∷ cs in
-    let r = some_job o k cut end (suc place) (i + length (take cut all)) (drop cut all) h in
+    let r = some_job o k cut till (suc place) (i + length (take cut all)) (drop cut all) h in
     let at : i + length (take cut all) + r.0 ≡ i + (length (take cut all) + r.0) = omega arith in (
       length (take cut all) + r.0,
       r.1,
       subst (λ l. slice_get l (length (take cut all) + r.0) ≡ Some r.1) (take-append-drop cut all)
           (get_second (take cut all) (drop cut all) r.0 ∙ r.2),
-      (r.3.0, ap (λ m. own_end end m r.3.0 r.1) (sym at) ∙ r.3.1),
+      (r.3.0, ap (λ m. own_end till m r.3.0 r.1) (sym at) ∙ r.3.1),
     )
 
-pub any_cell : (o : StepOutcome Stepped) (cut end : ℕ) (cs : List PlainCell) → AnyEnds o (handed_jobs 0 (jobs_from cut end 0 cs)) → (m : ℕ)
-    × (c : PlainCell) × (slice_get cs m ≡ Some c) × ((n : ℕ) × (own_end end m n c ≡ o))
-any_cell o cut end cs h =
-    let r = some_job o (length cs) cut end 0 0 cs h in
-    (r.0, r.1, r.2, (r.3.0, ap (λ m. own_end end m r.3.0 r.1) (sym (zero-add r.0)) ∙ r.3.1))
+pub any_cell : (o : StepOutcome Stepped) (cut till : ℕ) (cs : List PlainCell) → AnyEnds o (handed_jobs 0 (jobs_from cut till 0 cs))
+    → (m : ℕ) × (c : PlainCell) × (slice_get cs m ≡ Some c) × ((n : ℕ) × (own_end till m n c ≡ o))
+any_cell o cut till cs h =
+    let r = some_job o (length cs) cut till 0 0 cs h in
+    (r.0, r.1, r.2, (r.3.0, ap (λ m. own_end till m r.3.0 r.1) (sym (zero-add r.0)) ∙ r.3.1))
 
 module _ {M : Type 0} (f : M → Record) where
   -- ---- jobs of groups
@@ -191,16 +191,16 @@ module _ {M : Type 0} (f : M → Record) where
 
   -- ---- what is done
 
-  own_results : (end i : ℕ) (cs : List PlainCell) (lists : List (List Row)) (after : List (Cell M))
-      → cell.RanEach f end (numbered i cs) lists after
-      → (rs : List OwnResult) × AreOwnRuns end i cs rs × AreFrom f i after (cells_in rs) × (lists ≡ rows_in rs)
-  own_results end i [] [] [] h = ([], tt, tt, refl)
-  own_results end i [] [] (a ∷ after) h = absurd h
-  own_results end i [] (r ∷ lists) after h = absurd h
-  own_results end i (c ∷ cs) [] after h = absurd h
-  own_results end i (c ∷ cs) (r ∷ lists) [] h = absurd h
-  own_results end i (c ∷ cs) (r ∷ lists) (a ∷ after) h =
-      let more = own_results end (suc i) cs lists after h.1 in
+  own_results : (till i : ℕ) (cs : List PlainCell) (lists : List (List Row)) (after : List (Cell M))
+      → cell.RanEach f till (numbered i cs) lists after
+      → (rs : List OwnResult) × AreOwnRuns till i cs rs × AreFrom f i after (cells_in rs) × (lists ≡ rows_in rs)
+  own_results till i [] [] [] h = ([], tt, tt, refl)
+  own_results till i [] [] (a ∷ after) h = absurd h
+  own_results till i [] (r ∷ lists) after h = absurd h
+  own_results till i (c ∷ cs) [] after h = absurd h
+  own_results till i (c ∷ cs) (r ∷ lists) [] h = absurd h
+  own_results till i (c ∷ cs) (r ∷ lists) (a ∷ after) h =
+      let more = own_results till (suc i) cs lists after h.1 in
       (record { rows = r; cell = h.0.0 } ∷ more.0, (h.0.1, more.1), (h.0.2, more.2), ap (λ l. r ∷ l) more.3)
 
   pub job_results : (t : Traffic) (i : ℕ) (js : List WindowJob) (ds : List (job.Done M))

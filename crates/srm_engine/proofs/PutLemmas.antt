@@ -26,13 +26,13 @@ last_read xs ys x y is read = same_Some x y (sym (last_is_put xs ys x is) ∙ sy
 
 module _ {M : Type 0} where
   -- where what a cell's step gives is so of all cells, it is so of the row that was put
-  pub put_taken : (f : M → Record) (m end : ℕ) (old : Cells M) (c d : Cell M) (cs : List (Cell M)) (ts : List (Option ℕ))
+  pub put_taken : (f : M → Record) (m till : ℕ) (old : Cells M) (c d : Cell M) (cs : List (Cell M)) (ts : List (Option ℕ))
       (b : Bool) (rows more : List Row)
       → ((ps : List PlainCell) (p : PlainCell) (row : Option Row) → ShowCells f old ps → slice_get ps m ≡ Some p
-      → Steps f end c (Ok row) d → TellsOwnStep f m ps (own_step end m p) (Ok row) cs ts)
-      → PutsStep {E = CellFault} (λ r. Steps f end c r d) rows (Ok b) more
+      → Steps f till c (Ok row) d → TellsOwnStep f m ps (own_step till m p) (Ok row) cs ts)
+      → PutsStep {E = CellFault} (λ r. Steps f till c r d) rows (Ok b) more
       → PutsStep {E = CellFault}
       (λ r. (ps : List PlainCell) (p : PlainCell) → ShowCells f old ps → slice_get ps m ≡ Some p
-      → TellsOwnStep f m ps (own_step end m p) r cs ts) rows (Ok b) more
-  put_taken f m end old c d cs ts false rows more so puts = ((λ ps p h k. so ps p None h k puts.0), puts.1)
-  put_taken f m end old c d cs ts true rows more so puts = (puts.0, (λ ps p h k. so ps p (Some puts.0) h k puts.1), puts.2)
+      → TellsOwnStep f m ps (own_step till m p) r cs ts) rows (Ok b) more
+  put_taken f m till old c d cs ts false rows more so puts = ((λ ps p h k. so ps p None h k puts.0), puts.1)
+  put_taken f m till old c d cs ts true rows more so puts = (puts.0, (λ ps p h k. so ps p (Some puts.0) h k puts.1), puts.2)

@@ -25,7 +25,7 @@ use Rattle.srm_engine.specs.declared.soonest.Soonest.{Soonest}
 use Rattle.srm_engine.specs.Groups.{AreCuts, AreGrouped, sizes, all_in}
 use Rattle.srm_model.specs.WindowRuns.{OwnResult, AreOwnRuns, cells_in}
 use Rattle.srm_engine.specs.Soonest.{IsSoonest, AreSoonest, AreThose, IsInRange, due}
-use Rattle.srm_engine.proofs.CellLists.{first_cut, no_more_groups, in_group, at_place}
+use Rattle.srm_engine.proofs.CellLists.{first_cut, no_more_groups, in_group, at_index}
 use Rattle.srm_model.proofs.OneWindow.{as_many_results}
 use Rattle.srm_model.proofs.RunLemmas.{shifted}
 use Rattle.srm_model.proofs.Sequential.{get_below}
@@ -88,8 +88,8 @@ module _ {M : Type 0} (f : M → Record) (cut : ℕ) (gs : List (Vec (Cell M))) 
       (λ m in_all a. let le = a.0 in let less = a.1 in let most = at.most in let d = at_offset m le in
       ap (λ n. n / cut) d.1 ∙ div-mul-add k cut d.0 (let e = d.1 in omega arith))
       (λ m in_all e.
-      let place = at_place cut gs m m pos h.cuts refl (omega arith) in
-      let within : m % cut < length (get_or gs k g).items = subst (λ n. m % cut < length (get_or gs n g).items) e (place.place g) in
+      let there = at_index cut gs m m pos h.cuts refl (omega arith) in
+      let within : m % cut < length (get_or gs k g).items = subst (λ n. m % cut < length (get_or gs n g).items) e (there.index g) in
       let whole : k * cut + m % cut ≡ m = ap (λ n. n * cut + m % cut) (sym e) ∙ div-add-mod' m cut in
       (omega arith, omega arith))
       soon
@@ -106,7 +106,7 @@ module _ {M : Type 0} (f : M → Record) (cut : ℕ) (gs : List (Vec (Cell M))) 
       soonest_of_group s k g x lt is (subst (λ l. IsSoonest s (IsInRange (k * cut) (length l)) ps x) same (told those))
 
   pub group_below : (m : ℕ) → m < length ps → m / cut < length gs
-  group_below m lt = let all = h.cells.as_many in (at_place cut gs m m pos h.cuts refl (omega arith)).group
+  group_below m lt = let all = h.cells.as_many in (at_index cut gs m m pos h.cuts refl (omega arith)).group
 
 -- for each group it is kept how soon something is due in it
 pub as_many_kept : {A : Type 0} (s : Setting) (cut : ℕ) (gs : List (Vec A)) (xs : List Soonest) (ps : List PlainCell) → 0 < cut
@@ -129,49 +129,49 @@ as_many_kept s cut gs xs ps pos cuts all soon = elim (nat_lt (length xs) (length
 
 -- ---- after own runs
 
-not_before : (end : ℕ) (o : Option Event) → ((u : ℕ) → time_of o ≡ Some u → end ≤ u) → before end o ≡ None
-not_before end None h = refl
-not_before end (Some e) h = ap (λ b. cond b (Some e) None) (le-ltb e.key.time end (h e.key.time refl))
+not_before : (till : ℕ) (o : Option Event) → ((u : ℕ) → time_of o ≡ Some u → till ≤ u) → before till o ≡ None
+not_before till None h = refl
+not_before till (Some e) h = ap (λ b. cond b (Some e) None) (le-ltb e.key.time till (h e.key.time refl))
 
-idle_step : (end m : ℕ) (c : PlainCell) → ((u : ℕ) → due m c ≡ Some u → end ≤ u) → own_step end m c ≡ Idle
+idle_step : (till m : ℕ) (c : PlainCell) → ((u : ℕ) → due m c ≡ Some u → till ≤ u) → own_step till m c ≡ Idle
 unfolding own_step
-idle_step end m c h = ap step_at (not_before end (next_event m c) h)
+idle_step till m c h = ap step_at (not_before till (next_event m c) h)
 
 -- a cell in which nothing is due before the end is as it was
-idle_from : (end i : ℕ) (cs : List PlainCell) (rs : List OwnResult) → AreOwnRuns end i cs rs → (j : ℕ) (c : PlainCell) → slice_get cs j
+idle_from : (till i : ℕ) (cs : List PlainCell) (rs : List OwnResult) → AreOwnRuns till i cs rs → (j : ℕ) (c : PlainCell) → slice_get cs j
     ≡ Some c
-    → ((u : ℕ) → due (i + j) c ≡ Some u → end ≤ u) → slice_get (cells_in rs) j ≡ Some c
-idle_from end i [] rs h j c get late = cc
-idle_from end i (x ∷ cs) [] h j c get late = absurd h
-idle_from end i (x ∷ cs) (r ∷ rs) h zero c get late =
+    → ((u : ℕ) → due (i + j) c ≡ Some u → till ≤ u) → slice_get (cells_in rs) j ≡ Some c
+idle_from till i [] rs h j c get late = cc
+idle_from till i (x ∷ cs) [] h j c get late = absurd h
+idle_from till i (x ∷ cs) (r ∷ rs) h zero c get late =
     let same = same_Some x c get in
     let here : i + 0 ≡ i = omega arith in
-    let idle : own_step end i c ≡ Idle = idle_step end i c (λ u e. late u (ap (λ m. due m c) here ∙ e)) in
+    let idle : own_step till i c ≡ Idle = idle_step till i c (λ u e. late u (ap (λ m. due m c) here ∙ e)) in
     let run = h.0 in
-    ap Some (run.leaves ∙ ap (λ d. own_after end i run.steps d) same ∙ after_idle end i run.steps c idle)
-idle_from end i (x ∷ cs) (r ∷ rs) h (suc j) c get late =
-    idle_from end (suc i) cs rs h.1 j c get (λ u e. late u (ap (λ m. due m c) (shifted i j) ∙ e))
+    ap Some (run.leaves ∙ ap (λ d. own_after till i run.steps d) same ∙ after_idle till i run.steps c idle)
+idle_from till i (x ∷ cs) (r ∷ rs) h (suc j) c get late =
+    idle_from till (suc i) cs rs h.1 j c get (λ u e. late u (ap (λ m. due m c) (shifted i j) ∙ e))
 
-pub idle_stays : (end : ℕ) (cs : List PlainCell) (rs : List OwnResult) → AreOwnRuns end 0 cs rs → (m : ℕ) (c : PlainCell) → slice_get cs m
+pub idle_stays : (till : ℕ) (cs : List PlainCell) (rs : List OwnResult) → AreOwnRuns till 0 cs rs → (m : ℕ) (c : PlainCell) → slice_get cs m
     ≡ Some c
-    → ((u : ℕ) → due m c ≡ Some u → end ≤ u) → slice_get (cells_in rs) m ≡ Some c
-idle_stays end cs rs h m c get late = idle_from end 0 cs rs h m c get (λ u e. late u (ap (λ k. due k c) (sym (zero-add m)) ∙ e))
+    → ((u : ℕ) → due m c ≡ Some u → till ≤ u) → slice_get (cells_in rs) m ≡ Some c
+idle_stays till cs rs h m c get late = idle_from till 0 cs rs h m c get (λ u e. late u (ap (λ k. due k c) (sym (zero-add m)) ∙ e))
 
 -- where nothing is due in a group before the end, it is as it was
-pub soonest_idle : (s : Setting) (cut k end : ℕ) (ps : List PlainCell) (rs : List OwnResult) (x : Soonest) → AreOwnRuns end 0 ps rs
-    → end ≤ x.time
+pub soonest_idle : (s : Setting) (cut k till : ℕ) (ps : List PlainCell) (rs : List OwnResult) (x : Soonest) → AreOwnRuns till 0 ps rs
+    → till ≤ x.time
     → IsSoonest s (λ m. m / cut ≡ k) ps x → IsSoonest s (λ m. m / cut ≡ k) (cells_in rs) x
-soonest_idle s cut k end ps rs x alone late h =
+soonest_idle s cut k till ps rs x alone late h =
     soon_same_cells s (λ m. m / cut ≡ k) ps (cells_in rs) x stays
     (λ m c p get.
-    let many = as_many_results end 0 ps rs alone in
+    let many = as_many_results till 0 ps rs alone in
     let below = get_below (cells_in rs) m c get in
     let q = below_get ps m (omega arith) in
     q.1 ∙ sym (stays m q.0 p q.1) ∙ get)
     h
   where
     stays : (m : ℕ) (c : PlainCell) → m / cut ≡ k → slice_get ps m ≡ Some c → slice_get (cells_in rs) m ≡ Some c
-    stays m c p get = idle_stays end ps rs alone m c get (λ u e. let le = h.time.none_less m c u p get e in omega arith)
+    stays m c p get = idle_stays till ps rs alone m c get (λ u e. let le = h.time.none_less m c u p get e in omega arith)
 
 -- ---- after a packet was heard
 
@@ -219,23 +219,24 @@ module _ {A : Type 0} (N O : ℕ → A → Type 0) (xs : List A) (k : ℕ)
   one_kept kept j x g = grind arith
 
 module _ {M : Type 0} (f : M → Record) (cut : ℕ) (gs : List (Vec (Cell M))) (ps : List PlainCell)
-    (results : List OwnResult) (pos : 0 < cut) (end : ℕ) (alone : AreOwnRuns end 0 ps results) (h : AreGrouped f cut gs (cells_in results))
+    (results : List OwnResult) (pos : 0 < cut) (till : ℕ) (alone : AreOwnRuns till 0 ps results)
+    (h : AreGrouped f cut gs (cells_in results))
   where
     -- each group was looked through again, or has no cells
-    pub all_looked : (s : Setting) (xs ys : List Soonest) (place : ℕ) → length gs ≤ place → length ys ≡ length xs → length gs ≤ length xs
+    pub all_looked : (s : Setting) (xs ys : List Soonest) (index : ℕ) → length gs ≤ index → length ys ≡ length xs → length gs ≤ length xs
         → AreSoonest s cut xs ps
         → ((j : ℕ) (x : Soonest) → slice_get ys j ≡ Some x
-        → (j < place → IsSoonest s (λ m. m / cut ≡ j) (cells_in results) x) × (place ≤ j → IsSoonest s (λ m. m / cut ≡ j) ps x))
+        → (j < index → IsSoonest s (λ m. m / cut ≡ j) (cells_in results) x) × (index ≤ j → IsSoonest s (λ m. m / cut ≡ j) ps x))
         → AreSoonest s cut ys (cells_in results)
-    all_looked s xs ys place past same many soon each = record {
+    all_looked s xs ys index past same many soon each = record {
       many = λ m lt. let below = group_below f cut gs (cells_in results) pos h m lt in omega arith;
-      each = λ k x g. elim (nat_lt k place) as (λ b. nat_lt k place ≡ b → IsSoonest s (λ m. m / cut ≡ k) (cells_in results) x) [
+      each = λ k x g. elim (nat_lt k index) as (λ b. nat_lt k index ≡ b → IsSoonest s (λ m. m / cut ≡ k) (cells_in results) x) [
         | true ↦ λ e. (each k x g).0 (grind (arith, nat_tests))
         | false ↦ λ e.
-            let le : place ≤ k = grind (arith, nat_tests) in
+            let le : index ≤ k = grind (arith, nat_tests) in
             soon_same_cells s (λ m. m / cut ≡ k) ps (cells_in results) x
             (λ m c p get.
-            let long = as_many_results end 0 ps results alone in
+            let long = as_many_results till 0 ps results alone in
             let below = group_below f cut gs (cells_in results) pos h m (let lt = get_below ps m c get in omega arith) in
             absurd (omega (arith, p)))
             (λ m c p get. let below = group_below f cut gs (cells_in results) pos h m (get_below (cells_in results) m c get) in

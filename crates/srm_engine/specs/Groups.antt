@@ -113,8 +113,8 @@ module _ {M : Type 0} where
   -- after groups were looked through again: where what was kept is how soon something was due before the own runs of
   -- all cells to a tick, what is kept is how soon something is due after them
   abbrev pub LooksAgain : (M → Record) → Setting → ℕ → Groups M → Groups M → Type 0
-  LooksAgain f s end old new =
-      (ps : List PlainCell) (results : List OwnResult) → AreOwnRuns end 0 ps results
+  LooksAgain f s till old new =
+      (ps : List PlainCell) (results : List OwnResult) → AreOwnRuns till 0 ps results
       → AreGrouped f old.cut old.groups.items (cells_in results) → AreSoonest s old.cut old.soon.items ps
       → AreKept f s new (cells_in results)
 

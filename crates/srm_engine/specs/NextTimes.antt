@@ -26,21 +26,21 @@ is_time t (Some (Some u)) = u == t
 
 -- the entry of member m: its time and its number; without a time it comes after all members that have one
 abbrev pub slot_of : Option ℕ → ℕ → Entry
-slot_of None m = record { time = 18446744073709551615; place = 65536 + m }
-slot_of (Some t) m = record { time = t; place = m }
+slot_of None m = record { time = 18446744073709551615; number = 65536 + m }
+slot_of (Some t) m = record { time = t; number = m }
 
 -- the time that an entry stands for
 abbrev pub time_in : Entry → Option ℕ
-time_in e = if nat_lt e.place 65536 then Some e.time else None
+time_in e = if nat_lt e.number 65536 then Some e.time else None
 
 -- entry i
 abbrev pub entry_at : List Entry → ℕ → Entry
-entry_at es i = slice_index_or es i (record { time = 0; place = 0 })
+entry_at es i = slice_index_or es i (record { time = 0; number = 0 })
 
--- the one of two entries that comes first: by time, and then by place
+-- the one of two entries that comes first: by time, and then by number
 abbrev pub sooner_entry : Entry → Entry → Entry
 sooner_entry p q =
-    if nat_lt p.time q.time then p else (if nat_lt q.time p.time || nat_lt q.place p.place then q else p)
+    if nat_lt p.time q.time then p else (if nat_lt q.time p.time || nat_lt q.number p.number then q else p)
 
 -- the sooner of the two entries below entry i
 abbrev pub winner_below : List Entry → ℕ → Entry

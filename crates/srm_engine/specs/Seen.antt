@@ -57,9 +57,9 @@ module _ {M : Type 0} where
   -- so of whatever the cells are seen as
   abbrev pub TakesStep : (M → Record) → ℕ → ℕ → Cells M → Result (Option Row) CellFault → Cells M
       → Type 0
-  TakesStep f m end old r new =
+  TakesStep f m till old r new =
       (ps : List PlainCell) (p : PlainCell) → ShowCells f old ps → slice_get ps m ≡ Some p
-      → TellsOwnStep f m ps (own_step end m p) r new.cells.items new.times
+      → TellsOwnStep f m ps (own_step till m p) r new.cells.items new.times
 
   -- the cell of member m has no such packet on its way
   abbrev pub IsNewAt : ℕ → PacketId → Cells M → Type 0

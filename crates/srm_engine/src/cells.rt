@@ -75,21 +75,21 @@ impl Cells {
         Ok(Cells { cells, times })
     }
 
-    /// A member's own step to tick `until`, where the row is put behind others. Tells whether there was an event.
+    /// A member's own step to tick `till`, where the row is put behind others. Tells whether there was an event.
     pub(crate) fn step(
         &mut self,
         alloc: Global,
         member: u16,
-        until: u64,
+        till: u64,
         rows: &mut Vec<Row>,
     ) -> Result<bool, CellFault>
-        requires until { until ≤ end_of_time }
-        requires place { member < length self.old.cells.items }
+        requires till { till ≤ end_of_time }
+        requires cell { member < length self.old.cells.items }
         requires time { member < length self.old.times }
-        ensures { PutsStep (λ r. TakesStep (λ b. plain b) member until self.old r self.new) rows.old.items result rows.new.items }
+        ensures { PutsStep (λ r. TakesStep (λ b. plain b) member till self.old r self.new) rows.old.items result rows.new.items }
     {
         let cell = &mut self.cells[usize::from(member)];
-        let is_event = match cell.step_onto(alloc, until, rows) {
+        let is_event = match cell.step_onto(alloc, till, rows) {
             Ok(is_event) => is_event,
             Err(fault) => return Err(fault),
         };
@@ -100,7 +100,7 @@ impl Cells {
 
     /// A member is handed a packet, which arrives at tick `at`.
     pub(crate) fn hand(&mut self, member: u16, packet: &Packet, at: u64) -> Result<(), AllocError>
-        requires place { member < length self.old.cells.items }
+        requires cell { member < length self.old.cells.items }
         requires time { member < length self.old.times }
         requires new { IsNewAt member packet.now.id self.old }
         ensures { IfOk result (λ _. HandsTo (λ b. plain b) member packet.now at self.old self.new) }

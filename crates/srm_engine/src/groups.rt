@@ -59,23 +59,23 @@ impl<M: Participant> Groups<M> {
         Ok(Groups { cut, groups, soon })
     }
 
-    /// Looks again for how soon something is due in each group in which something was due before tick `end`, after the own runs of
+    /// Looks again for how soon something is due in each group in which something was due before tick `till`, after the own runs of
     /// all cells to it: where nothing was, no cell has changed.
-    pub(crate) fn look_again(self, scenario: &Scenario, net: &Net, end: u64) -> Groups<M>
+    pub(crate) fn look_again(self, scenario: &Scenario, net: &Net, till: u64) -> Groups<M>
         requires network { net.now ≡ network_of scenario.now }
         requires may { MayLookAgain (length scenario.now.members) self }
         ensures same { (result.cut ≡ self.cut) × (result.groups ≡ self.groups) }
         ensures soon { (seed : ℕ) → LooksAgain M.plain
-            (setting_of scenario.now net.now seed) end self result }
+            (setting_of scenario.now net.now seed) till self result }
     {
         let until = scenario.until();
         let Groups { cut, groups, soon } = self;
         let mut soon = soon;
         let all = groups.as_slice();
         let kept = soon.as_mut_slice();
-        for (place, group) in all.iter().enumerate() {
-            if kept[place].time < end {
-                kept[place] = soonest_in(scenario, net, group.as_slice(), place * cut, until);
+        for (index, group) in all.iter().enumerate() {
+            if kept[index].time < till {
+                kept[index] = soonest_in(scenario, net, group.as_slice(), index * cut, until);
             }
         }
         Groups { cut, groups, soon }

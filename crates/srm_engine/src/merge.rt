@@ -52,7 +52,7 @@ fn in_turn(alloc: Global, lists: Vec<Vec<Row>>, turns: &[u64]) -> Result<Vec<Row
     let mut all = Vec::with_capacity(alloc, turns.len())?;
     let mut left = iterators(alloc, lists)?;
     for turn in turns {
-        take_next(&mut all, &mut left, place_of(*turn))?;
+        take_next(&mut all, &mut left, list_of(*turn))?;
     }
     take_rest(&mut all, left)?;
     Ok(all)
@@ -69,19 +69,19 @@ fn iterators(alloc: Global, lists: Vec<Vec<Row>>) -> Result<Vec<IntoIter<Row>>, 
     Ok(left)
 }
 
-// Takes the next row of the list at a place, if there is one.
+// Takes the next row of a list, which is given by its number, if there is one.
 fn take_next(
     all: &mut Vec<Row>,
     left: &mut Vec<IntoIter<Row>>,
-    place: usize,
+    list: usize,
 ) -> Result<(), AllocError>
     ensures { IfOk result (λ _. IsPermutation (all.old.items ++ joined (map into_iter_items left.old.items))
         (all.new.items ++ joined (map into_iter_items left.new.items))) }
 {
-    if place >= left.len() {
+    if list >= left.len() {
         return Ok(());
     }
-    if let Some(row) = left[place].next() {
+    if let Some(row) = left[list].next() {
         all.push(row)?;
     }
     Ok(())
@@ -111,28 +111,28 @@ fn take_all(all: &mut Vec<Row>, rows: IntoIter<Row>) -> Result<(), AllocError>
 // a merge takes.
 fn turns(alloc: Global, lists: &[Vec<Row>]) -> Result<Vec<u64>, AllocError> {
     let mut turns = Vec::with_capacity(alloc, count_rows(lists))?;
-    for (place, rows) in lists.iter().enumerate() {
-        add_turns(&mut turns, place, rows.as_slice())?;
+    for (list, rows) in lists.iter().enumerate() {
+        add_turns(&mut turns, list, rows.as_slice())?;
     }
     turns.sort_unstable();
     Ok(turns)
 }
 
-// Adds the turns of the list at a place.
-fn add_turns(turns: &mut Vec<u64>, place: usize, rows: &[Row]) -> Result<(), AllocError> {
+// Adds the turns of a list, which is given by its number.
+fn add_turns(turns: &mut Vec<u64>, list: usize, rows: &[Row]) -> Result<(), AllocError> {
     for row in rows {
-        turns.push(turn(row.key.time, place))?;
+        turns.push(turn(row.key.time, list))?;
     }
     Ok(())
 }
 
-// A turn in one number: a time, and behind it the place of a list, which takes 16 bits, since there are no more members.
-fn turn(time: u64, place: usize) -> u64 {
-    (time << 16) | (place as u64 & 0xFFFF)
+// A turn in one number: a time, and behind it the number of a list, which takes 16 bits, since there are no more members.
+fn turn(time: u64, list: usize) -> u64 {
+    (time << 16) | (list as u64 & 0xFFFF)
 }
 
-// The place of the list that has this turn.
-fn place_of(turn: u64) -> usize {
+// The number of the list that has this turn.
+fn list_of(turn: u64) -> usize {
     (turn & 0xFFFF) as usize
 }
 

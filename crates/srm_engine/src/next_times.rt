@@ -5,7 +5,7 @@ ghost use Rattle.srm_engine.specs.NextTimes.{least_of_times, sooner_entry, IsEnt
 use std::alloc::{AllocError, Global};
 use std::marker::Model;
 
-// Members' numbers are below it, and the places of entries without a time are not.
+// Members' numbers are below it, and the numbers of entries without a time are not.
 const NO_TIME: u64 = 65_536;
 
 /// The next times of all members, in ticks, by member. Contracts see them as a list; a member may have none.
@@ -28,12 +28,12 @@ impl Model for NextTimes {
     ghost invariant = { λ n. IsTournament n.entries.items };
 }
 
-// A member's next time, and its place among those of the same time: its number. A member without a next time comes
-// after all that have one: at the greatest tick, in a place past all numbers.
+// A member's next time, and its number, by which those of the same time are ordered. A member without a next time comes
+// after all that have one: at the greatest tick, with a number past those of all members.
 #[derive(Clone, Copy)]
 struct Entry {
     time: u64,
-    place: u64,
+    number: u64,
 }
 
 impl NextTimes {
@@ -55,7 +55,7 @@ impl NextTimes {
         ensures { IfOk result (λ n. n ≡ times.items) }
     {
         let count = times.len();
-        let none = Entry { time: 0, place: 0 };
+        let none = Entry { time: 0, number: 0 };
         let mut entries = vec![in alloc; none; 2 * count]?;
         for (member, time) in times.iter().enumerate() {
             entries[count + member] = standing(*time, member as u16);
@@ -80,8 +80,8 @@ impl NextTimes {
         ensures { result ≡ least_of_times 0 self.now }
     {
         let least = self.entries.get(1)?;
-        if least.place < NO_TIME {
-            Some((least.time, least.place as u16))
+        if least.number < NO_TIME {
+            Some((least.time, least.number as u16))
         } else {
             None
         }
@@ -92,17 +92,17 @@ impl NextTimes {
 fn standing(time: Option<u64>, member: u16) -> Entry
     ensures { IsEntryOf time member result }
 {
-    let place = u64::from(member);
+    let number = u64::from(member);
     match time {
-        Some(time) => Entry { time, place },
+        Some(time) => Entry { time, number },
         None => Entry {
             time: u64::MAX,
-            place: NO_TIME + place,
+            number: NO_TIME + number,
         },
     }
 }
 
-// The one of two entries that comes first: by time, and then by place.
+// The one of two entries that comes first: by time, and then by number.
 fn sooner(first: Entry, second: Entry) -> Entry
     ensures { result ≡ sooner_entry first second }
 {
@@ -112,7 +112,7 @@ fn sooner(first: Entry, second: Entry) -> Entry
     if second.time < first.time {
         return second;
     }
-    if second.place < first.place {
+    if second.number < first.number {
         second
     } else {
         first
@@ -130,7 +130,7 @@ fn climb(entries: &mut [Entry], leaf: usize, entry: Entry)
 {
     let mut node = leaf;
     let mut winner = entry;
-    while entries[node].time != winner.time || entries[node].place != winner.place {
+    while entries[node].time != winner.time || entries[node].number != winner.number {
         entries[node] = winner;
         if node == 1 {
             return;

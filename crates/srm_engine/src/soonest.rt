@@ -79,8 +79,8 @@ pub(crate) fn soonest_in<M: Participant>(
         time: until,
         promise: until,
     };
-    for (place, cell) in cells.iter().enumerate() {
-        let way = way(scenario, net, (first + place) as u16);
+    for (index, cell) in cells.iter().enumerate() {
+        let way = way(scenario, net, (first + index) as u16);
         soonest = soonest.with(cell.next_time(), way);
     }
     soonest
@@ -104,8 +104,8 @@ pub(crate) fn soonest_of_each<M: Participant>(
 {
     let until = scenario.until();
     let mut soonest = Vec::new(alloc);
-    for (place, group) in groups.iter().enumerate() {
-        soonest.push(soonest_in(scenario, net, group.as_slice(), place * cut, until))?;
+    for (index, group) in groups.iter().enumerate() {
+        soonest.push(soonest_in(scenario, net, group.as_slice(), index * cut, until))?;
     }
     Ok(soonest)
 }

@@ -30,11 +30,11 @@ enum Work {
 }
 
 // The number that is added to a kind of a link.
-fn number(link: usize, place: usize) -> u64
-    requires { (link < 65534) × (place < 5) }
-    ensures { result ≡ 5 * link + place + 1 }
+fn number(link: usize, kind: usize) -> u64
+    requires { (link < 65534) × (kind < 5) }
+    ensures { result ≡ 5 * link + kind + 1 }
 {
-    (5 * link + place + 1) as u64
+    (5 * link + kind + 1) as u64
 }
 
 fn add_requests(ledger: &Ledger, seat: Seat, times: u32) -> Seat
@@ -55,8 +55,8 @@ fn add_to_link(ledger: &Ledger, seat: Seat, link: usize) -> Seat
     ensures { result.ledger ≡ ledger.now.name }
 {
     let mut seat = seat;
-    for place in 0..5 {
-        let _ = ledger.add(&mut seat, link, KINDS[place], number(link, place));
+    for kind in 0..5 {
+        let _ = ledger.add(&mut seat, link, KINDS[kind], number(link, kind));
     }
     seat
 }
@@ -163,9 +163,9 @@ fn expect_times(rt: &impl Abort, totals: &Totals, link: u16, times: u64)
     requires link { (link < 255) × (5 * link + 4 < length totals.now) }
     requires times { times ≤ 160 }
 {
-    for place in 0..5 {
-        let total = totals.number(link, KINDS[place]);
-        assert_eq!(rt; total, times * number(usize::from(link), place));
+    for kind in 0..5 {
+        let total = totals.number(link, KINDS[kind]);
+        assert_eq!(rt; total, times * number(usize::from(link), kind));
     }
 }
 

@@ -9,9 +9,9 @@ use Rattle.srm_engine.proofs.merge.take_next.Goals as goal
 pub returns-in_ok-push : goal.returns-in_ok-push
 returns-in_ok-push c =
     let is = c.args.left.now.items in
-    let k = c.args.place in
+    let k = c.args.list in
     let it = c.index_mut.result.now in
-    let few = c.if-place-len.false in
+    let few = c.if-list-len.false in
     let len = c.len.ensures in
     let at : slice_get is k ≡ Some it = slice_get-get_or is k it (omega arith) ∙ ap Some (sym c.index_mut.ensures.value) in
     let rest = joined (map into_iter_items (slice_set is k c.next.new.self)) in
@@ -22,9 +22,9 @@ returns-in_ok-push c =
 pub returns-in_default : goal.returns-in_default
 returns-in_default c =
     let is = c.args.left.now.items in
-    let k = c.args.place in
+    let k = c.args.list in
     let it = c.index_mut.result.now in
-    let few = c.if-place-len.false in
+    let few = c.if-list-len.false in
     let len = c.len.ensures in
     let at : slice_get is k ≡ Some it = slice_get-get_or is k it (omega arith) ∙ ap Some (sym c.index_mut.ensures.value) in
     let all = c.args.all.now.items in

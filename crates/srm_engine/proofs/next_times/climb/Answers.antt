@@ -36,9 +36,9 @@ loop-entries-preserved c =
           node_set es x k w within pos apart (λ ne. i.others k pos (omega arith) ne) (λ e. i.here (omega arith));
       here = λ below.
           c.sooner-winner.ensures
-          ∙ winner_above (slice_set es x w) x w (get_or-set_same es x w (record { time = 0; place = 0 }) within);
+          ∙ winner_above (slice_set es x w) x w (get_or-set_same es x w (record { time = 0; number = 0 }) within);
       leaves = λ k leaf.
           let ne : k ≢ x / 2 = λ e. omega arith in
-          get_or-set_other (slice_set es x w) (x / 2) k c.sooner-winner.result (record { time = 0; place = 0 }) ne
+          get_or-set_other (slice_set es x w) (x / 2) k c.sooner-winner.result (record { time = 0; number = 0 }) ne
           ∙ i.leaves k (omega arith);
     }

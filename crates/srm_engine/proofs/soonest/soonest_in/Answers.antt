@@ -5,21 +5,21 @@ use Rattle.srm_engine.specs.Soonest.{IsInRange, IsSoonest}
 use Rattle.srm_engine.proofs.SoonLemmas.{soon_more}
 use Rattle.srm_engine.proofs.soonest.soonest_in.Goals as goal
 
-pub loop-place-preserved : goal.loop-place-preserved
-loop-place-preserved g c = λ seed ps those.
+pub loop-index-preserved : goal.loop-index-preserved
+loop-index-preserved g c = λ seed ps those.
     let s = setting_of c.args.scenario.now c.args.net.now seed in
-    let k = c.loop-place.place in
-    let at : slice_get c.args.cells.now k ≡ Some c.index-cells-place.result =
-    slice_get-get_or c.args.cells.now k c.index-cells-place.result c.loop-place-test.true ∙ ap Some (sym c.index-cells-place.is) in
-    let p = those k c.index-cells-place.result at in
-    soon_more s c.args.first k ps c.loop-place.soonest c.with-soonest.result p.0 c.next_time.result c.way-way.result p.1
+    let k = c.loop-index.index in
+    let at : slice_get c.args.cells.now k ≡ Some c.index-cells-index.result =
+    slice_get-get_or c.args.cells.now k c.index-cells-index.result c.loop-index-test.true ∙ ap Some (sym c.index-cells-index.is) in
+    let p = those k c.index-cells-index.result at in
+    soon_more s c.args.first k ps c.loop-index.soonest c.with-soonest.result p.0 c.next_time.result c.way-way.result p.1
     (c.next_time.ensures (c.args.first + k) p.0 p.2) (c.way-way.ensures seed) c.with-soonest.ensures.time c.with-soonest.ensures.promise
-    (c.loop-place.invariant seed ps those)
+    (c.loop-index.invariant seed ps those)
 
 pub returns : goal.returns
 returns g c = λ seed ps those.
-    let past = c.loop-place-test.false in
-    let end = c.loop-place.auto.place-end in
-    let all : c.loop-place.place ≡ length c.args.cells.now = omega arith in
-    subst (λ n. IsSoonest (setting_of c.args.scenario.now c.args.net.now seed) (IsInRange c.args.first n) ps c.loop-place.soonest) all
-    (c.loop-place.invariant seed ps those)
+    let past = c.loop-index-test.false in
+    let end = c.loop-index.auto.index-end in
+    let all : c.loop-index.index ≡ length c.args.cells.now = omega arith in
+    subst (λ n. IsSoonest (setting_of c.args.scenario.now c.args.net.now seed) (IsInRange c.args.first n) ps c.loop-index.soonest) all
+    (c.loop-index.invariant seed ps those)

@@ -8,15 +8,15 @@ use Rattle.srm_cell.proofs.cell.Cell.step_onto.Goals as goal
 
 pub returns-in_default : goal.returns-in_default
 returns-in_default g c = (
-  λ m p h. (none_pending c.args.end m p (subst (λ o. Stands m p o (next_event m p)) c.in_default.is h.next), h),
+  λ m p h. (none_pending c.args.till m p (subst (λ o. Stands m p o (next_event m p)) c.in_default.is h.next), h),
   refl,
 )
 
-pub returns-then-next-end : goal.returns-then-next-end
-returns-then-next-end g c = (
+pub returns-then-next-till : goal.returns-then-next-till
+returns-then-next-till g c = (
   λ m p h. (
-    none_before c.args.end m p c.in-Some.next (subst (λ o. Stands m p o (next_event m p)) c.in-Some.is h.next)
-        c.if-next-end.true,
+    none_before c.args.till m p c.in-Some.next (subst (λ o. Stands m p o (next_event m p)) c.in-Some.is h.next)
+        c.if-next-till.true,
     h,
   ),
   refl,
@@ -31,7 +31,7 @@ returns-in-Ok g c =
           let t = c.take-cause.ensures m p s.0 h.parts s.3 in
           let a = put.1 m s.0 t.0 s.2 (sym t.1) in (
             a.0,
-            takes c.args.end m p c.in-Some.next s c.if-next-end.false ∙ a.1,
+            takes c.args.till m p c.in-Some.next s c.if-next-till.false ∙ a.1,
             a.2,
             record { parts = same_parts _ m _ a.0.cell c.least-self.result a.3; next = c.least-self.ensures m a.0.cell a.3 },
           ),
@@ -44,4 +44,4 @@ returns-in-Err g c = λ m p h.
     let t = c.take-cause.ensures m p s.0 h.parts s.3 in
     let a = c.in-Err.ensures m s.0 t.0 s.2 (sym t.1) in
     tells_fault g.M.Participant.plain m p _ _ c.in-Err.fault c.answer.new.self c.answer.new.self
-    (takes c.args.end m p c.in-Some.next s c.if-next-end.false) a
+    (takes c.args.till m p c.in-Some.next s c.if-next-till.false) a

@@ -21,8 +21,8 @@ loop-member-init g c = (
       (sym (none_heard (traffic_in c.args.self.now) c.args.packet.now 0 0 ps (le_refl 0))) h,
 )
 
-pub hand-requires-clause-place : goal.hand-requires-clause-place
-hand-requires-clause-place g c =
+pub hand-requires-clause-cell : goal.hand-requires-clause-cell
+hand-requires-clause-cell g c =
     let n = c.requires.may in
     let seen = c.loop-member.invariant.2 n.cells n.seen in
     let many = seen.cells.as_many in

@@ -43,8 +43,8 @@ returns-then-time-until-clause-step g c = (
   refl,
 )
 
-pub step-requires-clause-place : goal.step-requires-clause-place
-step-requires-clause-place g c =
+pub step-requires-clause-cell : goal.step-requires-clause-cell
+step-requires-clause-cell g c =
     let k = c.requires.known in
     let early : c.in-Some.time < c.args.self.now.scenario.now.until =
     (let lt = c.if-time-until.false in let u = c.until-until.ensures.until in omega arith) in

@@ -6,47 +6,47 @@ use Rattle.srm_engine.specs.Seen.{AreCellsInOrder}
 use Rattle.srm_engine.proofs.SeenLemmas.{set_cells}
 use Rattle.std.proofs.lemmas.Option.{slice_get-get_or}
 use Rattle.srm_engine.specs.Groups.{all_in, AreCuts}
-use Rattle.srm_engine.proofs.CellLists.{at_place}
+use Rattle.srm_engine.proofs.CellLists.{at_index}
 use Rattle.srm_engine.proofs.SoonLemmas.{soonest_heard}
 use Rattle.srm_engine.proofs.SoonGroups.{heard_no_later}
 use Rattle.srm_engine.proofs.groups.Groups.hand.Goals as goal
 
 pub index_mut-group-requires : goal.index_mut-group-requires
 index_mut-group-requires g c =
-    let lt = (at_place c.args.self.now.cut c.args.self.now.groups.items c.args.member c.from-number.result c.requires.cut c.requires.cuts
+    let lt = (at_index c.args.self.now.cut c.args.self.now.groups.items c.args.member c.from-number.result c.requires.cut c.requires.cuts
     c.from-number.ensures c.requires.member).group in
     subst (λ n. c.from-number.result / c.args.self.now.cut < n) (sym c.args.self.now.groups.ok.0) lt
 
 pub index_mut-cell-requires : goal.index_mut-cell-requires
 index_mut-cell-requires g c =
-    let a = at_place c.args.self.now.cut c.args.self.now.groups.items c.args.member c.from-number.result c.requires.cut c.requires.cuts
+    let a = at_index c.args.self.now.cut c.args.self.now.groups.items c.args.member c.from-number.result c.requires.cut c.requires.cuts
     c.from-number.ensures c.requires.member in
     let d = c.index_mut-group.result.now in
     let lt : c.from-number.result % c.args.self.now.cut < length d.items = subst (λ v. c.from-number.result % c.args.self.now.cut <
     length v.items)
-    (sym c.index_mut-group.ensures.value) (a.place d) in
+    (sym c.index_mut-group.ensures.value) (a.index d) in
     subst (λ n. c.from-number.result % c.args.self.now.cut < n) (sym d.ok.0) lt
 
 pub accept-requires : goal.accept-requires
 accept-requires g c =
-    let a = at_place c.args.self.now.cut c.args.self.now.groups.items c.args.member c.from-number.result c.requires.cut c.requires.cuts
+    let a = at_index c.args.self.now.cut c.args.self.now.groups.items c.args.member c.from-number.result c.requires.cut c.requires.cuts
     c.from-number.ensures c.requires.member in
     let d = c.index_mut-group.result.now in
     let i = c.from-number.result % c.args.self.now.cut in
-    let within : i < length d.items = subst (λ v. i < length v.items) (sym c.index_mut-group.ensures.value) (a.place d) in
+    let within : i < length d.items = subst (λ v. i < length v.items) (sym c.index_mut-group.ensures.value) (a.index d) in
     c.requires.new c.index_mut-cell.result.now
     (a.get d ∙ ap (λ v. slice_get v.items i) (sym c.index_mut-group.ensures.value)
     ∙ slice_get-get_or d.items i c.index_mut-cell.result.now within ∙ ap Some (sym c.index_mut-cell.ensures.value))
 
 pub returns-clause-heard : goal.returns-clause-heard
 returns-clause-heard g c = λ s way ps q h k.
-    let a = at_place c.args.self.now.cut c.args.self.now.groups.items c.args.member c.from-number.result c.requires.cut c.requires.cuts
+    let a = at_index c.args.self.now.cut c.args.self.now.groups.items c.args.member c.from-number.result c.requires.cut c.requires.cuts
     c.from-number.ensures c.requires.member in
     let gs = c.args.self.now.groups.items in
     let d = c.index_mut-group.result.now in
     let x = c.accept.new.self in
     let i = c.from-number.result % c.args.self.now.cut in
-    let within : i < length d.items = subst (λ v. i < length v.items) (sym c.index_mut-group.ensures.value) (a.place d) in
+    let within : i < length d.items = subst (λ v. i < length v.items) (sym c.index_mut-group.ensures.value) (a.index d) in
     let at : slice_get (all_in gs) c.args.member ≡ Some c.index_mut-cell.result.now =
     a.get d ∙ ap (λ v. slice_get v.items i) (sym c.index_mut-group.ensures.value)
     ∙ slice_get-get_or d.items i c.index_mut-cell.result.now within ∙ ap Some (sym c.index_mut-cell.ensures.value) in

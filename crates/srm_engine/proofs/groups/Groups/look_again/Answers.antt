@@ -9,7 +9,7 @@ use Rattle.srm_model.specs.WindowRuns.{cells_in}
 use Rattle.srm_engine.specs.Groups.{AreCuts, AreGrouped, all_in, sizes}
 use Rattle.srm_engine.specs.Soonest.{IsSoonest, AreSoonest}
 use Rattle.srm_engine.proofs.SoonGroups.{looked_at, group_within, soonest_idle, one_set, one_kept, all_looked}
-use Rattle.srm_engine.proofs.groups.Groups.look_again.Goals.{then-kept-place, else-kept-place}
+use Rattle.srm_engine.proofs.groups.Groups.look_again.Goals.{then-kept-index, else-kept-index}
 use Rattle.srm_engine.proofs.groups.Groups.look_again.Goals as goal
 
 -- a vector after what it holds was written
@@ -22,22 +22,22 @@ written n xs new long same =
     none [] = refl
     none (y ∷ ys) = none ys
 
-pub bounds-kept-place : goal.bounds-kept-place
-bounds-kept-place g c =
+pub bounds-kept-index : goal.bounds-kept-index
+bounds-kept-index g c =
     let many = c.requires.may.many in
     let all = ap length c.as_slice-all.ensures.value in
     let kept = ap length c.as_mut_slice-kept.ensures.value in
-    let same = c.loop-place.auto.kept in
-    let here = c.loop-place-test.true in
+    let same = c.loop-index.auto.kept in
+    let here = c.loop-index-test.true in
     omega arith
 
-pub overflow_mul-place : goal.overflow_mul-place
-overflow_mul-place g c =
+pub overflow_mul-index : goal.overflow_mul-index
+overflow_mul-index g c =
     let may = c.requires.may in
     let same = c.as_slice-all.ensures.value in
     let cuts = subst (λ l. AreCuts c.args.self.cut (sizes l)) (sym same) may.cuts in
-    let at = group_within c.args.self.cut c.as_slice-all.result.now c.loop-place.place c.index-all-place.result may.cut.0 cuts
-    c.loop-place-test.true in
+    let at = group_within c.args.self.cut c.as_slice-all.result.now c.loop-index.index c.index-all-index.result may.cut.0 cuts
+    c.loop-index-test.true in
     let within = at.within in
     let few = few_members c.args.scenario.now c.until-until.ensures.accepted in
     let members = may.members in
@@ -49,58 +49,58 @@ soonest_in-requires-clause-members g c =
     let may = c.requires.may in
     let same = c.as_slice-all.ensures.value in
     let cuts = subst (λ l. AreCuts c.args.self.cut (sizes l)) (sym same) may.cuts in
-    let at = group_within c.args.self.cut c.as_slice-all.result.now c.loop-place.place c.index-all-place.result may.cut.0 cuts
-    c.loop-place-test.true in
+    let at = group_within c.args.self.cut c.as_slice-all.result.now c.loop-index.index c.index-all-index.result may.cut.0 cuts
+    c.loop-index-test.true in
     let within = at.within in
     let members = may.members in
     let all = ap (λ l. length (all_in l)) same in
     let own : length c.as_slice.result.now
-    ≡ length (get_or c.as_slice-all.result.now c.loop-place.place c.index-all-place.result).items =
-    ap length c.as_slice.ensures.value ∙ ap (λ v. length v.items) c.index-all-place.is in
+    ≡ length (get_or c.as_slice-all.result.now c.loop-index.index c.index-all-index.result).items =
+    ap length c.as_slice.ensures.value ∙ ap (λ v. length v.items) c.index-all-index.is in
     omega arith
 
 pub soonest_in-requires-clause-few : goal.soonest_in-requires-clause-few
 soonest_in-requires-clause-few g c = let few = few_members c.args.scenario.now c.until-until.ensures.accepted in omega arith
 
-pub loop-place-preserved : goal.loop-place-preserved
-loop-place-preserved g c =
-    let old = c.loop-place.kept in
-    let k = c.loop-place.place in
+pub loop-index-preserved : goal.loop-index-preserved
+loop-index-preserved g c =
+    let old = c.loop-index.kept in
+    let k = c.loop-index.index in
     let gs = c.as_slice-all.result.now in
-    let group = c.index-all-place.result in
+    let group = c.index-all-index.result in
     let may = c.requires.may in
     let many = may.many in
     let all = ap length c.as_slice-all.ensures.value in
     let kept = ap length c.as_mut_slice-kept.ensures.value in
-    let same = c.loop-place.auto.kept in
-    let here = c.loop-place-test.true in
+    let same = c.loop-index.auto.kept in
+    let here = c.loop-index-test.true in
     let within : k < length old = omega arith in
-    elim c.if-kept-place.branch [
-      | then-kept-place w ↦ rw w.kept-is (
+    elim c.if-kept-index.branch [
+      | then-kept-index w ↦ rw w.kept-is (
           λ seed ps results alone h soon.
           let s = setting_of c.args.scenario.now c.args.net.now seed in
           let qs = cells_in results in
           let y = w.soonest_in.result in
           let new = looked_at g.M.Participant.plain c.args.self.cut gs qs may.cut.0 h s k group
-          w.as_slice.result.now y c.loop-place-test.true c.index-all-place.is w.as_slice.ensures.value
+          w.as_slice.result.now y c.loop-index-test.true c.index-all-index.is w.as_slice.ensures.value
           (w.soonest_in.ensures seed qs) in
           one_set (λ n (z : Soonest). IsSoonest s (λ m. m / c.args.self.cut ≡ n) qs z)
           (λ n (z : Soonest). IsSoonest s (λ m. m / c.args.self.cut ≡ n) ps z) old k
-          (c.loop-place.invariant seed ps results alone h soon) y within new
+          (c.loop-index.invariant seed ps results alone h soon) y within new
           )
-      | else-kept-place w ↦ rw w.kept-is (
+      | else-kept-index w ↦ rw w.kept-is (
           λ seed ps results alone h soon.
           let s = setting_of c.args.scenario.now c.args.net.now seed in
           let qs = cells_in results in
           let none : Soonest = record { time = 0; promise = 0 } in
           let at : slice_get old k ≡ Some (get_or old k none) = slice_get-get_or old k none within in
-          let late : c.args.end ≤ (get_or old k none).time = w.if-kept-place.false in
+          let late : c.args.till ≤ (get_or old k none).time = w.if-kept-index.false in
           one_kept (λ n (z : Soonest). IsSoonest s (λ m. m / c.args.self.cut ≡ n) qs z)
           (λ n (z : Soonest). IsSoonest s (λ m. m / c.args.self.cut ≡ n) ps z) old k
-          (c.loop-place.invariant seed ps results alone h soon)
+          (c.loop-index.invariant seed ps results alone h soon)
           (λ x get was.
           let is : get_or old k none ≡ x = same_Some (get_or old k none) x (sym at ∙ get) in
-          soonest_idle s c.args.self.cut k c.args.end ps results x alone (subst (λ (z : Soonest). c.args.end ≤ z.time) is late) was)
+          soonest_idle s c.args.self.cut k c.args.till ps results x alone (subst (λ (z : Soonest). c.args.till ≤ z.time) is late) was)
           )
     ]
 
@@ -119,9 +119,9 @@ returns-clause-soon g c = λ seed ps results alone h soon.
       cut = may.cut;
       grouped = h;
       soon = subst (λ l. AreSoonest s c.args.self.cut l (cells_in results))
-          (sym (written c.args.self.soon.len c.args.self.soon.items c.loop-place.kept c.args.self.soon.ok.0
-          (c.loop-place.auto.kept ∙ kept)))
+          (sym (written c.args.self.soon.len c.args.self.soon.items c.loop-index.kept c.args.self.soon.ok.0
+          (c.loop-index.auto.kept ∙ kept)))
           (all_looked g.M.Participant.plain c.args.self.cut c.as_slice-all.result.now ps results
-          may.cut.0 c.args.end alone grouped s c.as_mut_slice-kept.result.now c.loop-place.kept c.loop-place.place c.loop-place-test.false
-          c.loop-place.auto.kept (omega arith) began (c.loop-place.invariant seed ps results alone grouped began));
+          may.cut.0 c.args.till alone grouped s c.as_mut_slice-kept.result.now c.loop-index.kept c.loop-index.index c.loop-index-test.false
+          c.loop-index.auto.kept (omega arith) began (c.loop-index.invariant seed ps results alone grouped began));
     }

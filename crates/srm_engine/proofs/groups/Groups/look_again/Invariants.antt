@@ -8,11 +8,11 @@ use Rattle.srm_engine.specs.Soonest.{IsSoonest, AreSoonest}
 use Rattle.srm_engine.proofs.groups.Groups.look_again.Given as goal
 
 -- the groups so far were looked through again, and of the others what was kept stands
-abbrev pub invariant-loop-place : goal.invariant-loop-place
-invariant-loop-place g l =
-    (seed : ℕ) (ps : List PlainCell) (results : List OwnResult) → AreOwnRuns l.end 0 ps results
+abbrev pub invariant-loop-index : goal.invariant-loop-index
+invariant-loop-index g l =
+    (seed : ℕ) (ps : List PlainCell) (results : List OwnResult) → AreOwnRuns l.till 0 ps results
     → AreGrouped g.M.Participant.plain l.cut l.all (cells_in results)
     → AreSoonest (setting_of l.scenario l.net seed) l.cut l.initial.kept ps
     → (j : ℕ) (x : Soonest) → slice_get l.kept j ≡ Some x
-    → (j < l.place → IsSoonest (setting_of l.scenario l.net seed) (λ m. m / l.cut ≡ j) (cells_in results) x)
-    × (l.place ≤ j → IsSoonest (setting_of l.scenario l.net seed) (λ m. m / l.cut ≡ j) ps x)
+    → (j < l.index → IsSoonest (setting_of l.scenario l.net seed) (λ m. m / l.cut ≡ j) (cells_in results) x)
+    × (l.index ≤ j → IsSoonest (setting_of l.scenario l.net seed) (λ m. m / l.cut ≡ j) ps x)

@@ -30,10 +30,10 @@ leaf_more : (ts : List (Option ℕ)) (es : List Entry) (n k : ℕ) (e : Entry) �
 leaf_more ts es n k e within is leaves m lt = by (m == k) refl
   where
     by : (b : Bool) → (m == k) ≡ b → IsEntryOf (slice_index_or ts m None) m (entry_at (slice_set es (n + k) e) (n + m))
-    by true q = rw (eqb-true m k q, get_or-set_same es (n + k) e (record { time = 0; place = 0 }) within) is
+    by true q = rw (eqb-true m k q, get_or-set_same es (n + k) e (record { time = 0; number = 0 }) within) is
     by false q =
         let ne : m ≢ k = eqb-false m k q in
-        rw (get_or-set_other es (n + k) (n + m) e (record { time = 0; place = 0 }) (λ a. ne (omega arith))) (leaves m (omega arith))
+        rw (get_or-set_other es (n + k) (n + m) e (record { time = 0; number = 0 }) (λ a. ne (omega arith))) (leaves m (omega arith))
 
 pub loop-member-preserved : goal.loop-member-preserved
 loop-member-preserved c =
@@ -56,7 +56,7 @@ loop-node-preserved c =
     let i = c.loop-node.invariant in
     let k : ℕ = c.loop-node.node - 1 in
     let e = c.sooner.result in
-    let none : Entry = record { time = 0; place = 0 } in
+    let none : Entry = record { time = 0; number = 0 } in
     let size = i.size in
     let lt : 1 < c.loop-node.node = c.loop-node-test.true in
     let most = c.loop-node.auto.node in

@@ -17,10 +17,10 @@ put_back : (len : ℕ) (es was new : List Entry) (leaf m : ℕ) (t : Option ℕ)
 put_back len es was new leaf m t e ts h view lt all same as_long at is tree set =
     let held : Holds ts es = subst (λ us. Holds us es) view h in
     let size = held.size in
-    let place : leaf ≡ length ts + m = omega arith in
+    let at_leaf : leaf ≡ length ts + m = omega arith in
     let long : length new ≡ length es = as_long ∙ ap length same in
     let leaves : SetsLeaf (length ts + m) e es new =
-    subst (λ k. SetsLeaf k e es new) place (subst (λ xs. SetsLeaf leaf e xs new) same set) in
+    subst (λ k. SetsLeaf k e es new) at_leaf (subst (λ xs. SetsLeaf leaf e xs new) same set) in
     let back : new ≡ written len es new =
     sym (ap (λ k. written k es new) (all ∙ sym long) ∙ take-append_seam new (drop (length new) es)) in
     let now : Holds (slice_set ts m t) (written len es new) =
