@@ -1,19 +1,33 @@
 -- What steps, and pieces of a run, tell.
-use Rattle.std.proofs.Common.{◌≡◌, ◌⊎◌, inl, inr, ◌<◌, ◌≤◌, ◌+◌, ◌^◌, List, [], ◌∷◌, ◌++◌, length, length-append, Err, sym, ap, subst}
-use Rattle.std.proofs.Common.{append-nil, arith}
+use Rattle.std.proofs.Common.{◌≡◌, ◌∙◌, ◌⊎◌, inl, inr, ℕ, ◌<◌, ◌≤◌, ◌+◌, ◌^◌, List, [], ◌∷◌, ◌++◌, length, length-append, Err}
+use Rattle.std.proofs.Common.{refl, sym, ap, subst, append-nil, arith}
 use Rattle.std.proofs.lemmas.List.Elements.{All-push}
+use Rattle.srm_net.specs.Network.{Network}
+use Rattle.srm_scenario.specs.Plain.{PlainScenario}
 use Rattle.srm_member.specs.declared.row.Row.{Row}
-use Rattle.srm_cell.specs.Setting.{Setting}
+use Rattle.srm_cell.specs.Setting.{Setting, traffic_of, setting_of}
+use Rattle.srm_cell.specs.Crossings.{packets_of, crossings}
+use Rattle.srm_cell.specs.Tallies.{tallied}
+use Rattle.srm_cell.specs.Totalled.{numbers_of}
 use Rattle.srm_cell.specs.Cells.{Done}
 use Rattle.srm_cell.specs.Views.{HasWork}
 use Rattle.srm_engine.specs.declared.halt.Halt.{Halt}
 use Rattle.srm_engine.specs.declared.halt.Halt.TheVariants as halt
+use Rattle.srm_engine.specs.declared.engine.Engine.{Engine}
+use Rattle.srm_engine.specs.declared.fault.RunFault.TheVariants as fault
+use Rattle.srm_engine.specs.declared.stream_fault.StreamFault.{StreamFault}
+use Rattle.srm_engine.specs.declared.stream_fault.StreamFault.TheVariants.{Run, Stopped}
 use Rattle.srm_engine.specs.declared.step_fault.StepFault.{StepFault}
+use Rattle.srm_engine.specs.declared.step_fault.StepFault.TheVariants as step_fault
+use Rattle.srm_interfaces.specs.declared.sink.SinkFault.TheVariants as sink
+use Rattle.srm_interfaces.specs.declared.sink.Stage.{Stage}
 use Rattle.srm_model.specs.World.{World, IsReached, step}
-use Rattle.srm_engine.specs.Engines.{MayRefuseStep}
+use Rattle.srm_engine.specs.Engines.{MayRefuseStep, HasCounted, traffic_in}
 use Rattle.srm_engine.specs.Faults.{step_refused}
-use Rattle.srm_interfaces.specs.Sinks.{HandsPieces, most_rows}
-use Rattle.srm_engine.specs.Streams.{stream_fault_of, MayStop, MeetsRefusal, TakesTraceFront, TellsHalt}
+use Rattle.srm_interfaces.specs.Sinks.{HandsPieces, most_rows, stage_after}
+use Rattle.srm_engine.specs.Streams.{sink_in, stream_fault_of, MayStop, MeetsRefusal, TakesTraceFront, TellsHalt}
+use Rattle.srm_engine.specs.RowRuns.{MayLackSteps, UndoneAfter}
+use Rattle.srm_engine.proofs.Opened.{totals_are}
 use Rattle.srm_engine.proofs.Stepping.{meets_full}
 
 -- rows that a list in memory has after few others are few enough to be counted
@@ -61,3 +75,31 @@ module _ {S : Type 0} (took part : S → List Row → S → Type 0) where
   pub halts_refuse : (A : Type 0) (s : Setting) (old : S) (x : Halt StepFault) (new : S) → TellsHalt took part (MayStop s) s old x new
       → MeetsRefusal {A = A} s (Err (stream_fault_of step_refused x))
   halts_refuse A s old x new h = grind arith
+
+  -- where the sink is as it was, all is left undone
+  pub uncalled : (stage : S → Stage) (may_lack : World → Type 0) (s : Setting) (old : S) (x : StreamFault)
+      → UndoneAfter stage took part may_lack s old x old
+  uncalled stage may_lack s old (Run fault.NoMemory) = inl refl
+  uncalled stage may_lack s old (Run fault.CountFull) = tt
+  uncalled stage may_lack s old (Run fault.ShareFull) = tt
+  uncalled stage may_lack s old (Run fault.BadCut) = tt
+  uncalled stage may_lack s old (Run fault.BadWidth) = tt
+  uncalled stage may_lack s old (Stopped n) = tt
+
+  -- what was left undone where such a run is refused memory
+  pub steps_undone : (stage : S → Stage) (A : Type 0) (s : Setting) (old : S) (x : Halt StepFault) (new : S)
+      → TellsHalt took part (MayStop s) s old x new → stage new ≡ stage_after (sink_in {A = A} (Err x))
+      → UndoneAfter stage took part (MayLackSteps s) s old (stream_fault_of step_refused x) new
+  steps_undone stage A s old (halt.Run step_fault.NoMemory) new h at = inr (inl h)
+  steps_undone stage A s old (halt.Run step_fault.CountFull) new h at = tt
+  steps_undone stage A s old (halt.Sink sink.NoMemory) new h at = inr (inr (at, h))
+  steps_undone stage A s old (halt.Sink (sink.Stopped n)) new h at = tt
+
+-- what an engine counted that is seen as a world of a run
+pub run_totals : {M : Type 0} (e : Engine M) (p : PlainScenario) (net : Network) (seed : ℕ) (w : World) (totals : List ℕ)
+    → (e.scenario.now ≡ p) × (e.net.now ≡ net) → HasCounted e (packets_of w.trace) → totals ≡ tallied e.net.now e.tally
+    → totals ≡ crossings (traffic_of p net) w.trace
+run_totals e p net seed w totals given counted is =
+    let here : numbers_of (traffic_in e) (packets_of w.trace) ≡ numbers_of (traffic_of p net) (packets_of w.trace) =
+    λ k. numbers_of (traffic_of (given.0 k) (given.1 k)) (packets_of w.trace) in
+    is ∙ counted.numbers ∙ here ∙ totals_are (setting_of p net seed) w

@@ -1,6 +1,7 @@
 -- The windows of an engine: its jobs, what a crew did, and its rows.
-use Rattle.std.proofs.Common.{◌≡◌, ℕ, suc, ◌<◌, ◌≤◌, ◌+◌, ◌^◌, min, List, [], ◌∷◌, ◌++◌, Ok, Err, refl, sym, ap, ◌∙◌, subst, arith}
-use Rattle.std.proofs.Common.{All, IsSorted, IsPermutation, length, map, drop, slice_index}
+use Rattle.std.proofs.Common.{◌≡◌, ℕ, zero, suc, ◌<◌, ◌≤◌, ◌+◌, ◌^◌, min, List, [], ◌∷◌, ◌++◌, Ok, Err, refl, sym, ap, ◌∙◌, subst, arith}
+use Rattle.std.proofs.Common.{inl, inr}
+use Rattle.std.proofs.Common.{All, IsSorted, IsPermutation, length, map, drop, slice_index, ◌*◌}
 use Rattle.std.proofs.lemmas.List.{map-append, length-map}
 use Rattle.std.proofs.lemmas.List.Sorted.{IsPermutation-refl}
 use Rattle.std.specs.List.{AllZip, range_with_len}
@@ -13,7 +14,9 @@ use Rattle.srm_scenario.proofs.Members.{few_members}
 use Rattle.srm_net.specs.Limits.{most_nodes}
 use Rattle.srm_member.specs.declared.row.Row.{Row}
 use Rattle.srm_member.specs.Record.{Record}
-use Rattle.srm_ledger.specs.Seats.{LedgerView, SeatView, whole_seat}
+use Rattle.srm_ledger.specs.Seats.{LedgerView, SeatView, totals_of, whole_seat}
+use Rattle.srm_interfaces.proofs.Sums.{crossings_long}
+use Rattle.srm_cell.proofs.RowPackets.{nothing_counted, numbers_are}
 use Rattle.srm_cell.specs.declared.cell.Cell.{Cell}
 use Rattle.srm_cell.specs.declared.job.Job.{Job}
 use Rattle.srm_cell.specs.declared.job.Done as job
@@ -30,6 +33,10 @@ use Rattle.srm_engine.specs.declared.window_fault.WindowFault.TheVariants as win
 use Rattle.srm_engine.specs.declared.cutting.Cutting.{Cutting}
 use Rattle.srm_engine.specs.declared.width.Windows.{Windows}
 use Rattle.srm_engine.specs.declared.halt.Halt.{Halt}
+use Rattle.srm_engine.specs.declared.halt.Halt.TheVariants as halt
+use Rattle.srm_interfaces.specs.declared.sink.SinkFault.TheVariants as sink
+use Rattle.srm_interfaces.specs.declared.sink.Stage.{Stage}
+use Rattle.srm_interfaces.specs.Sinks.{stage_after}
 use Rattle.srm_model.specs.World.{World, row_cmp, IsReached, IsLast, RunMeetsFull, opening}
 use Rattle.srm_model.specs.Schedules.{IsSafe, HasNoResult}
 use Rattle.srm_model.specs.WindowRuns.{OwnResult, AreOwnRuns, rows_in, cells_in, IsMerge, AreNewInTurn, each_hears}
@@ -39,7 +46,8 @@ use Rattle.srm_engine.specs.Groups.{handed_jobs, AreGrouped, all_in, jobs_with, 
 use Rattle.srm_engine.specs.declared.ends.Ends.{Ends}
 use Rattle.srm_engine.specs.Ends.{BeginsAt, MayEnd, TellsCutting, ends_rule}
 use Rattle.srm_engine.specs.Faults.{window_fault_of, run_fault_of}
-use Rattle.srm_engine.specs.Streams.{TellsHalt, stream_fault_of}
+use Rattle.srm_engine.specs.Streams.{sink_in, TellsHalt, stream_fault_of}
+use Rattle.srm_engine.specs.RowRuns.{MayLackWindow, UndoneAfter}
 use Rattle.srm_engine.specs.WindowStreams.{MeetsWindowRefusal}
 use Rattle.srm_engine.specs.Windowed.{IsCounted, MayCome, calls_for, rule_of}
 use Rattle.srm_engine.specs.WindowEngines.{ComesTo, IsUnderWay, BeginsNext, EndsNext, frame_of, setting_by, rule_by}
@@ -325,6 +333,17 @@ pub halts_refuse : {C S : Type 0} (took part : S → List Row → S → Type 0) 
     → MeetsWindowRefusal s rule n old (stream_fault_of run_fault_of x) new
 halts_refuse took part s rule n old from x to new h = grind arith
 
+-- what was left undone where such a run is refused memory
+pub windows_undone : {S : Type 0} (took part : S → List Row → S → Type 0) (stage : S → Stage) (A : Type 0) (s : Setting)
+    (rule : Setting → World → ℕ) (n : ℕ) (from : S) (x : Halt WindowFault) (to : S)
+    → TellsHalt took part (MayCome s (rule s) n) s from x to → stage to ≡ stage_after (sink_in {A = A} (Err x))
+    → UndoneAfter stage took part (MayLackWindow rule n s) s from (stream_fault_of run_fault_of x) to
+windows_undone took part stage A s rule n from (halt.Run window.NoMemory) to h at = inr (inl h)
+windows_undone took part stage A s rule n from (halt.Run window.CountFull) to h at = tt
+windows_undone took part stage A s rule n from (halt.Run window.ShareFull) to h at = tt
+windows_undone took part stage A s rule n from (halt.Sink sink.NoMemory) to h at = inr (inr (at, h))
+windows_undone took part stage A s rule n from (halt.Sink (sink.Stopped k)) to h at = tt
+
 -- ---- its end
 
 same_list : (xs ys : List ℕ) → length xs ≡ length ys → ((k : ℕ) → slice_index xs k ≡ slice_index ys k) → xs ≡ ys
@@ -341,3 +360,21 @@ total_words totals [] numbers e long each = e ∙ nothing numbers (sym long ∙ 
     nothing [] z = refl
     nothing (n ∷ ns) z = absurd (omega arith)
 total_words totals (x ∷ xs) numbers e long each = e ∙ same_list xs numbers (sym (ap length e) ∙ long) (λ k. each (suc k))
+
+-- the words of a run under way are what was counted in the world as which its engine is seen
+pub counted_words : {M : Type 0} (f : M → Record) (e : WindowEngine M) → IsUnderWay f e → (seed : ℕ) (begins : List World) (w : World)
+    → ComesTo f seed e begins w → (totals : List ℕ) → length totals ≡ 5 * e.ledger.links → totals ≡ totals_of e.seat
+    → totals ≡ crossings (setting_by e seed).traffic w.trace
+counted_words f e is seed begins w comes totals long words =
+    let t = (setting_by e seed).traffic in
+    total_words totals e.seat.shares (crossings t w.trace) words
+    (long ∙ ap (λ n. 5 * n) is.links ∙ sym (crossings_long t w.trace)) comes.counted.shares
+
+-- the totals of an engine's run are those of the run that was asked for
+pub totals_from : {M : Type 0} (e : WindowEngine M) (p : PlainScenario) (net : Network) (seed : ℕ) (w : World) (totals : List ℕ)
+    → (e.scenario.now ≡ p) × (e.net.now ≡ net) → totals ≡ crossings (setting_by e seed).traffic w.trace
+    → totals ≡ crossings (setting_of p net seed).traffic w.trace
+totals_from e p net seed w totals given is =
+    let here : crossings (setting_by e seed).traffic w.trace ≡ crossings (setting_of p net seed).traffic w.trace =
+    λ k. crossings (setting_of (given.0 k) (given.1 k) seed).traffic w.trace in
+    is ∙ here

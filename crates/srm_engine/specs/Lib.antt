@@ -13,5 +13,6 @@ pub use Rattle.srm_interfaces.specs.Sinks
 pub mod Kept
 pub mod KeptLaws
 pub mod Streams
+pub mod RowRuns
 pub mod WindowStreams
 pub mod WindowEngines

@@ -70,6 +70,10 @@ module _ {M : Type 0} where
     pub world : World
     pub comes : ComesTo f seed e begins world
 
+  -- windows came to this world, as which the engine is seen
+  abbrev pub IsAt : (M → Record) → ℕ → WindowEngine M → World → Type 0
+  IsAt f seed e w = (begins : List World) × ComesTo f seed e begins w
+
   -- the engine is seen as the opening world with a seed
   abbrev pub OpensAt : (M → Record) → ℕ → WindowEngine M → Type 0
   OpensAt f seed e = ComesTo f seed e [] (opening (setting_by e seed))
@@ -85,6 +89,12 @@ module _ {M : Type 0} where
   EndsNext f e end =
       (seed : ℕ) (begins : List World) (w : World) → ComesTo f seed e begins w
       → ((v : Event) × IsNext (setting_by e seed) w v) × (end ≡ rule_by e seed w)
+
+  -- totals are those of the world as which the engine is seen
+  abbrev pub TellsCounted : (M → Record) → WindowEngine M → List ℕ → Type 0
+  TellsCounted f e totals =
+      (seed : ℕ) (begins : List World) (w : World) → ComesTo f seed e begins w
+      → totals ≡ crossings (setting_by e seed).traffic w.trace
 
   -- exits and totals are those of the world as which the engine is seen
   abbrev pub TellsEnd : (M → Record) → WindowEngine M → List Exit → List ℕ → Type 0

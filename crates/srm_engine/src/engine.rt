@@ -5,13 +5,16 @@ ghost use Rattle.srm_scenario.specs.Plain.{network_of};
 ghost use Rattle.srm_cell.specs.PutRows.{PutsStep};
 ghost use Rattle.srm_engine.specs.Openings.{HoldOpeningRecords};
 ghost use Rattle.srm_engine.specs.Engines.{IsSetUp, IsStillOf, MayStep, StepsOn, MaySendNow, Sends, MayDeliver, Delivers, IsOpened, OpensFrom};
-ghost use Rattle.srm_interfaces.specs.Sinks.{IsOpen, stage_after, stops_in, HandsPieces};
-ghost use Rattle.srm_engine.specs.Streams.{sink_in, MayTake, TakesSteps, StreamsRows};
+ghost use Rattle.srm_engine.specs.Engines.{Shows};
+ghost use Rattle.srm_interfaces.specs.Sinks.{IsOpen, stage_after, stops_in, HandsPieces, TellsPieces};
+ghost use Rattle.srm_engine.specs.Streams.{sink_in, MayTake, TakesSteps, StreamsRows, StandsAs, stopped_in, RefusedFrom};
+ghost use Rattle.srm_engine.specs.RowRuns.{LastFrom, MayLackSteps, UndoneFrom};
 
 use crate::cells::{Cells, open_cells};
 use crate::halt::Halt;
 use crate::handing::hand_none;
 use crate::step_fault::{StepFault, step_fault};
+use crate::stream_fault::StreamFault;
 use srm_cell::arrival::arrival;
 use srm_cell::tally::Tally;
 use srm_interfaces::sink::RowSink;
@@ -60,6 +63,40 @@ impl<'a> Engine<'a> {
             cells,
             tally,
         })
+    }
+
+    /// The whole run, its rows handed to a sink in pieces: first none, and then all of them, in order, no more than 32 at a time. After
+    /// the last of them it asks for no memory.
+    pub(crate) fn run<S: RowSink>(
+        alloc: Global,
+        scenario: &'a Scenario,
+        net: &'a Net,
+        members: Vec<Box<dyn Member>>,
+        sink: &mut S,
+    ) -> Result<Engine<'a>, StreamFault>
+        requires network { net.now ≡ network_of scenario.now }
+        requires boxes { (seed : ℕ) × HoldOpeningRecords scenario.now net.now seed (map (λ b. plain b) members.items) }
+        requires open { IsOpen (S.stage sink.old) }
+        requires failures { S.failures sink.old < 2 ^ 64 - 1 }
+        ensures given { IfOk result (λ e. (e.scenario.now ≡ scenario.now) × (e.net.now ≡ net.now)) }
+        ensures device { S.same sink.old sink.new }
+        ensures stands { StandsAs result (S.stage sink.new) }
+        ensures failures { S.failures sink.new ≡ S.failures sink.old + stopped_in result }
+        ensures pieces { TellsPieces S.handed sink.old result sink.new }
+        ensures last { LastFrom S.took S.part (λ _. Shows (λ b. plain b)) scenario.now net.now
+            (map (λ b. plain b) members.items) sink.old result sink.new }
+        ensures refused { RefusedFrom scenario.now net.now (map (λ b. plain b) members.items) result }
+        ensures undone { UndoneFrom S.stage S.took S.part MayLackSteps scenario.now net.now
+            (map (λ b. plain b) members.items) sink.old result sink.new }
+    {
+        let mut engine = match Engine::open(alloc, scenario, net, members) {
+            Ok(engine) => engine,
+            Err(error) => return Err(error.into()),
+        };
+        if let Err(halt) = engine.stream(alloc, sink) {
+            return Err(halt.into());
+        }
+        Ok(engine)
     }
 
     /// Steps, one after the other, until nothing is pending before the end of the run. The rows are handed to a sink in pieces: first

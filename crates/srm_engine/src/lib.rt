@@ -16,12 +16,14 @@ pub mod outcome;
 mod sent;
 mod soonest;
 pub mod step_fault;
+pub mod step_rows;
 pub mod step_run;
 pub mod step_stream;
 pub mod stream_fault;
 pub mod width;
 mod window_engine;
 pub mod window_fault;
+pub mod window_rows;
 pub mod window_run;
 pub mod window_stream;
 

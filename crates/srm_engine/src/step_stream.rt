@@ -48,19 +48,16 @@ pub fn step_stream<S: RowSink>(
         sink.old result sink.new }
     ensures refused { RefusedFrom scenario.now net.now (map (λ b. plain b) members.items) result }
 {
-    let mut engine = match Engine::open(alloc, scenario, net, members) {
-        Ok(engine) => engine,
-        Err(error) => return Err(error.into()),
+    let ran = match Engine::run(alloc, scenario, net, members, sink) {
+        Ok(ran) => ran,
+        Err(fault) => return Err(fault),
     };
-    if let Err(halt) = engine.stream(alloc, sink) {
-        return Err(halt.into());
-    }
     let Engine {
         net,
         cells,
         tally,
         ..
-    } = engine;
+    } = ran;
     match finish_cells(alloc, cells.cells) {
         Ok(exits) => Ok((exits, tally.into_totals(net))),
         Err(error) => Err(error.into()),

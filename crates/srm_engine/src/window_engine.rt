@@ -1,13 +1,17 @@
 //! The engine in windows.
-ghost use Rattle.std.specs.Prelude.{◌≡◌, ◌<◌, ◌+◌, ◌-◌, ◌^◌, ℕ, List, IfOk, All, IsSorted, map};
+ghost use Rattle.std.specs.Prelude.{◌≡◌, ◌<◌, ◌+◌, ◌-◌, ◌*◌, ◌^◌, ℕ, List, IfOk, All, IsSorted, length, map};
 ghost use Rattle.srm_scenario.specs.Plain.{network_of};
 ghost use Rattle.srm_model.specs.World.{World, row_cmp};
 ghost use Rattle.srm_engine.specs.Openings.{HoldOpeningRecords};
 ghost use Rattle.srm_engine.specs.Ends.{MayCut};
 ghost use Rattle.srm_interfaces.specs.Sinks.{IsOpen, stage_after, stops_in};
-ghost use Rattle.srm_engine.specs.Streams.{sink_in};
-ghost use Rattle.srm_engine.specs.WindowEngines.{IsUnderWay, frame_of, OpensAt, BeginsNext, EndsNext, TellsWindow, TellsWindows};
-ghost use Rattle.srm_engine.specs.WindowEngines.{TellsEnd, lists_in};
+ghost use Rattle.srm_engine.specs.Streams.{sink_in, StandsAs, stopped_in};
+ghost use Rattle.srm_engine.specs.Windowed.{rule_of};
+ghost use Rattle.srm_engine.specs.WindowStreams.{IsLeft, TellsStreamAsked, CallsInWindows};
+ghost use Rattle.srm_engine.specs.RowRuns.{LastFrom, MayLackWindow, UndoneFrom};
+ghost use Rattle.srm_engine.specs.WindowEngines.{IsUnderWay, IsAt, frame_of, OpensAt, BeginsNext, EndsNext, TellsWindow, TellsWindows};
+ghost use Rattle.srm_engine.specs.WindowEngines.{TellsCounted, TellsEnd, lists_in};
+ghost use Rattle.srm_ledger.specs.Seats.{totals_of};
 
 use crate::cells::{finish_cells, open_cells};
 use crate::cutting::Cutting;
@@ -16,6 +20,8 @@ use crate::groups::{Groups, apart, jobs};
 use crate::halt::Halt;
 use crate::handing::{hand_lists, hand_none};
 use crate::soonest::least;
+use crate::stream_fault::StreamFault;
+use crate::width::Windows;
 use crate::window_fault::{WindowFault, window_fault};
 use srm_interfaces::crew::Crew;
 use srm_interfaces::sink::RowSink;
@@ -73,6 +79,53 @@ impl<'a, M: Participant> WindowEngine<'a, M> {
             groups,
             ends,
         })
+    }
+
+    /// The whole run in windows, as is asked for, its rows handed to a sink: first none, and then those of each window as it ends. After
+    /// the last of them it asks for no memory.
+    pub(crate) fn run<C: Crew<M>, S: RowSink>(
+        alloc: Global,
+        scenario: &'a Scenario,
+        net: &'a Net,
+        members: Vec<M>,
+        crew: &mut C,
+        asked: Windows,
+        sink: &mut S,
+    ) -> Result<WindowEngine<'a, M>, StreamFault>
+        requires ready { C.ready crew.old }
+        requires serves { C.serves crew.old scenario.now net.now }
+        requires network { net.now ≡ network_of scenario.now }
+        requires boxes { (seed : ℕ) × HoldOpeningRecords scenario.now net.now seed (map M.plain members.items) }
+        requires open { IsOpen (S.stage sink.old) }
+        requires failures { S.failures sink.old < 2 ^ 64 - 1 }
+        ensures ready { C.ready crew.new }
+        ensures serves { C.serves crew.new scenario.now net.now }
+        ensures given { IfOk result (λ e. (e.scenario.now ≡ scenario.now) × (e.net.now ≡ net.now)) }
+        ensures under_way { IfOk result (λ e. IsUnderWay M.plain e) }
+        ensures device { S.same sink.old sink.new }
+        ensures stands { StandsAs result (S.stage sink.new) }
+        ensures failures { S.failures sink.new ≡ S.failures sink.old + stopped_in result }
+        ensures asked { TellsStreamAsked net.now asked result }
+        ensures left { IsLeft sink.old result sink.new }
+        ensures last { LastFrom S.took S.part (IsAt M.plain) scenario.now net.now (map M.plain members.items)
+            sink.old result sink.new }
+        ensures windows { CallsInWindows C.handed scenario.now net.now (map M.plain members.items)
+            (λ s. rule_of s net.now asked.width) asked.cut crew.old result crew.new }
+        ensures undone { UndoneFrom S.stage S.took S.part (MayLackWindow (λ s. rule_of s net.now asked.width) asked.cut)
+            scenario.now net.now (map M.plain members.items) sink.old result sink.new }
+    {
+        let cutting = match Cutting::of(scenario, net, asked) {
+            Ok(cutting) => cutting,
+            Err(fault) => return Err(fault.into()),
+        };
+        let engine = match WindowEngine::open(alloc, scenario, net, members, cutting) {
+            Ok(opened) => opened,
+            Err(error) => return Err(error.into()),
+        };
+        match engine.stream(alloc, crew, sink) {
+            Ok(ran) => Ok(ran),
+            Err(halt) => Err(halt.into()),
+        }
     }
 
     // When the next window begins: at the least of the next times of all cells, or with the end of the run.
@@ -199,10 +252,28 @@ impl<'a, M: Participant> WindowEngine<'a, M> {
             ..
         } = self;
         let exits = finish_cells(alloc, groups.into_cells(alloc)?)?;
-        let totals = match ledger.close(seat) {
-            Ok(totals) => totals,
-            Err(_) => unreachable!(),
-        };
-        Ok((exits, totals))
+        Ok((exits, counted(ledger, seat)))
+    }
+
+    /// What was counted. The members are dropped, and no memory is asked for.
+    pub(crate) fn into_totals(self) -> Totals
+        requires stands { IsUnderWay M.plain self }
+        ensures { TellsCounted M.plain self.entry result }
+    {
+        let WindowEngine { ledger, seat, .. } = self;
+        counted(ledger, seat)
+    }
+}
+
+// What was counted with this seat, the whole one of this ledger.
+fn counted(ledger: Ledger, seat: Seat) -> Totals
+    requires ledger { seat.ledger ≡ ledger.name }
+    requires whole { seat.weight ≡ 65536 }
+    ensures long { length result ≡ 5 * ledger.links }
+    ensures totals { result ≡ totals_of seat }
+{
+    match ledger.close(seat) {
+        Ok(totals) => totals,
+        Err(_) => unreachable!(),
     }
 }

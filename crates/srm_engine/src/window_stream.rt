@@ -7,7 +7,6 @@ ghost use Rattle.srm_engine.specs.Streams.{StandsAs, stopped_in, StreamsFrom};
 ghost use Rattle.srm_engine.specs.Windowed.{rule_of};
 ghost use Rattle.srm_engine.specs.WindowStreams.{IsLeft, TellsStreamAsked, CallsInWindows};
 
-use crate::cutting::Cutting;
 use crate::stream_fault::StreamFault;
 use crate::width::Windows;
 use crate::window_engine::WindowEngine;
@@ -62,17 +61,9 @@ pub fn window_stream<M: Participant, C: Crew<M>, S: RowSink>(
     ensures windows { CallsInWindows C.handed scenario.now net.now (map M.plain members.items)
         (λ s. rule_of s net.now asked.width) asked.cut crew.old result crew.new }
 {
-    let cutting = match Cutting::of(scenario, net, asked) {
-        Ok(cutting) => cutting,
-        Err(fault) => return Err(fault.into()),
-    };
-    let engine = match WindowEngine::open(alloc, scenario, net, members, cutting) {
-        Ok(engine) => engine,
-        Err(error) => return Err(error.into()),
-    };
-    let ran = match engine.stream(alloc, crew, sink) {
+    let ran = match WindowEngine::run(alloc, scenario, net, members, crew, asked, sink) {
         Ok(ran) => ran,
-        Err(halt) => return Err(halt.into()),
+        Err(fault) => return Err(fault),
     };
     match ran.finish(alloc) {
         Ok(ends) => Ok(ends),

@@ -1,11 +1,9 @@
-use Rattle.std.proofs.Common.{◌≡◌, ◌∙◌, ◌*◌, sym, ap, subst, length, arith}
-use Rattle.srm_cell.specs.Crossings.{crossings}
-use Rattle.srm_interfaces.proofs.Sums.{crossings_long}
+use Rattle.std.proofs.Common.{sym, subst}
 use Rattle.srm_engine.specs.Seen.{AreCellsInOrder}
 use Rattle.srm_engine.specs.WindowEngines.{setting_by}
 use Rattle.srm_engine.proofs.ExitsKept.{all_end}
 use Rattle.srm_engine.proofs.PhaseLemmas.{exits_are}
-use Rattle.srm_engine.proofs.WindowLemmas.{reached, total_words}
+use Rattle.srm_engine.proofs.WindowLemmas.{reached, counted_words}
 use Rattle.srm_engine.proofs.window_engine.WindowEngine.finish.Goals as goal
 
 pub finish_cells-requires : goal.finish_cells-requires
@@ -16,22 +14,17 @@ finish_cells-requires g c =
     (subst (λ l. AreCellsInOrder g.M.Participant.plain l k.world.cells) (sym c.in_ok-into_cells.ensures)
     k.comes.kept.grouped.cells)
 
-pub close-requires : goal.close-requires
-close-requires g c = c.requires.stands.comes.counted.ledger
+pub counted-requires-clause-ledger : goal.counted-requires-clause-ledger
+counted-requires-clause-ledger g c = c.requires.stands.comes.counted.ledger
 
-pub unreachable-requires : goal.unreachable-requires
-unreachable-requires g c =
-    let whole = c.requires.stands.comes.counted.weight in
-    let part = c.in-Err.ensures.part in
-    omega arith
+pub counted-requires-clause-whole : goal.counted-requires-clause-whole
+counted-requires-clause-whole g c = c.requires.stands.comes.counted.weight
 
 pub returns : goal.returns
-returns g c = λ seed begins w comes.
-    let t = (setting_by c.args.self seed).traffic in
-    let long : length c.in-Ok.totals ≡ length (crossings t w.trace) =
-    c.in-Ok.ensures.long ∙ ap (λ n. 5 * n) c.requires.stands.links ∙ sym (crossings_long t w.trace) in (
-      exits_are _ _ w c.in_ok-exits.exits.items
-          (subst (λ l. AreCellsInOrder g.M.Participant.plain l w.cells) (sym c.in_ok-into_cells.ensures)
-          comes.kept.grouped.cells) c.in_ok-exits.ensures,
-      total_words c.in-Ok.totals c.args.self.seat.shares (crossings t w.trace) c.in-Ok.ensures.totals long comes.counted.shares,
-    )
+returns g c = λ seed begins w comes. (
+  exits_are _ _ w c.in_ok-exits.exits.items
+      (subst (λ l. AreCellsInOrder g.M.Participant.plain l w.cells) (sym c.in_ok-into_cells.ensures)
+      comes.kept.grouped.cells) c.in_ok-exits.ensures,
+  counted_words g.M.Participant.plain c.args.self c.requires.stands seed begins w comes c.counted.result c.counted.ensures.long
+      c.counted.ensures.totals,
+)

@@ -1,0 +1,29 @@
+use Rattle.std.proofs.Common.{refl}
+use Rattle.srm_cell.specs.Crossings.{packets_of}
+use Rattle.srm_model.specs.World.{exits_of}
+use Rattle.srm_engine.proofs.StreamLemmas.{run_totals}
+use Rattle.srm_engine.proofs.step_rows.step_rows.Goals as goal
+
+pub into_totals-requires : goal.into_totals-requires
+into_totals-requires g c =
+    let t = c.in-Ok.ensures.last c.requires.boxes.0 c.requires.boxes.1 in
+    (c.in-Ok.ran.scenario.now, packets_of t.0.trace, t.3.counted)
+
+pub returns-in-Err-clause-undone : goal.returns-in-Err-clause-undone
+returns-in-Err-clause-undone g c = c.in-Err.ensures.undone
+
+pub returns-in-Ok-clause-totals : goal.returns-in-Ok-clause-totals
+returns-in-Ok-clause-totals g c = λ seed h.
+    let t = c.in-Ok.ensures.last seed h in (
+      t.0.trace,
+      exits_of t.0,
+      record {
+        world = t.0;
+        last = t.1;
+        trace_is = refl;
+        exits_are = refl;
+        totals_are = run_totals c.in-Ok.ran c.args.scenario.now c.args.net.now seed t.0 c.into_totals.result c.in-Ok.ensures.given
+            t.3.counted c.into_totals.ensures;
+      },
+      t.2,
+    )

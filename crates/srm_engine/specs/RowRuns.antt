@@ -1,0 +1,82 @@
+-- Runs that hand their rows to a sink and are asked for no exits: what they tell, and when memory is refused to them.
+use Rattle.std.specs.Prelude.{◌≡◌, ◌⊎◌, ℕ, List, Result, Ok, Err, IfErr}
+use Rattle.srm_net.specs.Network.{Network}
+use Rattle.srm_scenario.specs.Plain.{PlainScenario}
+use Rattle.srm_member.specs.declared.row.Row.{Row}
+use Rattle.srm_member.specs.declared.exit.Exit.{Exit}
+use Rattle.srm_member.specs.Record.{Record}
+use Rattle.srm_cell.specs.Setting.{Setting, setting_of}
+use Rattle.srm_interfaces.specs.declared.sink.SinkFault.TheVariants as sink
+use Rattle.srm_interfaces.specs.declared.sink.Stage.{Stage}
+use Rattle.srm_interfaces.specs.declared.sink.Stage.TheVariants.{Refused}
+use Rattle.srm_engine.specs.declared.fault.RunFault.TheVariants as fault
+use Rattle.srm_engine.specs.declared.step_fault.StepFault.TheVariants as step_fault
+use Rattle.srm_engine.specs.declared.window_fault.WindowFault.TheVariants as window
+use Rattle.srm_engine.specs.declared.stream_fault.StreamFault.{StreamFault}
+use Rattle.srm_engine.specs.declared.stream_fault.StreamFault.TheVariants.{Run, Stopped}
+use Rattle.srm_model.specs.World.{World, IsReached, IsLast, IsOutcome}
+use Rattle.srm_engine.specs.Openings.{HoldOpeningRecords}
+use Rattle.srm_engine.specs.Streams.{MayStop, TakesTraceFront}
+use Rattle.srm_engine.specs.Windowed.{MayCome}
+
+-- ---- totals
+
+module _ {S : Type 0} (took part : S → List Row → S → Type 0) where
+  -- what such a run tells: the totals of the sequential run, of which the sink took exactly the trace; or the sink took
+  -- no more than a front of it
+  abbrev pub TellsTotals : Setting → S → Result (List ℕ) StreamFault → S → Type 0
+  TellsTotals s old (Ok totals) new =
+      (rows : List Row) × (exits : List Exit) × IsOutcome s rows exits totals × took old rows new
+  TellsTotals s old (Err e) new = TakesTraceFront took part s old new
+
+  -- so for every seed whose opening records the boxes hold
+  abbrev pub TotalsFrom : PlainScenario → Network → List Record → S → Result (List ℕ) StreamFault → S → Type 0
+  TotalsFrom p net rs old r new = (seed : ℕ) → HoldOpeningRecords p net seed rs
+      → TellsTotals (setting_of p net seed) old r new
+
+  -- what an engine tells that handed on the rows of a run: it is seen as the last world of the sequential run, of which
+  -- the sink took the trace; or the sink took no more than a front of it
+  abbrev pub TellsLast : {E : Type 0} → (E → World → Type 0) → Setting → S → Result E StreamFault → S → Type 0
+  TellsLast is_seen_as s old (Ok e) new = (w : World) × IsLast s w × took old w.trace new × is_seen_as e w
+  TellsLast is_seen_as s old (Err x) new = TakesTraceFront took part s old new
+
+  -- so for every seed whose opening records the boxes hold
+  abbrev pub LastFrom : {E : Type 0} → (ℕ → E → World → Type 0) → PlainScenario → Network → List Record
+      → S → Result E StreamFault → S → Type 0
+  LastFrom is_seen_as p net rs old r new = (seed : ℕ) → HoldOpeningRecords p net seed rs
+      → TellsLast (is_seen_as seed) (setting_of p net seed) old r new
+
+-- ---- memory
+
+-- memory may be refused to the steps from a world of a run on
+abbrev pub MayLackSteps : Setting → World → Type 0
+MayLackSteps s w = MayStop s w step_fault.NoMemory
+
+-- memory may be refused to the window that begins in a world of a run, where windows end so and jobs are so large
+abbrev pub MayLackWindow : (Setting → World → ℕ) → ℕ → Setting → World → Type 0
+MayLackWindow rule cut s w = MayCome s (rule s) cut w window.NoMemory
+
+module _ {S : Type 0} (stage : S → Stage) (took part : S → List Row → S → Type 0) where
+  -- where memory is refused to a run that hands its rows to a sink, it left something undone: the sink was not called;
+  -- or the sink took the rows of a world of the run, from which on there is something to do; or the sink refused, and
+  -- took no more than a front of the trace
+  abbrev pub IsUndone : (World → Type 0) → Setting → S → S → Type 0
+  IsUndone may_lack s old new =
+      (new ≡ old)
+      ⊎ (((w : World) × IsReached s w × took old w.trace new × may_lack w)
+      ⊎ ((stage new ≡ Refused sink.NoMemory) × TakesTraceFront took part s old new))
+
+  -- so after a refusal that tells that memory was refused
+  abbrev pub UndoneAfter : (World → Type 0) → Setting → S → StreamFault → S → Type 0
+  UndoneAfter may_lack s old (Run fault.NoMemory) new = IsUndone may_lack s old new
+  UndoneAfter may_lack s old (Run fault.CountFull) new = Unit {0}
+  UndoneAfter may_lack s old (Run fault.ShareFull) new = Unit {0}
+  UndoneAfter may_lack s old (Run fault.BadCut) new = Unit {0}
+  UndoneAfter may_lack s old (Run fault.BadWidth) new = Unit {0}
+  UndoneAfter may_lack s old (Stopped n) new = Unit {0}
+
+  -- so for every seed whose opening records the boxes hold
+  abbrev pub UndoneFrom : {A : Type 0} → (Setting → World → Type 0) → PlainScenario → Network → List Record
+      → S → Result A StreamFault → S → Type 0
+  UndoneFrom may_lack p net rs old r new = (seed : ℕ) → HoldOpeningRecords p net seed rs
+      → IfErr r (λ f. UndoneAfter (may_lack (setting_of p net seed)) (setting_of p net seed) old f new)

@@ -1,0 +1,58 @@
+//! The sequential run of those who ask for no exits, its rows handed on as they come.
+ghost use Rattle.std.specs.Prelude.{◌≡◌, ◌<◌, ◌+◌, ◌-◌, ◌^◌, ℕ, map};
+ghost use Rattle.srm_scenario.specs.Plain.{network_of};
+ghost use Rattle.srm_engine.specs.Openings.{HoldOpeningRecords};
+ghost use Rattle.srm_interfaces.specs.Sinks.{IsOpen, TellsPieces};
+ghost use Rattle.srm_engine.specs.Streams.{StandsAs, stopped_in, RefusedFrom};
+ghost use Rattle.srm_engine.specs.RowRuns.{TotalsFrom, MayLackSteps, UndoneFrom};
+
+use crate::engine::Engine;
+use crate::stream_fault::StreamFault;
+use srm_interfaces::sink::RowSink;
+use srm_ledger::totals::Totals;
+use srm_member::member::Member;
+use srm_net::net::Net;
+use srm_scenario::scenario::Scenario;
+use std::alloc::Global;
+
+/// The sequential run of a scenario, its rows handed to a sink as [`step_stream`](crate::step_stream::step_stream) hands them on. What
+/// is answered are the crossings and drops of the trace's packets. The members are dropped, and not asked what they end with: once the
+/// sink took the last row, no memory is asked for.
+///
+/// There is one box for each member, in order of their numbers, each holding its opening record for this scenario and one seed.
+///
+/// # Errors
+/// As of [`step_stream`](crate::step_stream::step_stream), but `Run` with `NoMemory` only where something is left undone: the sink was
+/// not called yet, and is as it was; or it took the rows so far, and there is a step to take; or it was itself refused memory, or the
+/// run would have more than 2^62 rows. So no run is refused of which the sink took all rows.
+///
+/// The boxes are then gone, and the sink stands as after `step_stream`.
+pub fn step_rows<S: RowSink>(
+    alloc: Global,
+    scenario: &Scenario,
+    net: &Net,
+    members: Vec<Box<dyn Member>>,
+    sink: &mut S,
+) -> Result<Totals, StreamFault>
+    requires network { net.now ≡ network_of scenario.now }
+    requires boxes { (seed : ℕ) × HoldOpeningRecords scenario.now net.now seed (map (λ b. plain b) members.items) }
+    requires open { IsOpen (S.stage sink.old) }
+    requires failures { S.failures sink.old < 2 ^ 64 - 1 }
+    ensures device { S.same sink.old sink.new }
+    ensures stands { StandsAs result (S.stage sink.new) }
+    ensures failures { S.failures sink.new ≡ S.failures sink.old + stopped_in result }
+    ensures pieces { TellsPieces S.handed sink.old result sink.new }
+    ensures totals { TotalsFrom S.took S.part scenario.now net.now (map (λ b. plain b) members.items)
+        sink.old result sink.new }
+    ensures refused { RefusedFrom scenario.now net.now (map (λ b. plain b) members.items) result }
+    ensures undone { UndoneFrom S.stage S.took S.part MayLackSteps scenario.now net.now
+        (map (λ b. plain b) members.items) sink.old result sink.new }
+{
+    match Engine::run(alloc, scenario, net, members, sink) {
+        Ok(ran) => {
+            let Engine { net, tally, .. } = ran;
+            Ok(tally.into_totals(net))
+        }
+        Err(fault) => Err(fault),
+    }
+}
