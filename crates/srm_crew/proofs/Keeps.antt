@@ -10,7 +10,7 @@ use Rattle.atomic_table.proofs.Lists.{at_set, at_snoc, set_else}
 use Rattle.crossbeam_queue.specs.Fifo.{Pushes, Pops, Forks, Merges, Learns}
 use Rattle.srm_crew.specs.declared.rule.Hold.{Hold}
 use Rattle.srm_crew.specs.declared.rule.Spot.{Spot}
-use Rattle.srm_ledger.proofs.SumsOver.{total_set, total_snoc, total_part, total_none}
+use Rattle.srm_ledger.proofs.SumsOver.{total_set, total_part, total_none, total_split, total_join, halves_joined}
 use Rattle.srm_crew.specs.Places.{hold_of, spent_hold, times, AllBelow, hold_weight, count_of, times_of, PassOk, Kept}
 use Rattle.srm_crew.specs.Places.{puts, takes_spot, short}
 use Rattle.srm_crew.specs.Places.{rests, fits, first_hold, second_hold, both_holds}
@@ -220,7 +220,29 @@ module _ {T : Type 0} where
       )
 
   pub split_keeps : (id : ℕ) (v : Hold T) → 2 ≤ v.weight → Forks (Kept {T = T}) id v (first_hold v) (second_hold v)
-  split_keeps id v two items views h at = grind (arith, total_set, total_snoc, at_set, at_snoc)
+  split_keeps id v two items views h at =
+      let l = first_hold v in
+      let r = second_hold v in
+      let ok = h.passes id v at in
+      record {
+        put = h.put;
+        popped = h.popped;
+        behind = h.behind;
+        queued = h.queued;
+        whole = total_split hold_weight views id v l r at (halves_joined v.weight) ∙ h.whole;
+        counted = total_split count_of views id v l r at (omega arith) ∙ h.counted;
+        once = λ p lt. total_split (times_of p) views id v l r at (omega arith) ∙ h.once p lt;
+        never = λ p le. total_split (times_of p) views id v l r at (omega arith) ∙ h.never p le;
+        passes = λ j u e. ⊎_elim
+            (λ x. ⊎_elim
+            (λ (t : (j ≡ id) × (l ≡ u)). subst (PassOk h.put h.popped) t.1
+            record { spent_is = λ z. absurd (omega arith); knows = λ _. ok.knows (omega arith); below = ok.below })
+            (λ (t : (j ≢ id) × (get_elem? views j ≡ some u)). h.passes j u t.1)
+            (at_set views id j l u x))
+            (λ (is : r ≡ u). subst (PassOk h.put h.popped) is
+            record { spent_is = λ z. absurd (omega arith); knows = λ _. ok.knows (omega arith); below = λ i z. absurd (omega arith) })
+            (at_snoc (set views id l) r u j e);
+      }
 
   pub join_keeps : (id : ℕ) (v : Hold T) (other : ℕ) (w : Hold T) → 1 ≤ v.weight
       → Merges (Kept {T = T}) id v other w (both_holds v w) spent_hold
@@ -238,14 +260,12 @@ module _ {T : Type 0} where
         popped = h.popped;
         behind = h.behind;
         queued = h.queued;
-        whole = (let x = total_set hold_weight views id v b at in let y = total_set hold_weight vs other w s at' in let e = h.whole in
-            omega arith);
-        counted = (let x = total_set count_of views id v b at in let y = total_set count_of vs other w s at' in let e = h.counted in
-            omega arith);
-        once = λ p lt. let x = total_set (times_of p) views id v b at in let y = total_set (times_of p) vs other w s at' in let a =
-            times_append p v.taken w.taken in let e = h.once p lt in omega arith;
-        never = λ p le. let x = total_set (times_of p) views id v b at in let y = total_set (times_of p) vs other w s at' in let a =
-            times_append p v.taken w.taken in let e = h.never p le in omega arith;
+        whole = total_join hold_weight views id other v w b s at at' (omega arith) ∙ h.whole;
+        counted = total_join count_of views id other v w b s at at' (omega arith) ∙ h.counted;
+        once = λ p lt. let a = times_append p v.taken w.taken in
+            total_join (times_of p) views id other v w b s at at' (omega arith) ∙ h.once p lt;
+        never = λ p le. let a = times_append p v.taken w.taken in
+            total_join (times_of p) views id other v w b s at at' (omega arith) ∙ h.never p le;
         passes = λ j u e. ⊎_elim
             (λ (t : (j ≡ other) × (s ≡ u)). subst (PassOk h.put h.popped)
             t.1 record { spent_is = λ _. refl; knows = λ z. absurd (omega arith); below = λ i z. absurd (omega arith) })

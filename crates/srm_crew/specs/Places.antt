@@ -1,9 +1,9 @@
 -- The rule of the bag: each place put stands exactly once, in the queue or in one pass's list, with the item put there.
-use Rattle.std.specs.Prelude.{◌≡◌, ℕ, ◌+◌, ◌-◌, ◌/◌, ◌<◌, ◌≤◌, List, [], ◌∷◌, ◌++◌, length, cond, ◌==◌, slice_index}
+use Rattle.std.specs.Prelude.{◌≡◌, ℕ, ◌+◌, ◌<◌, ◌≤◌, List, [], ◌∷◌, ◌++◌, length, cond, ◌==◌, slice_index}
 use Rattle.std.specs.Prelude.{slice_get, Some}
 use mathlib.Core.Option.{some}
 use lib.ListN.{get_elem?}
-use Rattle.srm_ledger.specs.Tally.{total}
+use Rattle.srm_ledger.specs.Weights.{total, whole_weight, WeighWhole, first_weight, second_weight, joined_weight}
 use Rattle.srm_crew.specs.declared.rule.Hold.{Hold}
 use Rattle.srm_crew.specs.declared.rule.Spot.{Spot}
 
@@ -16,7 +16,7 @@ module _ {T : Type 0} where
   spent_hold = hold_of 0 [] []
 
   abbrev pub first_whole : Hold T
-  first_whole = hold_of 65536 [] []
+  first_whole = hold_of whole_weight [] []
 
 -- how often p stands in the list
 abbrev pub times : ℕ → List ℕ → ℕ
@@ -59,7 +59,7 @@ pub record Kept {T : Type 0} (items : List (Spot T)) (views : List (Hold T)) : T
   pub behind : popped + length items ≡ length put
   pub queued : (k : ℕ) (x : Spot T) → get_elem? items k ≡ some x → (x.place ≡ popped + k)
       × (slice_get put (popped + k) ≡ Some x.item)
-  pub whole : total hold_weight views ≡ 65536
+  pub whole : WeighWhole hold_weight views
   pub counted : total count_of views ≡ popped
   pub once : (p : ℕ) → p < popped → total (times_of p) views ≡ 1
   pub never : (p : ℕ) → popped ≤ p → total (times_of p) views ≡ 0
@@ -82,19 +82,19 @@ module _ {T : Type 0} where
 
   -- where the whole pass looks, all that is not queued is in its list
   abbrev pub rests : Hold T → List (Spot T) → Type 0
-  rests v items = v.weight ≡ 65536 → (length v.taken + length items ≡ length v.put)
+  rests v items = v.weight ≡ whole_weight → (length v.taken + length items ≡ length v.put)
       × (length items ≡ 0 → EachOnce v.taken (length v.put))
 
   -- a pass weighs no more than the whole, took no place twice, and took no more places than were put
   abbrev pub fits : Hold T → List (Spot T) → Type 0
-  fits v items = (v.weight ≤ 65536) × (length v.taken ≤ length v.put) × EachAtMostOnce v.taken (length v.put)
+  fits v items = (v.weight ≤ whole_weight) × (length v.taken ≤ length v.put) × EachAtMostOnce v.taken (length v.put)
 
 module _ {T : Type 0} where
   abbrev pub first_hold : Hold T → Hold T
-  first_hold v = hold_of (v.weight - v.weight / 2) v.put v.taken
+  first_hold v = hold_of (first_weight v.weight) v.put v.taken
 
   abbrev pub second_hold : Hold T → Hold T
-  second_hold v = hold_of (v.weight / 2) v.put []
+  second_hold v = hold_of (second_weight v.weight) v.put []
 
   abbrev pub both_holds : Hold T → Hold T → Hold T
-  both_holds v w = hold_of (v.weight + w.weight) v.put (v.taken ++ w.taken)
+  both_holds v w = hold_of (joined_weight v.weight w.weight) v.put (v.taken ++ w.taken)

@@ -6,7 +6,7 @@ use crate::rule::{Hold, Spot};
 use std::marker::Model;
 
 /// The weights of all passes of a bag, added up.
-pub const WHOLE: u64 = 65_536;
+pub const WHOLE: u64 = srm_ledger::seat::WHOLE;
 
 /// Leave to take items from a bag. It has a weight, knows what was put, and lists the places that it took.
 #[derive(Drop)]
@@ -21,6 +21,7 @@ pub struct Pass<T> {
 impl<T> Model for Pass<T> {
     ghost use Rattle.std.specs.Prelude.{◌≡◌, ◌≤◌, [], length, vec_capacity};
     ghost use Rattle.crossbeam_queue.specs.Passes.{view as known};
+    ghost use Rattle.srm_ledger.specs.Weights.{whole_weight};
     ghost use Rattle.srm_crew.specs.Places.{hold_of};
     ghost use Rattle.srm_crew.specs.Passes.{PassView};
 
@@ -35,7 +36,7 @@ impl<T> Model for Pass<T> {
 
     ghost invariant = { λ p. (p.hold.me.1 ≡ []) × (known p.hold ≡ hold_of p.weight (known p.hold).put p.taken.items)
         × (p.puts ≡ length (known p.hold).put) × (p.puts ≤ p.room) × (p.room ≤ vec_capacity p.taken)
-        × (p.room ≡ p.hold.table_id.slots) × (1 ≤ p.weight) × (p.weight ≤ 65536) };
+        × (p.room ≡ p.hold.table_id.slots) × (1 ≤ p.weight) × (p.weight ≤ whole_weight) };
 }
 
 impl<T> Pass<T> {
