@@ -1,4 +1,4 @@
--- The rule of the bag: each place put stands exactly once, in the queue or in one pass's list, with the item put there.
+-- The rule of the bag: each put item's index stands exactly once, in the queue with the item or in one pass's list.
 use Rattle.std.specs.Prelude.{◌≡◌, ℕ, ◌+◌, ◌<◌, ◌≤◌, List, [], ◌∷◌, ◌++◌, length, cond, ◌==◌, slice_index}
 use Rattle.std.specs.Prelude.{slice_get, Some}
 use mathlib.Core.Option.{some}
@@ -44,20 +44,20 @@ module _ {T : Type 0} where
   abbrev pub times_of : ℕ → Hold T → ℕ
   times_of p v = times p v.taken
 
--- what is so of a pass: joined away it has nothing; else it knows what was put. Its places are below the oldest in the
+-- what is so of a pass: joined away it has nothing; else it knows what was put. Its indices are below the oldest in the
 -- queue
 pub record PassOk {T : Type 0} (put : List T) (popped : ℕ) (v : Hold T) : Type 0 where
   pub spent_is : v.weight ≡ 0 → v ≡ spent_hold
   pub knows : 1 ≤ v.weight → v.put ≡ put
   pub below : AllBelow v.taken popped
 
--- the places below popped stand in the lists, each once; the queue has the others, in rising order; the weights are
+-- the indices below popped stand in the lists, each once; the queue has the others, in rising order; the weights are
 -- 65536 in all
 pub record Kept {T : Type 0} (items : List (Spot T)) (views : List (Hold T)) : Type 0 where
   pub put : List T
   pub popped : ℕ
   pub behind : popped + length items ≡ length put
-  pub queued : (k : ℕ) (x : Spot T) → get_elem? items k ≡ some x → (x.place ≡ popped + k)
+  pub queued : (k : ℕ) (x : Spot T) → get_elem? items k ≡ some x → (x.index ≡ popped + k)
       × (slice_get put (popped + k) ≡ Some x.item)
   pub whole : WeighWhole hold_weight views
   pub counted : total count_of views ≡ popped
@@ -71,9 +71,9 @@ module _ {T : Type 0} where
   puts v x w = w ≡ hold_of v.weight (v.put ++ x.item ∷ []) v.taken
 
   abbrev pub takes_spot : Hold T → Spot T → Hold T → Type 0
-  takes_spot v x w = (w ≡ hold_of v.weight v.put (v.taken ++ x.place ∷ [])) × (slice_get v.put x.place ≡ Some x.item)
-      × AllBelow v.taken x.place × (length v.taken < length v.put)
-      × EachAtMostOnce (v.taken ++ x.place ∷ []) (length v.put)
+  takes_spot v x w = (w ≡ hold_of v.weight v.put (v.taken ++ x.index ∷ [])) × (slice_get v.put x.index ≡ Some x.item)
+      × AllBelow v.taken x.index × (length v.taken < length v.put)
+      × EachAtMostOnce (v.taken ++ x.index ∷ []) (length v.put)
 
 module _ {T : Type 0} where
   -- no more is queued than was put
@@ -85,7 +85,7 @@ module _ {T : Type 0} where
   rests v items = v.weight ≡ whole_weight → (length v.taken + length items ≡ length v.put)
       × (length items ≡ 0 → EachOnce v.taken (length v.put))
 
-  -- a pass weighs no more than the whole, took no place twice, and took no more places than were put
+  -- a pass weighs no more than the whole, took no index twice, and took no more of them than items were put
   abbrev pub fits : Hold T → List (Spot T) → Type 0
   fits v items = (v.weight ≤ whole_weight) × (length v.taken ≤ length v.put) × EachAtMostOnce v.taken (length v.put)
 
