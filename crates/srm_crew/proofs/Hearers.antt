@@ -23,7 +23,7 @@ use Rattle.srm_crew.specs.declared.worked.Worked.{Worked}
 use Rattle.srm_crew.specs.declared.worked.Worked.TheVariants.{Advanced, Heard}
 use Rattle.srm_interfaces.specs.Crews.{AdvanceEach}
 use Rattle.srm_interfaces.specs.Hearers.{GroupsMayHear, GroupsHear}
-use Rattle.srm_crew.specs.Pieces.{MayWork, Gives, IsJobsOf, AreHearersOf, IsAdvanced, IsAdvancedAs, IsHeard, HeardTogether}
+use Rattle.srm_crew.specs.Pieces.{MayWork, ComesOfPiece, IsJobsOf, AreHearersOf, IsAdvanced, IsAdvancedAs, IsHeard, HeardTogether}
 use Rattle.srm_interfaces.proofs.Zips.{zip_append}
 use Rattle.srm_interfaces.proofs.InPieces.{all_in}
 use Rattle.srm_crew.proofs.JobPieces.{all_in_more}
@@ -43,23 +43,24 @@ module _ {M : Type 0} (f : M → Record) (k : PlainScenario) (net : Network) whe
       (All-head (λ (js : Vec (Job M)). All (λ j. MayAdvance f (length net.hosts) j) js.items) js pieces h))
       (jobs_may pieces ps z.1 (All-tail (λ (js : Vec (Job M)). All (λ j. MayAdvance f (length net.hosts) j) js.items) js pieces h))
 
-  advanced_is : (js : Vec (Job M)) (w : Worked M) → Gives f k net (Jobs js) w → IsAdvanced w
+  advanced_is : (js : Vec (Job M)) (w : Worked M) → ComesOfPiece f k net (Jobs js) w → IsAdvanced w
   advanced_is js (Advanced r) g = tt
   advanced_is js (Heard r) g = absurd g
 
   pub jobs_advanced : (pieces : List (Vec (Job M))) (given : List (Piece M)) (all : List (Worked M))
-      → AllZip (λ js p. IsJobsOf js p) pieces given → AllZip (λ p w. Gives f k net p w) given all → All (λ w. IsAdvanced w) all
+      → AllZip (λ js p. IsJobsOf js p) pieces given → AllZip (λ p w. ComesOfPiece f k net p w) given all → All (λ w. IsAdvanced w) all
   jobs_advanced [] [] [] z g = All-nil (λ w. IsAdvanced w)
   jobs_advanced [] [] (w ∷ ws) z g = absurd g
   jobs_advanced [] (p ∷ ps) all z g = absurd z
   jobs_advanced (js ∷ pieces) [] all z g = absurd z
   jobs_advanced (js ∷ pieces) (p ∷ ps) [] z g = absurd g
   jobs_advanced (js ∷ pieces) (p ∷ ps) (w ∷ ws) z g =
-      All-cons (λ w. IsAdvanced w) w ws (advanced_is js w (subst (λ q. Gives f k net q w) z.0 g.0)) (jobs_advanced pieces ps ws z.1 g.1)
+      All-cons (λ w. IsAdvanced w) w ws (advanced_is js w (subst (λ q. ComesOfPiece f k net q w) z.0 g.0))
+      (jobs_advanced pieces ps ws z.1 g.1)
 
   pub jobs_gave : (pieces : List (Vec (Job M))) (given : List (Piece M)) (all : List (Worked M))
       (rs : List (Result (Vec (job.Done M)) CellFault))
-      → AllZip (λ js p. IsJobsOf js p) pieces given → AllZip (λ p w. Gives f k net p w) given all
+      → AllZip (λ js p. IsJobsOf js p) pieces given → AllZip (λ p w. ComesOfPiece f k net p w) given all
       → AllZip (λ w r. IsAdvancedAs r w) all rs
       → AllZip (λ (js : Vec (Job M)) r. AdvanceEach f k net js.items r) pieces rs
   jobs_gave [] [] [] [] z g r = tt
@@ -70,7 +71,7 @@ module _ {M : Type 0} (f : M → Record) (k : PlainScenario) (net : Network) whe
   jobs_gave (js ∷ pieces) (p ∷ ps) [] rs z g r = absurd g
   jobs_gave (js ∷ pieces) (p ∷ ps) (w ∷ ws) [] z g r = absurd r
   jobs_gave (js ∷ pieces) (p ∷ ps) (w ∷ ws) (x ∷ rs) z g r = (
-    subst (λ v. Gives f k net (Jobs js) v) r.0 (subst (λ q. Gives f k net q w) z.0 g.0),
+    subst (λ v. ComesOfPiece f k net (Jobs js) v) r.0 (subst (λ q. ComesOfPiece f k net q w) z.0 g.0),
     jobs_gave pieces ps ws rs z.1 g.1 r.1,
   )
 
@@ -99,11 +100,11 @@ module _ {M : Type 0} (f : M → Record) (k : PlainScenario) (net : Network) whe
         All-cons (λ p. MayWork f k net p) p ps (may_hear gs p z.0 n s (All-head (λ gs. MayEach gs) gs pieces h))
         (hearers_may pieces ps z.1 n s (All-tail (λ gs. MayEach gs) gs pieces h))
 
-    heard_is : (gs : Vec (Vec (Cell M))) (p : Piece M) (w : Worked M) → AreHearersOf xs gs p → Gives f k net p w → IsHeard w
+    heard_is : (gs : Vec (Vec (Cell M))) (p : Piece M) (w : Worked M) → AreHearersOf xs gs p → ComesOfPiece f k net p w → IsHeard w
     heard_is gs p w is g = grind arith
 
     pub hearers_heard : (pieces : List (Vec (Vec (Cell M)))) (given : List (Piece M)) (all : List (Worked M))
-        → AllZip (λ gs p. AreHearersOf xs gs p) pieces given → AllZip (λ p w. Gives f k net p w) given all → All (λ w. IsHeard w) all
+        → AllZip (λ gs p. AreHearersOf xs gs p) pieces given → AllZip (λ p w. ComesOfPiece f k net p w) given all → All (λ w. IsHeard w) all
     hearers_heard [] [] [] z g = All-nil (λ w. IsHeard w)
     hearers_heard [] [] (w ∷ ws) z g = absurd g
     hearers_heard [] (p ∷ ps) all z g = absurd z
@@ -112,13 +113,13 @@ module _ {M : Type 0} (f : M → Record) (k : PlainScenario) (net : Network) whe
     hearers_heard (gs ∷ pieces) (p ∷ ps) (w ∷ ws) z g =
         All-cons (λ w. IsHeard w) w ws (heard_is gs p w z.0 g.0) (hearers_heard pieces ps ws z.1 g.1)
 
-    one_heard : (gs v : Vec (Vec (Cell M))) (p : Piece M) → AreHearersOf xs gs p → Gives f k net p (Heard (Ok v))
+    one_heard : (gs v : Vec (Vec (Cell M))) (p : Piece M) → AreHearersOf xs gs p → ComesOfPiece f k net p (Heard (Ok v))
         → GroupsHear f (traffic_of k net) (packets_in xs) gs.items v.items
     one_heard gs v p is g = grind arith
 
     all_heard : (pieces : List (Vec (Vec (Cell M)))) (given : List (Piece M)) (own : List (Vec (Vec (Cell M))))
         → AllZip (λ gs p. AreHearersOf xs gs p) pieces given
-        → AllZip (λ p w. Gives f k net p w) given (map (λ v. Heard (Ok v)) own)
+        → AllZip (λ p w. ComesOfPiece f k net p w) given (map (λ v. Heard (Ok v)) own)
         → GroupsHear f (traffic_of k net) (packets_in xs) (all_in pieces) (all_in own)
     all_heard [] [] [] z g = tt
     all_heard [] [] (v ∷ own) z g = absurd g
@@ -131,7 +132,7 @@ module _ {M : Type 0} (f : M → Record) (k : PlainScenario) (net : Network) whe
 
     -- groups whose pieces heard, and then were put together, heard
     pub hearers_gave : (pieces : List (Vec (Vec (Cell M)))) (given : List (Piece M)) (all : List (Worked M)) (heard : List (Vec (Cell M)))
-        → AllZip (λ gs p. AreHearersOf xs gs p) pieces given → AllZip (λ p w. Gives f k net p w) given all → HeardTogether all heard
+        → AllZip (λ gs p. AreHearersOf xs gs p) pieces given → AllZip (λ p w. ComesOfPiece f k net p w) given all → HeardTogether all heard
         → GroupsHear f (traffic_of k net) (packets_in xs) (all_in pieces) heard
     hearers_gave pieces given all heard z g h = grind (arith, all_heard)
 

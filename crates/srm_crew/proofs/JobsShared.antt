@@ -17,7 +17,7 @@ use Rattle.srm_cell.specs.Jobs.{PlainJob, TellsFault, Advances, MayAdvance}
 use Rattle.srm_cell.proofs.CrossingLemmas.{crossings_add}
 use Rattle.srm_interfaces.specs.declared.fault.CrewFault.{CrewFault}
 use Rattle.srm_interfaces.specs.declared.fault.CrewFault.TheVariants as fault
-use Rattle.srm_crew.specs.Places.{times}
+use Rattle.srm_crew.specs.Indices.{times}
 use Rattle.srm_interfaces.specs.Crews.{AreJobs, AnyEnds, AreRowsOfSome, Maps, TellsMap, sum_at, counted_in}
 use Rattle.srm_crew.specs.Shared.{HoldsAt, sum_of, ComeOf, Stops, TellsAll}
 use Rattle.srm_crew.proofs.Gathering.{all_done}
@@ -34,27 +34,27 @@ module _ {M : Type 0} where
 
   -- rows of jobs that are done, each once at most, and their crossings
   some_rows : (f : M → Record) (k : PlainScenario) (net : Network) (js : List (Job M)) (ps : List PlainJob)
-      (places : List ℕ) (ds : List (job.Done M)) → AreJobs f js ps
-      → ((p : ℕ) → times p places ≤ 1) → ComeOf (λ j r. Advances f k net j r) js places ds
+      (indices : List ℕ) (ds : List (job.Done M)) → AreJobs f js ps
+      → ((p : ℕ) → times p indices ≤ 1) → ComeOf (λ j r. Advances f k net j r) js indices ds
       → (rows : List Row) × AreRowsOfSome ps rows × ((w : ℕ) → sum_of numbers w ds ≡ counted_in (crossings (traffic_of k net) rows) w)
   some_rows f k net [] [] [] [] h once z = ([], refl, λ w. sym (none_crossed (traffic_of k net) w))
   some_rows f k net [] [] [] (d ∷ ds) h once z = absurd z
-  some_rows f k net [] [] (p ∷ places) [] h once z = absurd z
-  some_rows f k net [] [] (p ∷ places) (d ∷ ds) h once z = absurd (nothing_there p z.0.0 z.0.1)
+  some_rows f k net [] [] (p ∷ indices) [] h once z = absurd z
+  some_rows f k net [] [] (p ∷ indices) (d ∷ ds) h once z = absurd (nothing_there p z.0.0 z.0.1)
     where
       nothing_there : (p : ℕ) (j : Job M) → slice_get [] p ≡ Some j → ⊥
       nothing_there p j e = cc
-  some_rows f k net [] (p ∷ ps) places ds h once z = absurd h
-  some_rows f k net (j ∷ js) [] places ds h once z = absurd h
-  some_rows f k net (j ∷ js) (p ∷ ps) places ds h once z =
+  some_rows f k net [] (p ∷ ps) indices ds h once z = absurd h
+  some_rows f k net (j ∷ js) [] indices ds h once z = absurd h
+  some_rows f k net (j ∷ js) (p ∷ ps) indices ds h once z =
       let t = traffic_of k net in
-      let r = peel (λ x d. Advances f k net x (Ok d)) numbers j js places ds once z in
-      let more = some_rows f k net js ps (lower places) r.results h.1
-      (λ q. let e = lower_times q places in let o = once (suc q) in omega (arith, e, o)) r.rest in
+      let r = peel (λ x d. Advances f k net x (Ok d)) numbers j js indices ds once z in
+      let more = some_rows f k net js ps (lower indices) r.results h.1
+      (λ q. let e = lower_times q indices in let o = once (suc q) in omega (arith, e, o)) r.rest in
       ⊎_elim
-      (λ (n : (times 0 places ≡ 0) × ((w : ℕ) → sum_of numbers w ds ≡ sum_of numbers w r.results)).
+      (λ (n : (times 0 indices ≡ 0) × ((w : ℕ) → sum_of numbers w ds ≡ sum_of numbers w r.results)).
       (more.0, inl more.1, λ w. n.1 w ∙ more.2 w))
-      (λ (n : (times 0 places ≡ 1) × (d : job.Done M) × Advances f k net j (Ok d)
+      (λ (n : (times 0 indices ≡ 1) × (d : job.Done M) × Advances f k net j (Ok d)
       × ((w : ℕ) → sum_of numbers w ds ≡ counted_in (numbers d) w + sum_of numbers w r.results)).
       let done = n.2.tells p h.0 in
       let own = joined n.1.rows.items in (
@@ -72,16 +72,16 @@ module _ {M : Type 0} where
       (Any : List PlainJob → Type 0)
       → ((p : PlainJob) (qs : List PlainJob) → TellsFault p.till p.cells e → Any (p ∷ qs))
       → ((p : PlainJob) (qs : List PlainJob) → Any qs → Any (p ∷ qs))
-      → AreJobs f js ps → (place : ℕ) → HoldsAt (λ j. Advances f k net j (Err e)) js place → Any ps
-  one_told f k net [] ps e Any here there h place z = absurd (nothing_there place z.0 z.1)
+      → AreJobs f js ps → (index : ℕ) → HoldsAt (λ j. Advances f k net j (Err e)) js index → Any ps
+  one_told f k net [] ps e Any here there h index z = absurd (nothing_there index z.0 z.1)
     where
       nothing_there : (p : ℕ) (j : Job M) → slice_get [] p ≡ Some j → ⊥
       nothing_there p j e = cc
-  one_told f k net (j ∷ js) [] e Any here there h place z = absurd h
+  one_told f k net (j ∷ js) [] e Any here there h index z = absurd h
   one_told f k net (j ∷ js) (p ∷ ps) e Any here there h zero z =
       let same : z.0 ≡ j = cc in
       here p ps ((subst (λ x. Advances f k net x (Err e)) same z.2).tells p h.0)
-  one_told f k net (j ∷ js) (p ∷ ps) e Any here there h (suc place) z = there p ps (one_told f k net js ps e Any here there h.1 place z)
+  one_told f k net (j ∷ js) (p ∷ ps) e Any here there h (suc index) z = there p ps (one_told f k net js ps e Any here there h.1 index z)
 
   stops_told : (f : M → Record) (k : PlainScenario) (net : Network) (seat : SeatView) (js : List (Job M))
       (ps : List PlainJob) (e : CrewFault) → AreJobs f js ps

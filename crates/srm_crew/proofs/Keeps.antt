@@ -10,10 +10,10 @@ use Rattle.atomic_table.proofs.Lists.{at_set, at_snoc, set_else}
 use Rattle.crossbeam_queue.specs.Fifo.{Pushes, Pops, Forks, Merges, Learns}
 use Rattle.srm_crew.specs.declared.rule.Hold.{Hold}
 use Rattle.srm_crew.specs.declared.rule.Spot.{Spot}
-use Rattle.srm_ledger.proofs.SumsOver.{total_set, total_snoc, total_part, total_none}
-use Rattle.srm_crew.specs.Places.{hold_of, spent_hold, times, AllBelow, hold_weight, count_of, times_of, PassOk, Kept}
-use Rattle.srm_crew.specs.Places.{puts, takes_spot, short}
-use Rattle.srm_crew.specs.Places.{rests, fits, first_hold, second_hold, both_holds}
+use Rattle.srm_ledger.proofs.SumsOver.{total_set, total_part, total_none, total_split, total_join, halves_joined}
+use Rattle.srm_crew.specs.Indices.{hold_of, spent_hold, times, AllBelow, hold_weight, count_of, times_of, PassOk, Kept}
+use Rattle.srm_crew.specs.Indices.{puts, takes_spot, short}
+use Rattle.srm_crew.specs.Indices.{rests, fits, first_hold, second_hold, both_holds}
 
 pub times_append : (p : ℕ) (xs ys : List ℕ) → times p (xs ++ ys) ≡ times p xs + times p ys
 times_append p [] ys = omega arith
@@ -60,14 +60,14 @@ module _ {T : Type 0} where
   takes_keep id v alive x items views h at =
       let ok = h.passes id v at in
       let here = h.queued 0 x refl in
-      let q : x.place ≡ h.popped = omega arith in
+      let q : x.index ≡ h.popped = omega arith in
       let k : v.put ≡ h.put = ok.knows alive in
-      let w = hold_of v.weight v.put (v.taken ++ x.place ∷ []) in
+      let w = hold_of v.weight v.put (v.taken ++ x.index ∷ []) in
       let vs = set views id w in
       let few = total_part count_of views id v at in
       let much = h.counted in
       let b = h.behind in
-      let longer = length-append v.taken (x.place ∷ []) in (
+      let longer = length-append v.taken (x.index ∷ []) in (
         w,
         record {
           put = h.put;
@@ -77,20 +77,20 @@ module _ {T : Type 0} where
               (omega arith, let same : h.popped + suc j ≡ h.popped + 1 + j = omega arith in ap (slice_get h.put) (sym same) ∙ g.1);
           whole = (let t = total_set hold_weight views id v w at in let e = h.whole in omega arith);
           counted = (let t = total_set count_of views id v w at in omega arith);
-          once = λ p lt. let t = total_set (times_of p) views id v w at in let a = times_append p v.taken (x.place ∷ []) in
+          once = λ p lt. let t = total_set (times_of p) views id v w at in let a = times_append p v.taken (x.index ∷ []) in
               dite (ℕ_discrete p h.popped)
-              (λ e. let o = times_same x.place in let P : ℕ → Type 0 = λ r. times r (x.place ∷ []) ≡ 1 in let o' : times p (x.place ∷ [])
+              (λ e. let o = times_same x.index in let P : ℕ → Type 0 = λ r. times r (x.index ∷ []) ≡ 1 in let o' : times p (x.index ∷ [])
               ≡ 1 = subst P (q ∙ sym e) o in let z = h.never p (omega arith) in omega arith)
-              (λ no. let o = times_other p x.place (λ r. no (r ∙ q)) in let z = h.once p (omega arith) in omega arith);
-          never = λ p le. let t = total_set (times_of p) views id v w at in let a = times_append p v.taken (x.place ∷ []) in let o =
-              times_other p x.place (λ r. absurd (omega arith)) in let z = h.never p (omega arith) in omega arith;
+              (λ no. let o = times_other p x.index (λ r. no (r ∙ q)) in let z = h.once p (omega arith) in omega arith);
+          never = λ p le. let t = total_set (times_of p) views id v w at in let a = times_append p v.taken (x.index ∷ []) in let o =
+              times_other p x.index (λ r. absurd (omega arith)) in let z = h.never p (omega arith) in omega arith;
           passes = λ j u e. ⊎_elim
               (λ (t : (j ≡ id) × (w ≡ u)). subst (PassOk h.put (h.popped + 1)) t.1 record {
                 spent_is = λ z. absurd (omega arith);
                 knows = λ _. k;
-                below = all_below_append v.taken (x.place ∷ []) (h.popped + 1)
+                below = all_below_append v.taken (x.index ∷ []) (h.popped + 1)
                     (all_below_more v.taken h.popped (h.popped + 1) ok.below (omega arith))
-                    (one_below x.place (h.popped + 1) (omega arith));
+                    (one_below x.index (h.popped + 1) (omega arith));
               })
               (λ (t : (j ≢ id) × (get_elem? views j ≡ some u)). let o = h.passes j u t.1 in
               record {
@@ -103,21 +103,21 @@ module _ {T : Type 0} where
         },
         (
           refl,
-          (let same : h.popped + 0 ≡ x.place = omega arith in ap (λ (l : List T). slice_get l x.place) k ∙ ap (slice_get h.put) (sym same)
+          (let same : h.popped + 0 ≡ x.index = omega arith in ap (λ (l : List T). slice_get l x.index) k ∙ ap (slice_get h.put) (sym same)
               ∙ here.1),
-          all_below_more v.taken h.popped x.place ok.below (omega arith),
+          all_below_more v.taken h.popped x.index ok.below (omega arith),
           (let l : length v.put ≡ length h.put = ap length k in omega arith),
           (
-            (λ p. let a = times_append p v.taken (x.place ∷ []) in let own = total_part (times_of p) views id v at in
-                dite (ℕ_discrete p x.place)
-                (λ e. let z = h.never p (omega arith) in let P : ℕ → Type 0 = λ r. times r (x.place ∷ [])
-                ≡ 1 in let o : times p (x.place ∷ []) ≡ 1 = subst P (sym e) (times_same x.place) in omega arith)
-                (λ no. let o = times_other p x.place no in
+            (λ p. let a = times_append p v.taken (x.index ∷ []) in let own = total_part (times_of p) views id v at in
+                dite (ℕ_discrete p x.index)
+                (λ e. let z = h.never p (omega arith) in let P : ℕ → Type 0 = λ r. times r (x.index ∷ [])
+                ≡ 1 in let o : times p (x.index ∷ []) ≡ 1 = subst P (sym e) (times_same x.index) in omega arith)
+                (λ no. let o = times_other p x.index no in
                 dite (dec_le h.popped p) (λ far. let z = h.never p far in omega arith)
                 (λ near. let z = h.once p (lt_of_not-le near) in omega arith))),
-            (λ p far. let l : length v.put ≡ length h.put = ap length k in let a = times_append p v.taken (x.place ∷ []) in let own =
+            (λ p far. let l : length v.put ≡ length h.put = ap length k in let a = times_append p v.taken (x.index ∷ []) in let own =
                 total_part (times_of p) views id v at in
-                let o = times_other p x.place (λ r. absurd (omega arith)) in let z = h.never p (omega arith) in omega arith),
+                let o = times_other p x.index (λ r. absurd (omega arith)) in let z = h.never p (omega arith) in omega arith),
           ),
         ),
       )
@@ -135,7 +135,7 @@ module _ {T : Type 0} where
       (h.passes j u e).spent_is (omega arith)
 
   pub puts_keep : (n id : ℕ) (v : Hold T) (x : Spot T) → v.weight ≡ 65536
-      → x.place ≡ length v.put → Pushes (Kept {T = T}) n id v x (puts v x)
+      → x.index ≡ length v.put → Pushes (Kept {T = T}) n id v x (puts v x)
   puts_keep n id v x heavy q items views _ h at =
       let ok = h.passes id v at in
       let k : v.put ≡ h.put = ok.knows (omega arith) in
@@ -153,7 +153,7 @@ module _ {T : Type 0} where
           queued = λ j y e. ⊎_elim
               (λ old. let g = h.queued j y old in (g.0, get_longer h.put (x.item ∷ []) (h.popped + j) y.item g.1))
               (λ (new : (j ≡ length items) × (x ≡ y)). let same : h.popped + j ≡ length h.put = (let e' = new.0 in omega arith) in (
-                sym (ap (λ (s : Spot T). s.place) new.1) ∙ q ∙ long ∙ sym same,
+                sym (ap (λ (s : Spot T). s.index) new.1) ∙ q ∙ long ∙ sym same,
                 ap (slice_get put) same ∙ get_last h.put x.item
                     ∙ ap (λ (s : Spot T). Some s.item) new.1,
               ))
@@ -220,7 +220,29 @@ module _ {T : Type 0} where
       )
 
   pub split_keeps : (id : ℕ) (v : Hold T) → 2 ≤ v.weight → Forks (Kept {T = T}) id v (first_hold v) (second_hold v)
-  split_keeps id v two items views h at = grind (arith, total_set, total_snoc, at_set, at_snoc)
+  split_keeps id v two items views h at =
+      let l = first_hold v in
+      let r = second_hold v in
+      let ok = h.passes id v at in
+      record {
+        put = h.put;
+        popped = h.popped;
+        behind = h.behind;
+        queued = h.queued;
+        whole = total_split hold_weight views id v l r at (halves_joined v.weight) ∙ h.whole;
+        counted = total_split count_of views id v l r at (omega arith) ∙ h.counted;
+        once = λ p lt. total_split (times_of p) views id v l r at (omega arith) ∙ h.once p lt;
+        never = λ p le. total_split (times_of p) views id v l r at (omega arith) ∙ h.never p le;
+        passes = λ j u e. ⊎_elim
+            (λ x. ⊎_elim
+            (λ (t : (j ≡ id) × (l ≡ u)). subst (PassOk h.put h.popped) t.1
+            record { spent_is = λ z. absurd (omega arith); knows = λ _. ok.knows (omega arith); below = ok.below })
+            (λ (t : (j ≢ id) × (get_elem? views j ≡ some u)). h.passes j u t.1)
+            (at_set views id j l u x))
+            (λ (is : r ≡ u). subst (PassOk h.put h.popped) is
+            record { spent_is = λ z. absurd (omega arith); knows = λ _. ok.knows (omega arith); below = λ i z. absurd (omega arith) })
+            (at_snoc (set views id l) r u j e);
+      }
 
   pub join_keeps : (id : ℕ) (v : Hold T) (other : ℕ) (w : Hold T) → 1 ≤ v.weight
       → Merges (Kept {T = T}) id v other w (both_holds v w) spent_hold
@@ -238,14 +260,12 @@ module _ {T : Type 0} where
         popped = h.popped;
         behind = h.behind;
         queued = h.queued;
-        whole = (let x = total_set hold_weight views id v b at in let y = total_set hold_weight vs other w s at' in let e = h.whole in
-            omega arith);
-        counted = (let x = total_set count_of views id v b at in let y = total_set count_of vs other w s at' in let e = h.counted in
-            omega arith);
-        once = λ p lt. let x = total_set (times_of p) views id v b at in let y = total_set (times_of p) vs other w s at' in let a =
-            times_append p v.taken w.taken in let e = h.once p lt in omega arith;
-        never = λ p le. let x = total_set (times_of p) views id v b at in let y = total_set (times_of p) vs other w s at' in let a =
-            times_append p v.taken w.taken in let e = h.never p le in omega arith;
+        whole = total_join hold_weight views id other v w b s at at' (omega arith) ∙ h.whole;
+        counted = total_join count_of views id other v w b s at at' (omega arith) ∙ h.counted;
+        once = λ p lt. let a = times_append p v.taken w.taken in
+            total_join (times_of p) views id other v w b s at at' (omega arith) ∙ h.once p lt;
+        never = λ p le. let a = times_append p v.taken w.taken in
+            total_join (times_of p) views id other v w b s at at' (omega arith) ∙ h.never p le;
         passes = λ j u e. ⊎_elim
             (λ (t : (j ≡ other) × (s ≡ u)). subst (PassOk h.put h.popped)
             t.1 record { spent_is = λ _. refl; knows = λ z. absurd (omega arith); below = λ i z. absurd (omega arith) })

@@ -1,4 +1,4 @@
--- Results, each in the slot of its place.
+-- Results, each in the slot of its index.
 use Rattle.std.proofs.Common.{◌≡◌, ◌≢◌, ◌<◌, ◌≤◌, ℕ, zero, suc, ◌+◌, cond, ◌==◌, List, [], ◌∷◌, ◌++◌, length, map, slice_get, slice_index}
 use Rattle.std.proofs.Common.{Option, Some, Ok, Result, set, length-set, length-append, refl, sym, ap, ◌∙◌, subst, arith, append_assoc}
 use Rattle.std.proofs.Common.{eq-eqb, ne_eqb, lt_of_not-le}
@@ -7,7 +7,7 @@ use mathlib.Core.Logic.{dite}
 use native.Mathlib.Decide.{ℕ_discrete, dec_le}
 use Rattle.srm_ledger.specs.Seats.{SeatView}
 use Rattle.srm_cell.specs.declared.fault.CellFault.{CellFault}
-use Rattle.srm_crew.specs.Places.{times, EachOnce}
+use Rattle.srm_crew.specs.Indices.{times, EachOnce}
 use Rattle.srm_crew.specs.declared.bag_fault.EmptyFault.{EmptyFault}
 use Rattle.srm_crew.specs.declared.bag_fault.EmptyFault.TheVariants as empty
 use Rattle.srm_crew.specs.Passes.{PassView, RefusesEmpty}
@@ -17,7 +17,7 @@ use Rattle.srm_crew.proofs.Peeling.{once_length, sum_same}
 use Rattle.std.proofs.lemmas.Option.{same_Some}
 use Rattle.srm_net.proofs.Lists.{below_get}
 
--- ---- places, each once
+-- ---- indices, each once
 
 found_once : (ps : List ℕ) (k : ℕ) → k < length ps → 1 ≤ times (slice_index ps k) ps
 found_once [] k lt = absurd (omega arith)
@@ -42,12 +42,12 @@ once_apart ps n i j h near lt e =
     let a = found_twice ps i j near lt e in
     let b = h.0 (slice_index ps j) (once_below ps n h j lt) in absurd (omega (arith, a, b))
 
-place_of : (ps : List ℕ) (p : ℕ) → 1 ≤ times p ps → (k : ℕ) × (k < length ps) × (slice_index ps k ≡ p)
-place_of [] p h = absurd (omega arith)
-place_of (q ∷ qs) p h = dite (ℕ_discrete p q)
+found_at : (ps : List ℕ) (p : ℕ) → 1 ≤ times p ps → (k : ℕ) × (k < length ps) × (slice_index ps k ≡ p)
+found_at [] p h = absurd (omega arith)
+found_at (q ∷ qs) p h = dite (ℕ_discrete p q)
     (λ e. (0, omega arith, sym e))
     (λ apart. let z : cond {A = ℕ} (p == q) 1 0 ≡ 0 = ap (λ b. cond {A = ℕ} b 1 0) (ne_eqb p q apart) in let r =
-    place_of qs p (omega (arith, h, z)) in (suc r.0, (let lt = r.1 in omega (arith, lt)), r.2))
+    found_at qs p (omega (arith, h, z)) in (suc r.0, (let lt = r.1 in omega (arith, lt)), r.2))
 
 -- ---- lists
 
@@ -98,7 +98,7 @@ module _ {A B : Type 0} where
       )
 
 module _ {B : Type 0} where
-  -- one result of a place
+  -- one result of an index
   zip_found : (R S : ℕ → B → Type 0) (ps : List ℕ) (ys : List B) → AllZip R ps ys → AllZip S ps ys → (k : ℕ) → k < length ps → (y : B)
       × R (slice_index ps k) y × S (slice_index ps k) y
   zip_found R S [] ys z w k lt = absurd (omega arith)
@@ -113,51 +113,54 @@ zip_held all [] (d ∷ ds) z = absurd z
 zip_held all (p ∷ ps) [] z = absurd z
 zip_held all (p ∷ ps) (d ∷ ds) z = ((d, z.0, refl), zip_held all ps ds z.1)
 
-zip_places : {D : Type 0} (P : ℕ → D → Type 0) (ps : List ℕ) (ds : List D)
+zip_by_index : {D : Type 0} (P : ℕ → D → Type 0) (ps : List ℕ) (ds : List D)
     → length ps ≡ length ds → ((k : ℕ) (d : D) → slice_get ds k ≡ Some d → k < length ps → P (slice_index ps k) d) → AllZip P ps ds
-zip_places P [] [] e h = tt
-zip_places P [] (d ∷ ds) e h = absurd (omega arith)
-zip_places P (p ∷ ps) [] e h = absurd (omega arith)
-zip_places P (p ∷ ps) (d ∷ ds) e h = (h 0 d refl (omega arith), zip_places P ps ds (omega arith) (λ k x g lt. h (suc k) x g (omega arith)))
+zip_by_index P [] [] e h = tt
+zip_by_index P [] (d ∷ ds) e h = absurd (omega arith)
+zip_by_index P (p ∷ ps) [] e h = absurd (omega arith)
+zip_by_index P (p ∷ ps) (d ∷ ds) e h = (
+  h 0 d refl (omega arith),
+  zip_by_index P ps ds (omega arith) (λ k x g lt. h (suc k) x g (omega arith)),
+)
 
 -- ---- slots
 
 module _ {D : Type 0} where
-  -- the results from m on stand in the slots of their places
+  -- the results from m on stand in the slots of their indices
   abbrev pub FilledFrom : List ℕ → List D → ℕ → List (Option D) → Type 0
-  FilledFrom places all m slots = (k : ℕ) → m ≤ k → k < length all → slice_get slots (slice_index places k) ≡ Some (slice_get all k)
+  FilledFrom indices all m slots = (k : ℕ) → m ≤ k → k < length all → slice_get slots (slice_index indices k) ≡ Some (slice_get all k)
 
-  pub record Stepped (places : List ℕ) (all new : List D) (x : D) (slots : List (Option D)) : Type 0 where
-    pub within : length new < length places
-    pub near : slice_index places (length new) < length slots
+  pub record Stepped (indices : List ℕ) (all new : List D) (x : D) (slots : List (Option D)) : Type 0 where
+    pub within : length new < length indices
+    pub near : slice_index indices (length new) < length slots
     pub rest : (tail : List D) × (all ≡ new ++ tail)
-    pub long : length (set slots (slice_index places (length new)) (Some x)) ≡ length all
-    pub filled : FilledFrom places all (length new) (set slots (slice_index places (length new)) (Some x))
+    pub long : length (set slots (slice_index indices (length new)) (Some x)) ≡ length all
+    pub filled : FilledFrom indices all (length new) (set slots (slice_index indices (length new)) (Some x))
 
-  pub one_step : (places : List ℕ) (all old new tail : List D) (x : D) (slots : List (Option D)) → EachOnce places (length all)
-      → length places ≡ length all → length slots ≡ length all
-      → all ≡ old ++ tail → old ≡ new ++ x ∷ [] → FilledFrom places all (length old) slots → Stepped places all new x slots
-  one_step places all old new tail x slots once many long split last filled =
+  pub one_step : (indices : List ℕ) (all old new tail : List D) (x : D) (slots : List (Option D)) → EachOnce indices (length all)
+      → length indices ≡ length all → length slots ≡ length all
+      → all ≡ old ++ tail → old ≡ new ++ x ∷ [] → FilledFrom indices all (length old) slots → Stepped indices all new x slots
+  one_step indices all old new tail x slots once many long split last filled =
       let parts : all ≡ (new ++ x ∷ []) ++ tail = split ∙ ap (λ l. l ++ tail) last in
       let m : ℕ = length new in
       let one_less : length old ≡ m + 1 = ap length last ∙ length-append new (x ∷ []) in
       let len : length all ≡ (m + 1) + length tail = ap length parts ∙ length-append (new ++ x ∷ []) tail
       ∙ ap (λ n. n + length tail) (length-append new (x ∷ [])) in
-      let lt : m < length places = omega (arith, many, len) in
-      let place : ℕ = slice_index places m in
-      let under = once_below places (length all) once m lt in
+      let lt : m < length indices = omega (arith, many, len) in
+      let index : ℕ = slice_index indices m in
+      let under = once_below indices (length all) once m lt in
       let here : slice_get all m ≡ Some x = ap (λ l. slice_get l m) parts ∙ get_middle new tail x in
       record {
         within = lt;
         near = omega (arith, under, long);
         rest = (x ∷ tail, parts ∙ append_assoc new (x ∷ []) tail);
-        long = length-set slots place (Some x) ∙ long;
+        long = length-set slots index (Some x) ∙ long;
         filled = λ k from far. dite (ℕ_discrete k m)
-            (λ e. subst (λ (i : ℕ). slice_get (set slots place (Some x)) (slice_index places i) ≡ Some (slice_get all i)) (sym e)
-            (get_set_same slots place (Some x) (omega (arith, under, long)) ∙ ap (λ o. Some o) (sym here)))
+            (λ e. subst (λ (i : ℕ). slice_get (set slots index (Some x)) (slice_index indices i) ≡ Some (slice_get all i)) (sym e)
+            (get_set_same slots index (Some x) (omega (arith, under, long)) ∙ ap (λ o. Some o) (sym here)))
             (λ apart. let after : m < k = omega (arith, from, apart) in
-            get_set_other slots place (slice_index places k) (Some x)
-            (λ e. once_apart places (length all) m k once after (omega (arith, far, many)) (sym e))
+            get_set_other slots index (slice_index indices k) (Some x)
+            (λ e. once_apart indices (length all) m k once after (omega (arith, far, many)) (sym e))
             ∙ filled k (omega (arith, after, one_less)) far);
       }
 
@@ -176,12 +179,12 @@ module _ {D : Type 0} where
       let here : slice_get slots m ≡ Some slot = ap (λ l. slice_get l m) parts ∙ get_middle (map (λ (x : D). Some x) vs) more slot in
       (f.0, same_Some slot (Some f.0) (sym here ∙ f.1))
 
-  pub all_full : (places : List ℕ) (all : List D) (slots : List (Option D)) → EachOnce places (length all) → length places ≡ length all
-      → FilledFrom places all 0 slots
+  pub all_full : (indices : List ℕ) (all : List D) (slots : List (Option D)) → EachOnce indices (length all) → length indices ≡ length all
+      → FilledFrom indices all 0 slots
       → (p : ℕ) → p < length all → (d : D) × (slice_get slots p ≡ Some (Some d))
-  all_full places all slots once many filled p lt =
+  all_full indices all slots once many filled p lt =
       let o = once.0 p lt in
-      let k = place_of places p (omega (arith, o)) in
+      let k = found_at indices p (omega (arith, o)) in
       let near = k.1 in
       let d = below_get all k.0 (omega (arith, near, many)) in (
         d.0,
@@ -189,30 +192,31 @@ module _ {D : Type 0} where
             (filled k.0 (omega arith) (omega (arith, near, many)) ∙ ap (λ o. Some o) d.1),
       )
 
-  pub ordered : (places : List ℕ) (all v : List D) (slots : List (Option D)) → length places ≡ length all → length slots ≡ length all
-      → FilledFrom places all 0 slots → map (λ (x : D). Some x) v ≡ slots → InOrder places all v
-  ordered places all v slots many long filled same = grind (arith, map_long, zip_places, get_some)
+  pub ordered : (indices : List ℕ) (all v : List D) (slots : List (Option D)) → length indices ≡ length all → length slots ≡ length all
+      → FilledFrom indices all 0 slots → map (λ (x : D). Some x) v ≡ slots → InOrder indices all v
+  ordered indices all v slots many long filled same = grind (arith, map_long, zip_by_index, get_some)
 
 -- ---- all items
 
 module _ {T D : Type 0} (R : T → Result D CellFault → Type 0) (numbers : D → List ℕ) where
-  -- what workers did, where every place was taken once and the results are in order
-  pub all_told : (items : List T) (P p : PassView T) (S s : SeatView) (r v : List D) (places : List ℕ) → P.put ≡ items → P.taken ≡ []
-      → Worked R numbers P S [] p s r → places ≡ p.taken → EachOnce places (length items) → InOrder places r v
+  -- what workers did, where every index was taken once and the results are in order
+  pub all_told : (items : List T) (P p : PassView T) (S s : SeatView) (r v : List D) (indices : List ℕ) → P.put ≡ items → P.taken ≡ []
+      → Worked R numbers P S [] p s r → indices ≡ p.taken → EachOnce indices (length items) → InOrder indices r v
       → AllZip (λ x d. R x (Ok d)) items v × HasGrown (λ k. sum_of numbers k v) S s
-  all_told items P p S s r v places put none w is once order =
-      let same : places ≡ w.places = is ∙ ap (λ q. q.taken) w.taken ∙ ap (λ l. l ++ w.places) none in
-      let come : ComeOf R items w.places w.more = subst (λ l. ComeOf R l w.places w.more) put w.come in
-      let come2 : ComeOf R items places w.more = subst (λ l. ComeOf R items l w.more) (sym same) come in
-      let come3 : ComeOf R items places r = subst (λ l. ComeOf R items places l) (sym w.gave) come2 in
-      let many : length places ≡ length items = once_length (length items) places once in
-      let as_many : length places ≡ length r = zip_long (λ p d. HoldsAt (λ x. R x (Ok d)) items p) places r come3 in
+  all_told items P p S s r v indices put none w is once order =
+      let same : indices ≡ w.indices = is ∙ ap (λ q. q.taken) w.taken ∙ ap (λ l. l ++ w.indices) none in
+      let come : ComeOf R items w.indices w.more = subst (λ l. ComeOf R l w.indices w.more) put w.come in
+      let come2 : ComeOf R items indices w.more = subst (λ l. ComeOf R items l w.more) (sym same) come in
+      let come3 : ComeOf R items indices r = subst (λ l. ComeOf R items indices l) (sym w.gave) come2 in
+      let many : length indices ≡ length items = once_length (length items) indices once in
+      let as_many : length indices ≡ length r = zip_long (λ p d. HoldsAt (λ x. R x (Ok d)) items p) indices r come3 in
       let long : length v ≡ length items = order.0 ∙ sym as_many ∙ many in
-      let sums = sum_same numbers v places r (subst (EachOnce places) (sym long) once) (zip_held v places r order.1) in (
+      let sums = sum_same numbers v indices r (subst (EachOnce indices) (sym long) once) (zip_held v indices r order.1) in (
         zip_points (λ x d. R x (Ok d)) items v (sym long) (λ k lt.
             let o = once.0 k lt in
-            let i = place_of places k (omega (arith, o)) in
-            let f = zip_found (λ p d. HoldsAt (λ x. R x (Ok d)) items p) (λ p d. slice_get v p ≡ Some d) places r come3 order.1 i.0 i.1 in (
+            let i = found_at indices k (omega (arith, o)) in
+            let f = zip_found (λ p d. HoldsAt (λ x. R x (Ok d)) items p) (λ p d. slice_get v p ≡ Some d)
+            indices r come3 order.1 i.0 i.1 in (
               f.1.0,
               f.0,
               subst (λ (q : ℕ). slice_get items q ≡ Some f.1.0) i.2 f.1.1,
@@ -229,22 +233,22 @@ module _ {T D : Type 0} (R : T → Result D CellFault → Type 0) (numbers : D �
         },
       )
 
-  -- the places of all results
-  pub record Placed (items : List T) (r : List D) (places : List ℕ) : Type 0 where
-    pub once : EachOnce places (length r)
-    pub many : length places ≡ length r
-    pub whole : EachOnce places (length items)
+  -- the indices of all results
+  pub record Indexed (items : List T) (r : List D) (indices : List ℕ) : Type 0 where
+    pub once : EachOnce indices (length r)
+    pub many : length indices ≡ length r
+    pub whole : EachOnce indices (length items)
 
-  pub all_placed : (items : List T) (P p : PassView T) (S s : SeatView) (r : List D) (places : List ℕ) → P.put ≡ items → P.taken ≡ []
-      → Worked R numbers P S [] p s r → places ≡ p.taken → EachOnce p.taken (length p.put) → Placed items r places
-  all_placed items P p S s r places put none w is once =
+  pub all_indexed : (items : List T) (P p : PassView T) (S s : SeatView) (r : List D) (indices : List ℕ) → P.put ≡ items → P.taken ≡ []
+      → Worked R numbers P S [] p s r → indices ≡ p.taken → EachOnce p.taken (length p.put) → Indexed items r indices
+  all_indexed items P p S s r indices put none w is once =
       let put2 : p.put ≡ items = ap (λ q. q.put) w.taken ∙ put in
-      let same : places ≡ w.places = is ∙ ap (λ q. q.taken) w.taken ∙ ap (λ l. l ++ w.places) none in
-      let whole : EachOnce places (length items) = subst (λ l. EachOnce places (length l)) put2
+      let same : indices ≡ w.indices = is ∙ ap (λ q. q.taken) w.taken ∙ ap (λ l. l ++ w.indices) none in
+      let whole : EachOnce indices (length items) = subst (λ l. EachOnce indices (length l)) put2
       (subst (λ l. EachOnce l (length p.put)) (sym is) once) in
-      let many : length places ≡ length r = ap length same ∙ zip_long (λ p d. HoldsAt (λ x. R x (Ok d)) P.put p) w.places w.more w.come
+      let many : length indices ≡ length r = ap length same ∙ zip_long (λ p d. HoldsAt (λ x. R x (Ok d)) P.put p) w.indices w.more w.come
       ∙ sym (ap length w.gave) in
-      record { once = subst (EachOnce places) (sym (once_length (length items) places whole) ∙ many) whole; many = many; whole = whole }
+      record { once = subst (EachOnce indices) (sym (once_length (length items) indices whole) ∙ many) whole; many = many; whole = whole }
 
   -- the bag is emptied
   pub not_refused : (P p : PassView T) (S s : SeatView) (r : List D) (e : EmptyFault) → P.weight ≡ 65536 → Worked R numbers P S [] p s r

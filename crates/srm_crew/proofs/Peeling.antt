@@ -1,15 +1,15 @@
--- What comes of items at places, each taken once at most, seen item by item.
+-- What comes of items at indices, each taken once at most, seen item by item.
 use Rattle.std.proofs.Common.{◌≡◌, ◌≢◌, ◌≤◌, ◌⊎◌, ℕ, zero, suc, ◌+◌, cond, ◌==◌, List, [], ◌∷◌, length, refl, sym, ap, ◌∙◌, subst}
 use Rattle.std.proofs.Common.{inl, inr, ⊎_elim, arith, eq-eqb, ne_eqb, lt_of_not-le}
 use Rattle.std.specs.List.{AllZip}
 use mathlib.Core.Logic.{dite}
 use native.Mathlib.Decide.{ℕ_discrete, dec_le}
-use Rattle.srm_crew.specs.Places.{times, EachOnce}
+use Rattle.srm_crew.specs.Indices.{times, EachOnce}
 use Rattle.srm_interfaces.specs.Crews.{counted_in}
 use Rattle.srm_crew.specs.Shared.{HoldsAt, sum_of}
 use Rattle.std.proofs.lemmas.Option.{same_Some}
 
--- ---- places
+-- ---- indices
 
 times_more : (p : ℕ) (ps : List ℕ) → times p (p ∷ ps) ≡ times p ps + 1
 times_more p ps = let one : cond {A = ℕ} (p == p) 1 0 ≡ 1 = ap (λ b. cond {A = ℕ} b 1 0) (eq-eqb p p refl) in omega (arith, one)
@@ -17,7 +17,7 @@ times_more p ps = let one : cond {A = ℕ} (p == p) 1 0 ≡ 1 = ap (λ b. cond {
 times_same : (p q : ℕ) (ps : List ℕ) → p ≢ q → times p (q ∷ ps) ≡ times p ps
 times_same p q ps apart = let none : cond {A = ℕ} (p == q) 1 0 ≡ 0 = ap (λ b. cond {A = ℕ} b 1 0) (ne_eqb p q apart) in omega (arith, none)
 
--- the places but for the first of all, from there on
+-- the indices but for the first of all, from there on
 pub lower : List ℕ → List ℕ
 lower [] = []
 lower (zero ∷ ps) = lower ps
@@ -106,7 +106,7 @@ module _ {T D : Type 0} (Q : T → D → Type 0) (numbers : D → List ℕ) wher
       }
 
 module _ {D : Type 0} (numbers : D → List ℕ) where
-  -- where each of these stands at its place of a list, and there is no more in it, the sums are the same
+  -- where each of these stands at its index of a list, and there is no more in it, the sums are the same
   pub sum_same : (all : List D) (ps : List ℕ) (ds : List D) → EachOnce ps (length all) → AllZip (λ p d. HoldsAt (λ x. x ≡ d) all p) ps ds
       → (k : ℕ) → sum_of numbers k ds ≡ sum_of numbers k all
   sum_same [] [] [] once z k = refl

@@ -12,7 +12,7 @@ use Rattle.srm_cell.specs.declared.fault.CellFault.{CellFault}
 use Rattle.srm_cell.specs.declared.fault.CellFault.TheVariants as cell
 use Rattle.srm_interfaces.specs.declared.fault.CrewFault.{CrewFault}
 use Rattle.srm_interfaces.specs.declared.fault.CrewFault.TheVariants as fault
-use Rattle.srm_crew.specs.Places.{EachAtMostOnce}
+use Rattle.srm_crew.specs.Indices.{EachAtMostOnce}
 use Rattle.srm_crew.specs.Passes.{PassView, half_with_list, half_without_list, both_passes, TellsTake}
 use Rattle.srm_crew.specs.Shared.{HoldsAt, sum_of, ComeOf, Stops, Worked, TellsWork, TellsItem, TellsBoth}
 
@@ -36,7 +36,7 @@ ready_at P put p q x same all take = grind (arith, get_or_from_slice_get, slice_
 module _ {T D : Type 0} (R : T → Result D CellFault → Type 0) (numbers : D → List ℕ) where
   pub worked_none : (p : PassView T) (s : SeatView) (r : List D) → Worked R numbers p s r p s r
   worked_none p s r = record {
-    places = [];
+    indices = [];
     more = [];
     taken = λ i. record { bag = p.bag; weight = p.weight; put = p.put; taken = sym (append-nil p.taken) i };
     gave = sym (append-nil r);
@@ -61,11 +61,11 @@ module _ {T D : Type 0} (R : T → Result D CellFault → Type 0) (numbers : D �
   )
   stops_after P p S s U u fault.ShareFull a h =
       let put : p.put ≡ P.put = ap (λ x. x.put) a.taken in
-      let all : p.taken ++ h.0 ≡ P.taken ++ (a.places ++ h.0) = ap (λ x. x.taken ++ h.0) a.taken ∙ append_assoc P.taken a.places h.0 in (
-        a.places ++ h.0,
+      let all : p.taken ++ h.0 ≡ P.taken ++ (a.indices ++ h.0) = ap (λ x. x.taken ++ h.0) a.taken ∙ append_assoc P.taken a.indices h.0 in (
+        a.indices ++ h.0,
         a.more ++ h.1,
         subst (λ l. EachAtMostOnce l (length P.put)) all (subst (λ l. EachAtMostOnce (p.taken ++ h.0) (length l)) put h.2),
-        zip_append (λ p d. HoldsAt (λ x. R x (Ok d)) P.put p) a.places h.0 a.more h.1 a.come (subst (λ l. ComeOf R l h.0 h.1) put h.3),
+        zip_append (λ p d. HoldsAt (λ x. R x (Ok d)) P.put p) a.indices h.0 a.more h.1 a.come (subst (λ l. ComeOf R l h.0 h.1) put h.3),
         (
           h.4.0,
           (let x = a.grown.shares h.4.0 in let y = h.4.1 in let e = sum_of-append numbers h.4.0 a.more h.1 in
@@ -125,13 +125,13 @@ module _ {T D : Type 0} (R : T → Result D CellFault → Type 0) (numbers : D �
   halves_tell P S (Ok a) (Ok b) (Err fault.Spent) none x y h = absurd h
   halves_tell P S (Ok a) (Ok b) (Err fault.CountFull) none x y h = absurd h
   halves_tell P S (Ok a) (Ok b) (Err fault.ShareFull) none x y h =
-      let all : a.0.taken ++ b.0.taken ≡ P.taken ++ (x.places ++ y.places) = (λ i. (x.taken i).taken ++ (y.taken i).taken)
-      ∙ append_assoc P.taken x.places y.places in (
-        x.places ++ y.places,
+      let all : a.0.taken ++ b.0.taken ≡ P.taken ++ (x.indices ++ y.indices) = (λ i. (x.taken i).taken ++ (y.taken i).taken)
+      ∙ append_assoc P.taken x.indices y.indices in (
+        x.indices ++ y.indices,
         x.more ++ y.more,
         subst (λ l. EachAtMostOnce l (length P.put)) all
             (subst (λ (l : List T). EachAtMostOnce (a.0.taken ++ b.0.taken) (length l)) (ap (λ p. p.put) x.taken) h.0),
-        zip_append (λ p d. HoldsAt (λ x. R x (Ok d)) P.put p) x.places y.places x.more y.more x.come y.come,
+        zip_append (λ p d. HoldsAt (λ x. R x (Ok d)) P.put p) x.indices y.indices x.more y.more x.come y.come,
         (
           h.1.0,
           (let o = h.1.1 in

@@ -3,7 +3,7 @@ pub use Rattle.srm_interfaces.specs.Crews
 pub use Rattle.srm_interfaces.specs.Hearers
 pub mod Pieces
 pub mod Notes
-pub mod Places
+pub mod Indices
 pub mod Passes
 pub mod Shared
 pub mod Recorded

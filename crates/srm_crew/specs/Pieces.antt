@@ -30,11 +30,11 @@ module _ {M : Type 0} where
       × GroupsMayHear f (traffic_of k net) (packets_in (arc_value sent).items) gs.items
 
   -- this comes of the piece: what comes of jobs for jobs, and of hearers for hearers
-  abbrev pub Gives : (M → Record) → PlainScenario → Network → Piece M → Worked M → Type 0
-  Gives f k net (Jobs js) (Advanced r) = AdvanceEach f k net js.items r
-  Gives f k net (Hearers sent gs) (Heard r) =
+  abbrev pub ComesOfPiece : (M → Record) → PlainScenario → Network → Piece M → Worked M → Type 0
+  ComesOfPiece f k net (Jobs js) (Advanced r) = AdvanceEach f k net js.items r
+  ComesOfPiece f k net (Hearers sent gs) (Heard r) =
       TellsHeard f (traffic_of k net) (packets_in (arc_value sent).items) gs.items r
-  Gives f k net _ _ = ⊥
+  ComesOfPiece f k net _ _ = ⊥
 
   -- the piece has these jobs
   abbrev pub IsJobsOf : Vec (Job M) → Piece M → Type 0

@@ -11,13 +11,13 @@ use Rattle.srm_interfaces.specs.declared.fault.CrewFault.{CrewFault}
 use Rattle.srm_interfaces.specs.declared.fault.CrewFault.TheVariants as fault
 use Rattle.srm_crew.specs.declared.bag_fault.SplitFault.{SplitFault}
 use Rattle.srm_crew.specs.declared.bag_fault.SplitFault.TheVariants as split
-use Rattle.srm_crew.specs.Places.{EachAtMostOnce}
+use Rattle.srm_crew.specs.Indices.{EachAtMostOnce}
 use Rattle.srm_crew.specs.Passes.{PassView, both_passes, TookEachAtMostOnce}
 use Rattle.srm_interfaces.specs.Crews.{HasGrown, IsPast, counted_in}
 
--- P holds of the item at a place of the list
+-- P holds of the item at an index of the list
 abbrev pub HoldsAt : {T : Type 0} → (T → Type 0) → List T → ℕ → Type 0
-HoldsAt {T} P items place = (x : T) × (slice_get items place ≡ Some x) × P x
+HoldsAt {T} P items index = (x : T) × (slice_get items index ≡ Some x) × P x
 
 -- the numbers at a word of all results, added up
 abbrev pub sum_of : {D : Type 0} → (D → List ℕ) → ℕ → List D → ℕ
@@ -28,9 +28,9 @@ sum_of numbers k (d ∷ ds) = counted_in (numbers d) k + sum_of numbers k ds
 abbrev pub with_list : {T : Type 0} → PassView T → List ℕ → PassView T
 with_list p taken = record { bag = p.bag; weight = p.weight; put = p.put; taken = taken }
 
--- each of these results stands at its place of the list
+-- each of these results stands at its index of the list
 abbrev pub InOrder : {D : Type 0} → List ℕ → List D → List D → Type 0
-InOrder places results all = (length all ≡ length results) × AllZip (λ p d. slice_get all p ≡ Some d) places results
+InOrder indices results all = (length all ≡ length results) × AllZip (λ p d. slice_get all p ≡ Some d) indices results
 
 -- why a pass and a seat of these weights are not halved: one of them has weight 1, or memory was refused
 abbrev pub MayNotHalve : ℕ → ℕ → SplitFault → Type 0
@@ -55,28 +55,27 @@ module _ {D : Type 0} where
       (d : D) × P (Ok d) × IsPast (counted_in (numbers d)) seat
 
 module _ {T D : Type 0} where
-  -- these may come of the items at these places
+  -- these may come of the items at these indices
   abbrev pub ComeOf : (T → Result D CellFault → Type 0) → List T → List ℕ → List D → Type 0
-  ComeOf R items places results = AllZip (λ p d. HoldsAt (λ x. R x (Ok d)) items p) places results
+  ComeOf R items indices results = AllZip (λ p d. HoldsAt (λ x. R x (Ok d)) items p) indices results
 
   -- why workers stop: nothing comes of an item; or the results of items, each taken once, are too many for the seat
   abbrev pub Stops : (T → Result D CellFault → Type 0) → (D → List ℕ) → List T → List ℕ → SeatView → CrewFault → Type 0
   Stops R numbers items taken seat fault.NoMemory = Unit {0}
-  Stops R numbers items taken seat fault.Spent = (place : ℕ) × HoldsAt (λ x. R x (Err cell.Spent)) items place
-  Stops R numbers items taken seat fault.CountFull = (place : ℕ) × HoldsAt (λ x. R x (Err cell.CountFull)) items place
+  Stops R numbers items taken seat fault.Spent = (index : ℕ) × HoldsAt (λ x. R x (Err cell.Spent)) items index
+  Stops R numbers items taken seat fault.CountFull = (index : ℕ) × HoldsAt (λ x. R x (Err cell.CountFull)) items index
   Stops R numbers items taken seat fault.ShareFull =
-      (places : List ℕ) × (results : List D) × EachAtMostOnce (taken ++ places) (length items)
-      × ComeOf R items places results × IsPast (λ k. sum_of numbers k results) seat
+      (indices : List ℕ) × (results : List D) × EachAtMostOnce (taken ++ indices) (length items)
+      × ComeOf R items indices results × IsPast (λ k. sum_of numbers k results) seat
 
-  -- items at more places were taken, what came of them stands behind the other results, and the seat has grown by their
-  -- numbers
+  -- more items were taken, what came of them stands behind the other results, and the seat has grown by their numbers
   pub record Worked (R : T → Result D CellFault → Type 0) (numbers : D → List ℕ) (pass : PassView T) (seat : SeatView)
       (results : List D) (new_pass : PassView T) (new_seat : SeatView) (new_results : List D) : Type 0 where
-    pub places : List ℕ
+    pub indices : List ℕ
     pub more : List D
-    pub taken : new_pass ≡ with_list pass (pass.taken ++ places)
+    pub taken : new_pass ≡ with_list pass (pass.taken ++ indices)
     pub gave : new_results ≡ results ++ more
-    pub come : ComeOf R pass.put places more
+    pub come : ComeOf R pass.put indices more
     pub grown : HasGrown (λ k. sum_of numbers k more) seat new_seat
 
   -- what workers tell

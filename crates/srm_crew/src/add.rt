@@ -15,12 +15,12 @@ use srm_ledger::ledger::{Ledger, Seat, ShareFull};
 use srm_ledger::totals::Totals;
 use srm_member::participant::Participant;
 
-// The kind at a place.
-fn kind_at(place: usize) -> Kind
-    requires { place < 5 }
-    ensures { place_of result ≡ place }
+// The kind whose number stands at an index of a link's five.
+fn kind_at(index: usize) -> Kind
+    requires { index < 5 }
+    ensures { place_of result ≡ index }
 {
-    match place {
+    match index {
         0 => Kind::Drawop,
         1 => Kind::Request,
         2 => Kind::Repair,

@@ -21,11 +21,11 @@ pub struct Advancing<'a> {
 }
 
 impl<'a, M: Participant> Work<Piece<M>, Worked<M>> for Advancing<'a> {
-    ghost use Rattle.srm_crew.specs.Pieces.{MayWork, Gives};
+    ghost use Rattle.srm_crew.specs.Pieces.{MayWork, ComesOfPiece};
 
     ghost ready = { λ w p. MayWork M.plain w.scenario.now w.net.now p };
 
-    ghost gives = { λ w p r. Gives M.plain w.scenario.now w.net.now p r };
+    ghost gives = { λ w p r. ComesOfPiece M.plain w.scenario.now w.net.now p r };
 
     fn work(&self, piece: Piece<M>) -> Worked<M> {
         match piece {

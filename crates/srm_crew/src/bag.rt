@@ -1,12 +1,12 @@
-//! A bag of items, each with a place of its own, from which threads take the oldest.
+//! A bag of items, each with an index, from which threads take the oldest.
 ghost use Rattle.std.specs.Prelude.{◌≡◌, ◌<◌, ◌≤◌, ◌+◌, ◌++◌, ◌⊎◌, ◌↔◌, ℕ, Some, length, slice_get, vec_capacity, IfOk, MatchOption, MatchResult};
 ghost use Rattle.srm_net.specs.Limits.{most_nodes};
-ghost use Rattle.srm_crew.specs.Places.{EachOnce, AllBelow};
+ghost use Rattle.srm_crew.specs.Indices.{EachOnce, AllBelow};
 ghost use Rattle.srm_crew.specs.Passes.{PassView, fresh_pass, with_put, with_taken, half_with_list, half_without_list, both_passes, TellsPut, TellsTake, TellsEmpty, TookEachAtMostOnce};
 
 use crate::bag_fault::{BagFault, EmptyFault, PutFault, SplitFault};
 use crate::pass::{Pass, WHOLE};
-use crate::rule::{Both, Fits, Halves, Hold, OncePlaced, Puts, Spot, Takes};
+use crate::rule::{Both, Fits, Halves, Hold, Puts, Spot, StandOnce, Takes};
 use crate::taken::Taken;
 use crossbeam_queue::RuledArrayQueue;
 use srm_net::sequence::Sequence;
@@ -14,10 +14,10 @@ use std::alloc::Global;
 use std::marker::Model;
 use std::sync::Wait;
 
-/// A bag of items. Each item has a place: how many were put before it.
+/// A bag of items. Each item has an index: how many were put before it.
 #[derive(Drop)]
 pub struct Bag<T> {
-    queue: RuledArrayQueue<Spot<T>, Hold<T>, OncePlaced>,
+    queue: RuledArrayQueue<Spot<T>, Hold<T>, StandOnce>,
     room: usize,
 }
 
@@ -58,7 +58,7 @@ impl<T> Bag<T> {
         Ok((Bag { queue, room }, pass))
     }
 
-    /// Puts an item at the next place. Only the whole pass puts, and no more than the room in all. It does not allocate.
+    /// Puts an item, which has the next index. Only the whole pass puts, and no more than the room in all. It does not allocate.
     ///
     /// # Errors
     /// Refused exactly where one of these is so, the first first: `NotWhole`, the pass is not the whole; `Full`, as many items
@@ -75,7 +75,7 @@ impl<T> Bag<T> {
             return Err((item, PutFault::Full));
         }
         let spot = Spot {
-            place: pass.puts,
+            index: pass.puts,
             item,
         };
         match self.queue.push_as::<Puts, R>(rt, &mut pass.hold, spot) {
@@ -86,15 +86,15 @@ impl<T> Bag<T> {
         Ok(())
     }
 
-    /// The oldest item left, whose place goes to the end of the pass's list. At `None` the queue was empty at one moment of the
-    /// call: a whole pass has then taken every place. It does not allocate.
+    /// The oldest item left, whose index goes to the end of the pass's list. At `None` the queue was empty at one moment of the
+    /// call: a whole pass has then taken every item. It does not allocate.
     pub fn take<R: Wait>(&self, rt: &R, pass: &mut Pass<T>) -> Option<T>
         requires { pass.old.bag ≡ self.now.name }
         ensures bag { pass.new.bag ≡ pass.old.bag }
         ensures taken { TellsTake pass.old result pass.new }
     {
-        let Spot { place, item } = self.queue.pop_as::<Takes, R>(rt, &mut pass.hold)?;
-        pass.taken.push_reserved(place);
+        let Spot { index, item } = self.queue.pop_as::<Takes, R>(rt, &mut pass.hold)?;
+        pass.taken.push_reserved(index);
         Some(item)
     }
 
@@ -165,7 +165,7 @@ impl<T> Bag<T> {
             taken: other_taken,
         } = second;
         self.queue.absorb::<Both>(&mut mine, theirs);
-        // This look shows that the two weigh no more than the whole, and took no place twice.
+        // This look shows that the two weigh no more than the whole, and took no item twice.
         self.queue.learn_as::<Fits>(&mut mine);
         append(&mut taken, &other_taken);
         Pass {
@@ -203,7 +203,7 @@ impl<T> Bag<T> {
         } = pass;
         self.queue.learn_as::<Takes>(&mut mine);
         Ok(Taken {
-            places: Sequence::from_vec(taken),
+            indices: Sequence::from_vec(taken),
         })
     }
 }

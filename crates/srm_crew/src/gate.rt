@@ -6,7 +6,8 @@ use std::sync::Wait;
 
 /// What a worker passes with each item, after it took the item and before it works on it.
 pub trait Gate {
-    /// Called with the place of the item and the pass that took it, last of all.
+    /// Called with the index of the item, which is a job's place among the jobs of its window, and with the pass that took it,
+    /// last of all.
     fn enter<T, R: Wait>(&self, rt: &R, place: usize, pass: &Pass<T>)
         requires { IsLastTaken place pass.now };
 }

@@ -1,6 +1,6 @@
 //! Results, put in order.
 ghost use Rattle.std.specs.Prelude.{◌≡◌, ◌<◌, ℕ, length, map, Some, slice_get, slice_index, IfOk};
-ghost use Rattle.srm_crew.specs.Places.{EachOnce};
+ghost use Rattle.srm_crew.specs.Indices.{EachOnce};
 ghost use Rattle.srm_crew.specs.Shared.{InOrder};
 
 use std::alloc::{AllocError, Global};
@@ -16,17 +16,17 @@ fn empty_slots<D: Drop>(alloc: Global, count: usize) -> Result<Vec<Option<D>>, A
     Ok(slots)
 }
 
-// Puts each result into the slot of its place.
-fn scatter<D: Drop>(places: &[usize], slots: &mut Vec<Option<D>>, mut results: Vec<D>)
-    requires once { EachOnce places.now (length results.items) }
-    requires places { length places.now ≡ length results.items }
+// Puts each result into the slot of its index.
+fn scatter<D: Drop>(indices: &[usize], slots: &mut Vec<Option<D>>, mut results: Vec<D>)
+    requires once { EachOnce indices.now (length results.items) }
+    requires indices { length indices.now ≡ length results.items }
     requires slots { length slots.old.items ≡ length results.items }
     ensures long { length slots.new.items ≡ length results.items }
     ensures filled { (k : ℕ) → k < length results.items
-        → slice_get slots.new.items (slice_index places.now k) ≡ Some (slice_get results.items k) }
+        → slice_get slots.new.items (slice_index indices.now k) ≡ Some (slice_get results.items k) }
 {
     while let Some(last) = results.pop() {
-        slots[places[results.len()]] = Some(last);
+        slots[indices[results.len()]] = Some(last);
     }
 }
 
@@ -45,17 +45,17 @@ fn collect<D: Drop>(alloc: Global, slots: Vec<Option<D>>) -> Result<Vec<D>, Allo
     Ok(all)
 }
 
-/// Each result, at its place.
+/// Each result, at its index.
 pub(crate) fn in_order<D: Drop>(
     alloc: Global,
-    places: &[usize],
+    indices: &[usize],
     results: Vec<D>,
 ) -> Result<Vec<D>, AllocError>
-    requires once { EachOnce places.now (length results.items) }
-    requires places { length places.now ≡ length results.items }
-    ensures { IfOk result (λ v. InOrder places.now results.items v.items) }
+    requires once { EachOnce indices.now (length results.items) }
+    requires indices { length indices.now ≡ length results.items }
+    ensures { IfOk result (λ v. InOrder indices.now results.items v.items) }
 {
     let mut slots = empty_slots(alloc, results.len())?;
-    scatter(places, &mut slots, results);
+    scatter(indices, &mut slots, results);
     collect(alloc, slots)
 }

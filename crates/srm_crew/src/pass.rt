@@ -6,9 +6,9 @@ use crate::rule::{Hold, Spot};
 use std::marker::Model;
 
 /// The weights of all passes of a bag, added up.
-pub const WHOLE: u64 = 65_536;
+pub const WHOLE: u64 = srm_ledger::seat::WHOLE;
 
-/// Leave to take items from a bag. It has a weight, knows what was put, and lists the places that it took.
+/// Leave to take items from a bag. It has a weight, knows what was put, and lists the indices of the items that it took.
 #[derive(Drop)]
 pub struct Pass<T> {
     pub(crate) hold: crossbeam_queue::Pass<Spot<T>, Hold<T>>,
@@ -21,7 +21,8 @@ pub struct Pass<T> {
 impl<T> Model for Pass<T> {
     ghost use Rattle.std.specs.Prelude.{◌≡◌, ◌≤◌, [], length, vec_capacity};
     ghost use Rattle.crossbeam_queue.specs.Passes.{view as known};
-    ghost use Rattle.srm_crew.specs.Places.{hold_of};
+    ghost use Rattle.srm_ledger.specs.Weights.{whole_weight};
+    ghost use Rattle.srm_crew.specs.Indices.{hold_of};
     ghost use Rattle.srm_crew.specs.Passes.{PassView};
 
     ghost Value = { PassView T };
@@ -35,13 +36,13 @@ impl<T> Model for Pass<T> {
 
     ghost invariant = { λ p. (p.hold.me.1 ≡ []) × (known p.hold ≡ hold_of p.weight (known p.hold).put p.taken.items)
         × (p.puts ≡ length (known p.hold).put) × (p.puts ≤ p.room) × (p.room ≤ vec_capacity p.taken)
-        × (p.room ≡ p.hold.table_id.slots) × (1 ≤ p.weight) × (p.weight ≤ 65536) };
+        × (p.room ≡ p.hold.table_id.slots) × (1 ≤ p.weight) × (p.weight ≤ whole_weight) };
 }
 
 impl<T> Pass<T> {
-    /// The place that it took last, if it took any.
+    /// The index of the item that it took last, if it took any.
     pub fn last(&self) -> Option<usize>
-        ensures { MatchOption result (self.now.taken ≡ []) (λ place. IsLastTaken place self.now) }
+        ensures { MatchOption result (self.now.taken ≡ []) (λ index. IsLastTaken index self.now) }
     {
         if self.taken.is_empty() {
             return None;

@@ -7,26 +7,26 @@ use std::collections::LinkedList;
 pub struct Hold<T> {
     /// Its weight, 0 where it was joined away.
     pub weight: u64,
-    /// The items that were put, each at its place.
+    /// The items that were put, each at its index.
     pub put: LinkedList<T>,
-    /// The places that it took.
+    /// The indices of the items that it took.
     pub taken: LinkedList<usize>,
 }
 
-/// An item in the queue, with its place.
+/// An item in the queue, with its index.
 #[derive(Drop)]
 pub struct Spot<T> {
     /// How many items were put before it.
-    pub place: usize,
+    pub index: usize,
     /// The item.
     pub item: T,
 }
 
-/// The rule: each place put stands exactly once, in the queue or in one pass's list, with the item put there.
-pub struct OncePlaced;
+/// The rule: the index of each item put stands exactly once, in the queue with the item, or in one pass's list.
+pub struct StandOnce;
 
-impl<T> Protocol<Spot<T>, Hold<T>> for OncePlaced {
-    ghost use Rattle.srm_crew.specs.Places.{Kept, first_whole};
+impl<T> Protocol<Spot<T>, Hold<T>> for StandOnce {
+    ghost use Rattle.srm_crew.specs.Indices.{Kept, first_whole};
 
     ghost holds = { Kept };
 
@@ -37,13 +37,13 @@ impl<T> Protocol<Spot<T>, Hold<T>> for OncePlaced {
 pub(crate) struct Puts;
 
 impl<T> Outcome<Spot<T>, Hold<T>> for Puts {
-    ghost use Rattle.srm_crew.specs.Places.{puts};
+    ghost use Rattle.srm_crew.specs.Indices.{puts};
 
     ghost then = { puts };
 }
 
 impl<T> Lesson<Spot<T>, Hold<T>> for Puts {
-    ghost use Rattle.srm_crew.specs.Places.{short};
+    ghost use Rattle.srm_crew.specs.Indices.{short};
 
     ghost fact = { short };
 }
@@ -52,13 +52,13 @@ impl<T> Lesson<Spot<T>, Hold<T>> for Puts {
 pub(crate) struct Takes;
 
 impl<T> Outcome<Spot<T>, Hold<T>> for Takes {
-    ghost use Rattle.srm_crew.specs.Places.{takes_spot};
+    ghost use Rattle.srm_crew.specs.Indices.{takes_spot};
 
     ghost then = { takes_spot };
 }
 
 impl<T> Lesson<Spot<T>, Hold<T>> for Takes {
-    ghost use Rattle.srm_crew.specs.Places.{rests};
+    ghost use Rattle.srm_crew.specs.Indices.{rests};
 
     ghost fact = { rests };
 }
@@ -67,7 +67,7 @@ impl<T> Lesson<Spot<T>, Hold<T>> for Takes {
 pub(crate) struct Fits;
 
 impl<T> Lesson<Spot<T>, Hold<T>> for Fits {
-    ghost use Rattle.srm_crew.specs.Places.{fits};
+    ghost use Rattle.srm_crew.specs.Indices.{fits};
 
     ghost fact = { fits };
 }
@@ -76,7 +76,7 @@ impl<T> Lesson<Spot<T>, Hold<T>> for Fits {
 pub(crate) struct Halves;
 
 impl<T> Split<Hold<T>> for Halves {
-    ghost use Rattle.srm_crew.specs.Places.{first_hold, second_hold};
+    ghost use Rattle.srm_crew.specs.Indices.{first_hold, second_hold};
 
     ghost left = { first_hold };
 
@@ -87,7 +87,7 @@ impl<T> Split<Hold<T>> for Halves {
 pub(crate) struct Both;
 
 impl<T> Join<Hold<T>> for Both {
-    ghost use Rattle.srm_crew.specs.Places.{both_holds, spent_hold};
+    ghost use Rattle.srm_crew.specs.Indices.{both_holds, spent_hold};
 
     ghost both = { both_holds };
 

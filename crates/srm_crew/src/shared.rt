@@ -1,7 +1,7 @@
 //! Work on each of some items, shared among workers.
 ghost use Rattle.std.specs.Prelude.{◌≡◌, ◌≤◌, ◌*◌, ℕ, List, [], length, All, Ok, IfOk};
 ghost use Rattle.srm_net.specs.Limits.{most_nodes};
-ghost use Rattle.srm_crew.specs.Places.{EachOnce};
+ghost use Rattle.srm_crew.specs.Indices.{EachOnce};
 ghost use Rattle.srm_crew.specs.Passes.{fresh_pass};
 ghost use Rattle.srm_crew.specs.Shared.{TellsWork, TellsAll};
 
@@ -108,7 +108,7 @@ pub(crate) fn by_workers<
     let Ok(taken) = bag.empty(pass) else {
         unreachable!();
     };
-    match in_order(alloc, taken.places.as_slice(), results) {
+    match in_order(alloc, taken.indices.as_slice(), results) {
         Ok(all) => Ok((all, seat)),
         Err(AllocError) => Err(CrewFault::NoMemory),
     }

@@ -1,6 +1,6 @@
 //! One worker: it takes items from a bag until there are none.
 ghost use Rattle.std.specs.Prelude.{◌≡◌, ◌*◌, ℕ, List, length, All, Ok, IfOk};
-ghost use Rattle.srm_crew.specs.Places.{EachOnce};
+ghost use Rattle.srm_crew.specs.Indices.{EachOnce};
 ghost use Rattle.srm_crew.specs.Shared.{TellsItem, TellsWork};
 
 use crate::add::add_crossings;
@@ -63,10 +63,10 @@ pub(crate) fn work_alone<
         let Some(item) = bag.take(rt, &mut pass) else {
             return Ok((pass, seat, results));
         };
-        let Some(place) = pass.last() else {
+        let Some(index) = pass.last() else {
             unreachable!();
         };
-        gate.enter(rt, place, &pass);
+        gate.enter(rt, index, &pass);
         match work_on(ledger, &mut seat, &mut results, work, item) {
             Ok(()) => {}
             Err(fault) => return Err(fault),

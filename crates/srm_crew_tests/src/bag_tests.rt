@@ -126,23 +126,23 @@ fn taken_by_first_half<R: Abort + Wait>(
     bag.join(first, second)
 }
 
-// Asserts that the bag is emptied by this pass, which took these places.
-fn expect_places(rt: &impl Abort, bag: Bag<u32>, pass: Pass<u32>, places: &[usize])
+// Asserts that the bag is emptied by this pass, which took the items of these indices.
+fn expect_indices(rt: &impl Abort, bag: Bag<u32>, pass: Pass<u32>, indices: &[usize])
     requires { pass.bag ≡ bag.name }
 {
     match bag.empty(pass) {
-        Ok(taken) => assert_eq!(rt; taken.places.as_slice(), places),
+        Ok(taken) => assert_eq!(rt; taken.indices.as_slice(), indices),
         Err(_) => panic!(rt; "not emptied"),
     }
 }
 
 // The first pass takes 0, and after the join with the second, which takes 1, its first half takes 2.
 #[test]
-fn a_join_puts_the_places_of_the_first_pass_first(rt: HostRuntime) {
+fn a_join_puts_the_list_of_the_first_pass_first(rt: HostRuntime) {
     let (bag, pass) = bag_of(&rt, rt.alloc(), 3, &[10, 11, 12]);
     let pass = taken_by_halves(&rt, rt.alloc(), &bag, pass);
     let pass = taken_by_first_half(&rt, rt.alloc(), &bag, pass);
-    expect_places(&rt, bag, pass, &[0, 1, 2]);
+    expect_indices(&rt, bag, pass, &[0, 1, 2]);
 }
 
 // The first half of the first half and so on, after so many splits.

@@ -1,5 +1,5 @@
 -- The windows of an engine: its jobs, what a crew did, and its rows.
-use Rattle.std.proofs.Common.{◌≡◌, ℕ, zero, suc, ◌<◌, ◌≤◌, ◌+◌, ◌^◌, min, List, [], ◌∷◌, ◌++◌, Ok, Err, refl, sym, ap, ◌∙◌, subst, arith}
+use Rattle.std.proofs.Common.{◌≡◌, ℕ, suc, ◌<◌, ◌≤◌, ◌+◌, ◌^◌, min, List, [], ◌∷◌, ◌++◌, Ok, Err, refl, sym, ap, ◌∙◌, subst, arith}
 use Rattle.std.proofs.Common.{inl, inr}
 use Rattle.std.proofs.Common.{All, IsSorted, IsPermutation, length, map, drop, slice_index, ◌*◌}
 use Rattle.std.proofs.lemmas.List.{map-append, length-map}
@@ -16,7 +16,6 @@ use Rattle.srm_member.specs.declared.row.Row.{Row}
 use Rattle.srm_member.specs.Record.{Record}
 use Rattle.srm_ledger.specs.Seats.{LedgerView, SeatView, totals_of, whole_seat}
 use Rattle.srm_interfaces.proofs.Sums.{crossings_long}
-use Rattle.srm_cell.proofs.RowPackets.{nothing_counted, numbers_are}
 use Rattle.srm_cell.specs.declared.cell.Cell.{Cell}
 use Rattle.srm_cell.specs.declared.job.Job.{Job}
 use Rattle.srm_cell.specs.declared.job.Done as job

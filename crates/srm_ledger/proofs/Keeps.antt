@@ -11,9 +11,10 @@ use lib.ListN.{get_elem?}
 use Rattle.atomic_table.specs.Table.{State, keeps, step, Allows, Splits, Joins, Final, Seen}
 use Rattle.atomic_table.proofs.Lists.{at_set, at_snoc, at_index}
 use Rattle.srm_ledger.proofs.Zips.{added_at, larger_at}
-use Rattle.srm_ledger.proofs.SumsOver.{total_set, total_snoc, total_part, total_most}
+use Rattle.srm_ledger.proofs.SumsOver.{total_set, total_part, total_most, total_split, total_join, halves_joined}
 use Rattle.srm_ledger.specs.declared.rule.Holding.{Holding}
-use Rattle.srm_ledger.specs.Tally.{spent, total, weight_of, share_at, seen_at, SeatOk, Tallied, Finds, grew, saw, adds, reads, first_half}
+use Rattle.srm_ledger.specs.Weights.{total}
+use Rattle.srm_ledger.specs.Tally.{spent, weight_of, share_at, seen_at, SeatOk, Tallied, Finds, grew, saw, adds, reads, first_half}
 use Rattle.srm_ledger.specs.Tally.{second_half, joined_holding, AllFit, AreWords}
 
 -- an empty seat adds nothing
@@ -145,10 +146,8 @@ split_allowed n id v two s h at =
     let ok = h.seats id v at in
     record {
       wide = h.wide;
-      whole = (let a = total_set weight_of s.views id v l at in let b = total_snoc weight_of (set s.views id l) r in let e = h.whole in
-          omega arith);
-      summed = λ k. (let a = total_set (share_at k) s.views id v l at in let b = total_snoc (share_at k) (set s.views id l) r in let z =
-          zero_at k in let e = h.summed k in omega arith);
+      whole = total_split weight_of s.views id v l r at (halves_joined v.weight) ∙ h.whole;
+      summed = λ k. let z = zero_at k in h.summed k ∙ sym (total_split (share_at k) s.views id v l r at (omega arith));
       spare = h.spare;
       seats = λ j u e. ⊎_elim
           (λ x. ⊎_elim
@@ -176,10 +175,9 @@ join_allowed n id v other w alive fit s h at two at' =
     let ok' = h.seats other w was in
     record {
       wide = h.wide;
-      whole = (let x = total_set weight_of s.views id v b at in let y = total_set weight_of vs other w spent at' in let e = h.whole in
-          omega arith);
-      summed = λ k. (let x = total_set (share_at k) s.views id v b at in let y = total_set (share_at k) vs other w spent at' in let e =
-          h.summed k in let m = added_at v.shares w.shares k in omega arith);
+      whole = total_join weight_of s.views id other v w b spent at at' (omega arith) ∙ h.whole;
+      summed = λ k. let m = added_at v.shares w.shares k in
+          h.summed k ∙ sym (total_join (share_at k) s.views id other v w b spent at at' (omega arith));
       spare = h.spare;
       seats = λ j u e. ⊎_elim
           (λ (t : (j ≡ other) × (spent ≡ u)). subst (SeatOk s.words) t.1

@@ -4,6 +4,7 @@ use mathlib.Core.Option.{some}
 use lib.ListN.{get_elem?}
 use Rattle.atomic_table.specs.Table.{State}
 use Rattle.srm_ledger.specs.declared.rule.Holding.{Holding}
+use Rattle.srm_ledger.specs.Weights.{whole_weight}
 use Rattle.srm_ledger.specs.Tally.{Tallied, share_at, seen_at}
 
 -- the words and seats of a table without slots
@@ -17,7 +18,7 @@ WordsNeverWrap = (n : ℕ) (s : Seats) (k : ℕ) → Tallied n s → slice_index
 -- a seat of the whole weight has just the words as its shares
 abbrev pub WholeSeatsHaveTheWords : Type 0
 WholeSeatsHaveTheWords =
-    (n : ℕ) (s : Seats) (j : ℕ) (v : Holding) → Tallied n s → get_elem? s.views j ≡ some v → v.weight ≡ 65536
+    (n : ℕ) (s : Seats) (j : ℕ) (v : Holding) → Tallied n s → get_elem? s.views j ≡ some v → v.weight ≡ whole_weight
     → (k : ℕ) → slice_index s.words k ≡ share_at k v
 
 -- what a seat read is not above the word

@@ -1,5 +1,5 @@
 -- What a contract sees of a ledger and a seat.
-use Rattle.std.specs.Prelude.{◌≡◌, ◌≤◌, ◌<◌, ℕ, ◌+◌, ◌*◌, ◌-◌, ◌/◌, ◌^◌, List, [], replicate, length, drop, slice_index}
+use Rattle.std.specs.Prelude.{◌≡◌, ◌≤◌, ◌<◌, ℕ, ◌+◌, ◌*◌, ◌^◌, List, [], replicate, length, drop, slice_index}
 use Rattle.std.specs.Prelude.{slice_set}
 use Rattle.atomic_table.specs.Seated.{TableId}
 use Rattle.atomic_table.specs.Table.{Me}
@@ -7,6 +7,7 @@ use Rattle.srm_net.specs.Limits.{most_links}
 use Rattle.srm_ledger.specs.declared.kind.Kind.{Kind}
 use Rattle.srm_ledger.specs.declared.rule.Holding.{Holding}
 use Rattle.srm_ledger.specs.Counts.{place_of, counted_at}
+use Rattle.srm_ledger.specs.Weights.{whole_weight, first_weight, second_weight, joined_weight}
 use Rattle.srm_ledger.specs.Tally.{holding, added, larger, AllSmall}
 
 -- a ledger: its name, and how many links it has
@@ -45,7 +46,7 @@ seen_there s link kind = slice_index s.seen (word_at link kind)
 abbrev pub whole_seat : TableId → ℕ → SeatView
 whole_seat name links = record {
   ledger = name;
-  weight = 65536;
+  weight = whole_weight;
   shares = replicate (words_of links) 0;
   seen = replicate (words_of links) 0;
 }
@@ -80,7 +81,7 @@ with_seen s link kind x = record {
 abbrev pub half_with_shares : SeatView → SeatView
 half_with_shares s = record {
   ledger = s.ledger;
-  weight = s.weight - s.weight / 2;
+  weight = first_weight s.weight;
   shares = s.shares;
   seen = s.seen;
 }
@@ -89,7 +90,7 @@ half_with_shares s = record {
 abbrev pub half_without : SeatView → SeatView
 half_without s = record {
   ledger = s.ledger;
-  weight = s.weight / 2;
+  weight = second_weight s.weight;
   shares = replicate (length s.shares) 0;
   seen = s.seen;
 }
@@ -98,7 +99,7 @@ half_without s = record {
 abbrev pub both_seats : SeatView → SeatView → SeatView
 both_seats s t = record {
   ledger = s.ledger;
-  weight = s.weight + t.weight;
+  weight = joined_weight s.weight t.weight;
   shares = added s.shares t.shares;
   seen = larger s.seen t.seen;
 }
@@ -124,5 +125,5 @@ IsSeat me words weight shares seen =
     × (length shares ≡ words)
     × (length seen ≡ words)
     × (1 ≤ weight)
-    × (weight ≤ 65536)
+    × (weight ≤ whole_weight)
     × AllSmall shares

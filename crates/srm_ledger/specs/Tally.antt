@@ -1,10 +1,11 @@
 -- The rule of the ledger: its words, and for each seat a weight, a share of each word and a number seen there.
-use Rattle.std.specs.Prelude.{◌≡◌, ℕ, ◌+◌, ◌-◌, ◌/◌, ◌^◌, ◌<◌, ◌≤◌, List, [], ◌∷◌, length, max, replicate, slice_index}
+use Rattle.std.specs.Prelude.{◌≡◌, ℕ, ◌+◌, ◌^◌, ◌<◌, ◌≤◌, List, [], ◌∷◌, length, max, replicate, slice_index}
 use Rattle.std.specs.Prelude.{slice_set}
 use mathlib.Core.Option.{some}
 use lib.ListN.{get_elem?}
 use Rattle.atomic_table.specs.Table.{State, Me, Step}
 use Rattle.srm_ledger.specs.declared.rule.Holding.{Holding}
+use Rattle.srm_ledger.specs.Weights.{total, whole_weight, WeighWhole, first_weight, second_weight, joined_weight}
 
 -- what the rule knows of a seat: its weight, its shares, and what it last read
 abbrev pub holding : ℕ → List ℕ → List ℕ → Holding
@@ -13,11 +14,6 @@ holding w xs ys = record { weight = w; shares = xs; seen = ys }
 -- a seat that was joined away
 abbrev pub spent : Holding
 spent = holding 0 [] []
-
--- f of each seat, or of whatever a list has, added up
-abbrev pub total : {V : Type 0} → (V → ℕ) → List V → ℕ
-total f [] = 0
-total f (v ∷ vs) = f v + total f vs
 
 -- the weight of a seat
 abbrev pub weight_of : Holding → ℕ
@@ -64,7 +60,7 @@ pub record SeatOk (words : List ℕ) (v : Holding) : Type 0 where
 -- the rule, over n words: weights add up to the whole, each word is the sum of its seats' shares, the spare one is 0
 pub record Tallied {S : Type 0} (n : ℕ) (s : State S Holding) : Type 0 where
   pub wide : length s.words ≡ n
-  pub whole : total weight_of s.views ≡ 65536
+  pub whole : WeighWhole weight_of s.views
   pub summed : (k : ℕ) → slice_index s.words k ≡ total (share_at k) s.views
   pub spare : slice_index s.words 0 ≡ 0
   pub seats : (j : ℕ) (v : Holding) → get_elem? s.views j ≡ some v → SeatOk s.words v
@@ -73,7 +69,7 @@ pub record Tallied {S : Type 0} (n : ℕ) (s : State S Holding) : Type 0 where
 
 -- opening: the first seat of n words
 abbrev pub opened : ℕ → Holding
-opened n = holding 65536 (replicate n 0) (replicate n 0)
+opened n = holding whole_weight (replicate n 0) (replicate n 0)
 
 -- an add of d to word k
 abbrev pub grew : Holding → ℕ → ℕ → Holding
@@ -87,9 +83,9 @@ saw v k x = holding v.weight v.shares (slice_set v.seen k x)
 pub record Finds (v : Holding) (k x : ℕ) : Type 0 where
   pub own : share_at k v ≤ x
   pub before : seen_at k v ≤ x
-  pub whole : v.weight ≡ 65536 → x ≡ share_at k v
+  pub whole : v.weight ≡ whole_weight → x ≡ share_at k v
   pub spare : k ≡ 0 → x ≡ 0
-  pub part : v.weight ≤ 65536
+  pub part : v.weight ≤ whole_weight
 
 module _ {S : Type 0} where
   -- an add tells that the seat's share has grown by what was added
@@ -102,15 +98,15 @@ module _ {S : Type 0} where
 
 -- a split: the first half keeps the shares and the larger half of the weight
 abbrev pub first_half : Holding → Holding
-first_half v = holding (v.weight - v.weight / 2) v.shares v.seen
+first_half v = holding (first_weight v.weight) v.shares v.seen
 
 -- and the second has added nothing; both keep what was read
 abbrev pub second_half : Holding → Holding
-second_half v = holding (v.weight / 2) (replicate (length v.shares) 0) v.seen
+second_half v = holding (second_weight v.weight) (replicate (length v.shares) 0) v.seen
 
 -- a join: the second seat is spent
 abbrev pub joined_holding : Holding → Holding → Holding
-joined_holding v w = holding (v.weight + w.weight) (added v.shares w.shares) (larger v.seen w.seen)
+joined_holding v w = holding (joined_weight v.weight w.weight) (added v.shares w.shares) (larger v.seen w.seen)
 
 -- ---- the end
 

@@ -6,7 +6,7 @@ abbrev pub invariant-loop-last : goal.invariant-loop-last
 invariant-loop-last g l = record {
   rest : (tail : List _) × (l.fn.results.items ≡ l.results.items ++ tail);
   long : length l.slots.items ≡ length l.fn.results.items;
-  filled : FilledFrom l.places l.fn.results.items (length l.results.items) l.slots.items;
+  filled : FilledFrom l.indices l.fn.results.items (length l.results.items) l.slots.items;
 }
 
 abbrev pub decreases-loop-last : goal.decreases-loop-last

@@ -1,6 +1,6 @@
 use Rattle.std.proofs.Common.{◌∙◌}
 use Rattle.srm_crew.proofs.WorkedLemmas.{stops_of}
-use Rattle.srm_crew.proofs.Ordering.{all_told, all_placed, not_refused}
+use Rattle.srm_crew.proofs.Ordering.{all_told, all_indexed, not_refused}
 use Rattle.srm_crew.proofs.shared.by_workers.Goals as goal
 
 pub returns-in-Err : goal.returns-in-Err
@@ -17,15 +17,15 @@ unreachable-requires g c =
 pub in_order-requires-clause-once : goal.in_order-requires-clause-once
 in_order-requires-clause-once g c =
     let all =
-    all_placed (λ x r. goal.F-post g c.args.work x r) g.D.Counted.numbers c.args.items.items c.put_all-pass.result c.in-Ok-shared.shared.0
+    all_indexed (λ x r. goal.F-post g c.args.work x r) g.D.Counted.numbers c.args.items.items c.put_all-pass.result c.in-Ok-shared.shared.0
     c.args.seat c.in-Ok-shared.shared.1 c.in-Ok-shared.shared.2.items c.as_slice.result.now c.put_all-pass.ensures.2
     c.put_all-pass.ensures.3 c.in-Ok-shared.ensures.work (c.as_slice.ensures ∙ c.in-Ok-empty.ensures.1) c.in-Ok-empty.ensures.3 in
     all.once
 
-pub in_order-requires-clause-places : goal.in_order-requires-clause-places
-in_order-requires-clause-places g c =
+pub in_order-requires-clause-indices : goal.in_order-requires-clause-indices
+in_order-requires-clause-indices g c =
     let all =
-    all_placed (λ x r. goal.F-post g c.args.work x r) g.D.Counted.numbers c.args.items.items c.put_all-pass.result c.in-Ok-shared.shared.0
+    all_indexed (λ x r. goal.F-post g c.args.work x r) g.D.Counted.numbers c.args.items.items c.put_all-pass.result c.in-Ok-shared.shared.0
     c.args.seat c.in-Ok-shared.shared.1 c.in-Ok-shared.shared.2.items c.as_slice.result.now c.put_all-pass.ensures.2
     c.put_all-pass.ensures.3 c.in-Ok-shared.ensures.work (c.as_slice.ensures ∙ c.in-Ok-empty.ensures.1) c.in-Ok-empty.ensures.3 in
     all.many
@@ -33,7 +33,7 @@ in_order-requires-clause-places g c =
 pub returns-in-Ok-in_order : goal.returns-in-Ok-in_order
 returns-in-Ok-in_order g c =
     let all =
-    all_placed (λ x r. goal.F-post g c.args.work x r) g.D.Counted.numbers c.args.items.items c.put_all-pass.result c.in-Ok-shared.shared.0
+    all_indexed (λ x r. goal.F-post g c.args.work x r) g.D.Counted.numbers c.args.items.items c.put_all-pass.result c.in-Ok-shared.shared.0
     c.args.seat c.in-Ok-shared.shared.1 c.in-Ok-shared.shared.2.items c.as_slice.result.now c.put_all-pass.ensures.2
     c.put_all-pass.ensures.3 c.in-Ok-shared.ensures.work (c.as_slice.ensures ∙ c.in-Ok-empty.ensures.1) c.in-Ok-empty.ensures.3 in
     all_told (λ x r. goal.F-post g c.args.work x r) g.D.Counted.numbers c.args.items.items c.put_all-pass.result c.in-Ok-shared.shared.0

@@ -1,9 +1,9 @@
--- The rule of the bag: each place put stands exactly once, in the queue or in one pass's list, with the item put there.
-use Rattle.std.specs.Prelude.{◌≡◌, ℕ, ◌+◌, ◌-◌, ◌/◌, ◌<◌, ◌≤◌, List, [], ◌∷◌, ◌++◌, length, cond, ◌==◌, slice_index}
+-- The rule of the bag: each put item's index stands exactly once, in the queue with the item or in one pass's list.
+use Rattle.std.specs.Prelude.{◌≡◌, ℕ, ◌+◌, ◌<◌, ◌≤◌, List, [], ◌∷◌, ◌++◌, length, cond, ◌==◌, slice_index}
 use Rattle.std.specs.Prelude.{slice_get, Some}
 use mathlib.Core.Option.{some}
 use lib.ListN.{get_elem?}
-use Rattle.srm_ledger.specs.Tally.{total}
+use Rattle.srm_ledger.specs.Weights.{total, whole_weight, WeighWhole, first_weight, second_weight, joined_weight}
 use Rattle.srm_crew.specs.declared.rule.Hold.{Hold}
 use Rattle.srm_crew.specs.declared.rule.Spot.{Spot}
 
@@ -16,7 +16,7 @@ module _ {T : Type 0} where
   spent_hold = hold_of 0 [] []
 
   abbrev pub first_whole : Hold T
-  first_whole = hold_of 65536 [] []
+  first_whole = hold_of whole_weight [] []
 
 -- how often p stands in the list
 abbrev pub times : ℕ → List ℕ → ℕ
@@ -44,22 +44,22 @@ module _ {T : Type 0} where
   abbrev pub times_of : ℕ → Hold T → ℕ
   times_of p v = times p v.taken
 
--- what is so of a pass: joined away it has nothing; else it knows what was put. Its places are below the oldest in the
+-- what is so of a pass: joined away it has nothing; else it knows what was put. Its indices are below the oldest in the
 -- queue
 pub record PassOk {T : Type 0} (put : List T) (popped : ℕ) (v : Hold T) : Type 0 where
   pub spent_is : v.weight ≡ 0 → v ≡ spent_hold
   pub knows : 1 ≤ v.weight → v.put ≡ put
   pub below : AllBelow v.taken popped
 
--- the places below popped stand in the lists, each once; the queue has the others, in rising order; the weights are
+-- the indices below popped stand in the lists, each once; the queue has the others, in rising order; the weights are
 -- 65536 in all
 pub record Kept {T : Type 0} (items : List (Spot T)) (views : List (Hold T)) : Type 0 where
   pub put : List T
   pub popped : ℕ
   pub behind : popped + length items ≡ length put
-  pub queued : (k : ℕ) (x : Spot T) → get_elem? items k ≡ some x → (x.place ≡ popped + k)
+  pub queued : (k : ℕ) (x : Spot T) → get_elem? items k ≡ some x → (x.index ≡ popped + k)
       × (slice_get put (popped + k) ≡ Some x.item)
-  pub whole : total hold_weight views ≡ 65536
+  pub whole : WeighWhole hold_weight views
   pub counted : total count_of views ≡ popped
   pub once : (p : ℕ) → p < popped → total (times_of p) views ≡ 1
   pub never : (p : ℕ) → popped ≤ p → total (times_of p) views ≡ 0
@@ -71,9 +71,9 @@ module _ {T : Type 0} where
   puts v x w = w ≡ hold_of v.weight (v.put ++ x.item ∷ []) v.taken
 
   abbrev pub takes_spot : Hold T → Spot T → Hold T → Type 0
-  takes_spot v x w = (w ≡ hold_of v.weight v.put (v.taken ++ x.place ∷ [])) × (slice_get v.put x.place ≡ Some x.item)
-      × AllBelow v.taken x.place × (length v.taken < length v.put)
-      × EachAtMostOnce (v.taken ++ x.place ∷ []) (length v.put)
+  takes_spot v x w = (w ≡ hold_of v.weight v.put (v.taken ++ x.index ∷ [])) × (slice_get v.put x.index ≡ Some x.item)
+      × AllBelow v.taken x.index × (length v.taken < length v.put)
+      × EachAtMostOnce (v.taken ++ x.index ∷ []) (length v.put)
 
 module _ {T : Type 0} where
   -- no more is queued than was put
@@ -82,19 +82,19 @@ module _ {T : Type 0} where
 
   -- where the whole pass looks, all that is not queued is in its list
   abbrev pub rests : Hold T → List (Spot T) → Type 0
-  rests v items = v.weight ≡ 65536 → (length v.taken + length items ≡ length v.put)
+  rests v items = v.weight ≡ whole_weight → (length v.taken + length items ≡ length v.put)
       × (length items ≡ 0 → EachOnce v.taken (length v.put))
 
-  -- a pass weighs no more than the whole, took no place twice, and took no more places than were put
+  -- a pass weighs no more than the whole, took no index twice, and took no more of them than items were put
   abbrev pub fits : Hold T → List (Spot T) → Type 0
-  fits v items = (v.weight ≤ 65536) × (length v.taken ≤ length v.put) × EachAtMostOnce v.taken (length v.put)
+  fits v items = (v.weight ≤ whole_weight) × (length v.taken ≤ length v.put) × EachAtMostOnce v.taken (length v.put)
 
 module _ {T : Type 0} where
   abbrev pub first_hold : Hold T → Hold T
-  first_hold v = hold_of (v.weight - v.weight / 2) v.put v.taken
+  first_hold v = hold_of (first_weight v.weight) v.put v.taken
 
   abbrev pub second_hold : Hold T → Hold T
-  second_hold v = hold_of (v.weight / 2) v.put []
+  second_hold v = hold_of (second_weight v.weight) v.put []
 
   abbrev pub both_holds : Hold T → Hold T → Hold T
-  both_holds v w = hold_of (v.weight + w.weight) v.put (v.taken ++ w.taken)
+  both_holds v w = hold_of (joined_weight v.weight w.weight) v.put (v.taken ++ w.taken)
