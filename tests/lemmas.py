@@ -1,16 +1,17 @@
 #!/usr/bin/env python3
-"""Finds lemmas and definitions of proofs/ that nothing names, and lemmas that stand twice: they take the prover's time and the reader's.
+"""Finds lemmas and definitions of proofs/ that nothing names, and lemmas that stand twice: they take the prover's time and the
+reader's.
 
 usage: tests/lemmas.py
 
-A word is looked up in the file where it stands, as the prover does: it names what the file declares, or what a `use` line of the file
-brings in. So a lemma of the same name in another file hides nothing. What is named only where it is brought in, in its own text, or by
-what nothing names either, counts as named by nothing. A tactic reads no lemma but those that it is given by name, so there is no other
-way to use one. The goals and invariants of a function (Answers.antt, Invariants.antt) are named by the prover.
+A word is looked up in the file where it stands, as the prover does: it names what the file declares, or what a `use` line of the
+file brings in. So a lemma of the same name in another file hides nothing. What is named only where it is brought in, in its own
+text, or by what nothing names either, counts as named by nothing. A tactic reads no lemma but those that it is given by name, so
+there is no other way to use one. The goals and invariants of a function (Answers.antt, Invariants.antt) are named by the prover.
 
-A lemma stands twice where its statement does, but for the names of its variables, in two files that may cite one another: of one crate,
-or of two of which one stands on the other. What a `where` declares is of its clause alone, and is no copy. Ends with status 1 where
-something is found.
+A lemma stands twice where its statement does, but for the names of its variables, in two files that may cite one another: of one
+crate, or of two of which one stands on the other. What a `where` declares is of its clause alone, and is no copy. Ends with status
+1 where something is found.
 """
 import dataclasses
 import functools
@@ -183,7 +184,7 @@ class Scopes:
         return next(filter(None, found), None)
 
     def meaning(self, file: File, word: str, variables: Mapping[str, str]) -> str:
-        """A word of a file with what it names in place of itself: two files may mean two things by it, or one thing by two words."""
+        """A word of a file with what it names in place of itself: two files may mean two things by it, or one by two words."""
         first, *more = word.split(".")
         if first in variables:
             first = variables[first]

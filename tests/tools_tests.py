@@ -499,7 +499,8 @@ class Lemmas(unittest.TestCase):
         self.assertEqual(told, [self.FOLDER + "Answers.antt:8: nothing names by"])
 
     def test_a_helper_of_an_answer_is_not_named_by_the_prover(self) -> None:
-        self.assertEqual(self.unnamed("", Answers=self.LATER.replace("pub ", "")), [self.FOLDER + "Answers.antt:1: nothing names later"])
+        found = self.unnamed("", Answers=self.LATER.replace("pub ", ""))
+        self.assertEqual(found, [self.FOLDER + "Answers.antt:1: nothing names later"])
 
     def test_a_record_is_named_by_its_name_and_a_type_by_a_constructor_too(self) -> None:
         record = "pub record Both : Type 0 where\n  first : ℕ\n  second : ℕ\n"
@@ -529,7 +530,8 @@ class Copies(unittest.TestCase):
         self.assertEqual(self.copies(middle=self.LEAST, other=self.LEAST), [])
 
     def test_other_words_of_the_same_spelling_state_something_else(self) -> None:
-        one, two = ("abbrev size : ℕ → ℕ\nsize n = n{}\n\nmost : (n : ℕ) → size n ≤ n + n\nmost n = omega arith\n".format(it) for it in ("", " + n"))
+        text = "abbrev size : ℕ → ℕ\nsize n = n{}\n\nmost : (n : ℕ) → size n ≤ n + n\nmost n = omega arith\n"
+        one, two = (text.format(it) for it in ("", " + n"))
         self.assertEqual(self.copies(low=one, middle=two), [])
         brought_in = "use Rattle.low.proofs.Lemmas.{size}\n" + one.partition("\n\n")[2]
         self.assertEqual(len(self.copies(low=one.replace("abbrev ", "abbrev pub "), middle=brought_in)), 1)
