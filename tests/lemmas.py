@@ -10,8 +10,8 @@ text, or by what nothing names either, counts as named by nothing. A tactic read
 there is no other way to use one. The goals and invariants of a function (Answers.antt, Invariants.antt) are named by the prover.
 
 A lemma stands twice where its statement does, but for the names of its variables, in two files that may cite one another: of one
-crate, or of two of which one stands on the other. What a `where` declares is of its clause alone, and is no copy. Ends with status
-1 where something is found.
+crate, or of two of which one stands on the other. What a `where` declares is of its clause alone, and is no copy. Ends with
+status 1 where something is found.
 """
 import dataclasses
 import functools
