@@ -3,6 +3,7 @@ pub(crate) mod boxed;
 mod case;
 mod cases;
 pub(crate) mod handing;
+mod in_team;
 mod mapped;
 pub(crate) mod seats;
 mod seen;

@@ -41,10 +41,10 @@ pub(crate) struct Case {
 }
 
 impl Case {
-    /// Asserts that this came of a window.
-    pub(crate) fn expect(&self, rt: &impl Abort, place: usize, window: &Window) {
-        let Some(wanted) = self.windows.get(place).copied() else {
-            assert!(rt; false, "window {place} is not refused");
+    /// Asserts that this came of a window, of those counted from 0.
+    pub(crate) fn expect(&self, rt: &impl Abort, index: usize, window: &Window) {
+        let Some(wanted) = self.windows.get(index).copied() else {
+            assert!(rt; false, "window {index} is not refused");
             return;
         };
         let seen = (
@@ -56,7 +56,7 @@ impl Case {
         assert_eq!(rt;
             seen,
             expected,
-            "rows, crossings and next times of window {place}"
+            "rows, crossings and next times of window {index}"
         );
     }
 
@@ -67,13 +67,13 @@ impl Case {
     pub(crate) fn expect_fault(
         &self,
         rt: &impl Abort,
-        place: usize,
+        index: usize,
         fault: CrewFault,
     ) -> Result<(), AllocError> {
         if fault == CrewFault::NoMemory {
             return Err(AllocError);
         }
-        assert_eq!(rt; (place, Some(fault)), (self.windows.len(), self.fault));
+        assert_eq!(rt; (index, Some(fault)), (self.windows.len(), self.fault));
         Ok(())
     }
 

@@ -14,6 +14,7 @@ use srm_crew::bag_crew::BagCrew;
 use srm_crew::gate::OpenGate;
 use srm_crew::plain::PlainCrew;
 use srm_crew::pool::PoolCrew;
+use srm_crew::recording::Recording;
 use srm_examples::watched::{Watch, Watched};
 use srm_ledger::ledger::{Ledger, Seat};
 use srm_member::fault::MemberFault;
@@ -94,8 +95,8 @@ fn first_member(
     Ok(member)
 }
 
-// The jobs of a case's first window: the cell of each member, alone.
-fn first_jobs(
+/// The jobs of a case's first window: the cell of each member, alone.
+pub(crate) fn first_jobs(
     rt: &impl Abort,
     alloc: Global,
     scenario: &Scenario,
@@ -132,7 +133,7 @@ fn map_next<C: BoxCrew>(
     seat: Seat,
     jobs: Vec<Job>,
     case: &Case,
-    place: usize,
+    index: usize,
 ) -> Result<Option<(Vec<Job>, Seat)>, AllocError>
     requires ready { C.ready crew.old }
     requires jobs { MayMap (λ b. (⟦<dyn Member as Member>⟧ b.vtable).plain b.value) (length net.now.hosts) jobs.items }
@@ -143,15 +144,15 @@ fn map_next<C: BoxCrew>(
         (length net.now.hosts) r.0.items)) }
     ensures seat { IfOk result (λ left. IfSome left (λ r. r.1.ledger ≡ ledger.now.name)) }
 {
-    let [_, end] = case.ends;
-    assert!(rt; end <= LAST_END);
-    match map_window(rt, alloc, crew, scenario, net, ledger, seat, jobs, end) {
+    let [_, till] = case.ends;
+    assert!(rt; till <= LAST_END);
+    match map_window(rt, alloc, crew, scenario, net, ledger, seat, jobs, till) {
         Ok((jobs, seat, window)) => {
-            case.expect(rt, place, &window);
+            case.expect(rt, index, &window);
             Ok(Some((jobs, seat)))
         }
         Err(fault) => {
-            case.expect_fault(rt, place, fault)?;
+            case.expect_fault(rt, index, fault)?;
             Ok(None)
         }
     }
@@ -269,6 +270,11 @@ fn map_cases<C: BoxCrew>(rt: &impl Abort, alloc: Global, crew: &mut C) -> Result
 #[test]
 fn a_plain_crew_maps_two_windows(rt: HostRuntime) -> Result<(), AllocError> {
     map_cases(&rt, rt.alloc(), &mut PlainCrew::new())
+}
+
+#[test]
+fn a_crew_that_notes_its_calls_maps_two_windows(rt: HostRuntime) -> Result<(), AllocError> {
+    map_cases(&rt, rt.alloc(), &mut Recording::new(rt.alloc()))
 }
 
 #[test]
