@@ -16,7 +16,7 @@ use crate::keys::{array_key, finding_at};
 use crate::misfit_sentence::misfit_sentence;
 use crate::misfits::misfit_of;
 use crate::picture::picture_of;
-use crate::places::{picture_of_finding, picture_of_flaw, picture_of_value};
+use crate::pictures::{picture_of_finding, picture_of_flaw, picture_of_value};
 use crate::rules_in::{reason_after, rules_in};
 use crate::sentence::sentence_of;
 use crate::span::Span;

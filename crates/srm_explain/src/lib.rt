@@ -19,7 +19,7 @@ mod misfits;
 mod nearest;
 mod passing;
 mod picture;
-mod places;
+mod pictures;
 mod reached;
 mod rules_in;
 mod sentence;

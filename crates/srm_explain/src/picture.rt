@@ -49,12 +49,12 @@ fn part(text: &[u8], from: usize, to: usize) -> &[u8] {
     text.get(from..to).unwrap_or(&[])
 }
 
-// The number of the line of a place, from 1, and where that line begins.
-fn line_at(text: &[u8], place: usize) -> (usize, usize) {
+// The number of the line in which an offset in bytes is, from 1, and the offset at which that line begins.
+fn line_at(text: &[u8], offset: usize) -> (usize, usize) {
     let mut number = 1usize;
     let mut begin = 0usize;
     for (at, byte) in text.iter().enumerate() {
-        if at >= place {
+        if at >= offset {
             return (number, begin);
         }
         if *byte == b'\n' {
@@ -65,7 +65,7 @@ fn line_at(text: &[u8], place: usize) -> (usize, usize) {
     (number, begin)
 }
 
-// Where the line ends that begins at a place.
+// The offset at which the line ends that begins at an offset.
 fn line_end(text: &[u8], begin: usize) -> usize {
     for (at, byte) in text.iter().enumerate() {
         if at >= begin && *byte == b'\n' {

@@ -71,7 +71,7 @@ pub(crate) fn tokens_of(alloc: Global, text: &[u8]) -> Result<Vec<Token>, AllocE
 }
 
 impl Scanner {
-    // Takes the byte at this place.
+    // Takes the byte at this offset.
     fn take(&mut self, at: usize, byte: u8) -> Result<(), AllocError> {
         match self.state {
             State::Between => self.begin(at, byte),

@@ -6,6 +6,7 @@ use crate::stories::story::Story;
 use srm_member::due::Due;
 use srm_member::told::Told;
 use srm_net::packet::{Heard, Name};
+use srm_net::rank;
 
 const PAGE_0_NUMBER_1: Name = Name {
     source: 0,
@@ -100,7 +101,7 @@ pub const LATE: Story = Story {
             sent: None,
             due: Some(Due {
                 time: 73,
-                rank: 2,
+                rank: rank::REQUEST,
                 name: PAGE_1_NUMBER_0,
             }),
         },
@@ -118,7 +119,7 @@ pub const LATE: Story = Story {
             sent: None,
             due: Some(Due {
                 time: 73,
-                rank: 2,
+                rank: rank::REQUEST,
                 name: PAGE_1_NUMBER_0,
             }),
         },
@@ -147,7 +148,7 @@ pub const LATE: Story = Story {
             sent: None,
             due: Some(Due {
                 time: 73,
-                rank: 2,
+                rank: rank::REQUEST,
                 name: PAGE_1_NUMBER_0,
             }),
         },
@@ -165,7 +166,7 @@ pub const LATE: Story = Story {
             sent: None,
             due: Some(Due {
                 time: 80,
-                rank: 2,
+                rank: rank::REQUEST,
                 name: PAGE_1_NUMBER_2,
             }),
         },
@@ -182,7 +183,7 @@ pub const LATE: Story = Story {
             sent: None,
             due: Some(Due {
                 time: 80,
-                rank: 2,
+                rank: rank::REQUEST,
                 name: PAGE_1_NUMBER_2,
             }),
         },
@@ -200,7 +201,7 @@ pub const LATE: Story = Story {
             sent: None,
             due: Some(Due {
                 time: 80,
-                rank: 2,
+                rank: rank::REQUEST,
                 name: PAGE_1_NUMBER_2,
             }),
         },

@@ -6,6 +6,7 @@ use crate::stories::story::Story;
 use srm_member::due::Due;
 use srm_member::told::Told;
 use srm_net::packet::Name;
+use srm_net::rank;
 
 const FIRST: Name = Name {
     source: 0,
@@ -41,7 +42,7 @@ pub const DRAWN: Story = Story {
             sent: None,
             due: Some(Due {
                 time: 143,
-                rank: 2,
+                rank: rank::REQUEST,
                 name: FIRST,
             }),
         },
@@ -54,7 +55,7 @@ pub const DRAWN: Story = Story {
             sent: Some(Carried::Request { name: FIRST }),
             due: Some(Due {
                 time: 202,
-                rank: 2,
+                rank: rank::REQUEST,
                 name: FIRST,
             }),
         },
@@ -82,7 +83,7 @@ pub const BACKING_OFF: Story = Story {
             sent: None,
             due: Some(Due {
                 time: 120,
-                rank: 2,
+                rank: rank::REQUEST,
                 name: FIRST,
             }),
         },
@@ -95,7 +96,7 @@ pub const BACKING_OFF: Story = Story {
             sent: Some(Carried::Request { name: FIRST }),
             due: Some(Due {
                 time: 140,
-                rank: 2,
+                rank: rank::REQUEST,
                 name: FIRST,
             }),
         },
@@ -111,7 +112,7 @@ pub const BACKING_OFF: Story = Story {
             sent: None,
             due: Some(Due {
                 time: 170,
-                rank: 2,
+                rank: rank::REQUEST,
                 name: FIRST,
             }),
         },
@@ -126,7 +127,7 @@ pub const BACKING_OFF: Story = Story {
             sent: None,
             due: Some(Due {
                 time: 170,
-                rank: 2,
+                rank: rank::REQUEST,
                 name: FIRST,
             }),
         },

@@ -6,6 +6,7 @@ use crate::stories::story::Story;
 use srm_member::due::Due;
 use srm_member::told::Told;
 use srm_net::packet::{Heard, Name};
+use srm_net::rank;
 
 const PAGE_0_NUMBER_0: Name = Name {
     source: 0,
@@ -79,7 +80,7 @@ pub const RECEIVER: Story = Story {
             sent: None,
             due: Some(Due {
                 time: 36,
-                rank: 2,
+                rank: rank::REQUEST,
                 name: PAGE_0_NUMBER_1,
             }),
         },
@@ -96,7 +97,7 @@ pub const RECEIVER: Story = Story {
             }),
             due: Some(Due {
                 time: 66,
-                rank: 2,
+                rank: rank::REQUEST,
                 name: PAGE_0_NUMBER_1,
             }),
         },
@@ -156,7 +157,7 @@ pub const RECEIVER: Story = Story {
             sent: None,
             due: Some(Due {
                 time: 60,
-                rank: 3,
+                rank: rank::REPAIR,
                 name: PAGE_0_NUMBER_1,
             }),
         },
@@ -225,7 +226,7 @@ pub const RECEIVER: Story = Story {
             sent: None,
             due: Some(Due {
                 time: 85,
-                rank: 2,
+                rank: rank::REQUEST,
                 name: PAGE_0_NUMBER_3,
             }),
         },
@@ -243,7 +244,7 @@ pub const RECEIVER: Story = Story {
             sent: None,
             due: Some(Due {
                 time: 85,
-                rank: 2,
+                rank: rank::REQUEST,
                 name: PAGE_0_NUMBER_3,
             }),
         },
@@ -262,7 +263,7 @@ pub const RECEIVER: Story = Story {
             sent: None,
             due: Some(Due {
                 time: 116,
-                rank: 2,
+                rank: rank::REQUEST,
                 name: PAGE_0_NUMBER_4,
             }),
         },

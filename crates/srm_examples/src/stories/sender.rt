@@ -6,6 +6,7 @@ use crate::stories::story::Story;
 use srm_member::due::Due;
 use srm_member::told::Told;
 use srm_net::packet::{Heard, Name};
+use srm_net::rank;
 
 const PAGE_3_NUMBER_0: Name = Name {
     source: 0,
@@ -81,7 +82,7 @@ pub const SENDER: Story = Story {
             sent: None,
             due: Some(Due {
                 time: 25,
-                rank: 3,
+                rank: rank::REPAIR,
                 name: PAGE_3_NUMBER_0,
             }),
         },
@@ -99,7 +100,7 @@ pub const SENDER: Story = Story {
             sent: None,
             due: Some(Due {
                 time: 25,
-                rank: 3,
+                rank: rank::REPAIR,
                 name: PAGE_3_NUMBER_0,
             }),
         },
@@ -144,7 +145,7 @@ pub const SENDER: Story = Story {
             sent: None,
             due: Some(Due {
                 time: 50,
-                rank: 3,
+                rank: rank::REPAIR,
                 name: PAGE_3_NUMBER_0,
             }),
         },
@@ -159,7 +160,7 @@ pub const SENDER: Story = Story {
             sent: None,
             due: Some(Due {
                 time: 50,
-                rank: 3,
+                rank: rank::REPAIR,
                 name: PAGE_3_NUMBER_0,
             }),
         },
@@ -173,7 +174,7 @@ pub const SENDER: Story = Story {
             sent: None,
             due: Some(Due {
                 time: 50,
-                rank: 3,
+                rank: rank::REPAIR,
                 name: PAGE_3_NUMBER_0,
             }),
         },
@@ -192,7 +193,7 @@ pub const SENDER: Story = Story {
             sent: None,
             due: Some(Due {
                 time: 50,
-                rank: 3,
+                rank: rank::REPAIR,
                 name: PAGE_3_NUMBER_0,
             }),
         },
@@ -236,7 +237,7 @@ pub const SENDER: Story = Story {
             sent: None,
             due: Some(Due {
                 time: 78,
-                rank: 3,
+                rank: rank::REPAIR,
                 name: PAGE_3_NUMBER_1,
             }),
         },
