@@ -8,6 +8,7 @@ TESTS_OF_MEMORY := $(filter-out %/srm_scenario_tests_tests %/srm_team_tests_test
 TESTS_OF_MEMORY := $(TESTS_OF_MEMORY:%/srm_cell_tests_tests=%/srm_cell_tests_tests:ledger_tests)
 TESTS_OF_MEMORY := $(TESTS_OF_MEMORY:%/srm_crew_tests_tests=%/srm_crew_tests_tests:crew_tests)
 TESTS_OF_MEMORY := $(TESTS_OF_MEMORY:%/srm_report_tests_tests=%/srm_report_tests_tests:drops_tests)
+TESTS_OF_MEMORY += $(patsubst %,%:totals_tests,$(filter %/srm_report_tests_tests,$(TEST_PROGRAMS)))
 PREFIX ?= /usr/local
 SCENARIO ?= examples/two-nodes.toml
 ARGUMENTS ?=
@@ -75,7 +76,7 @@ test: ## the merge gate: proves everything from nothing, with tests and must-fai
 
 test-program: $(OF_PROGRAM) ## compares what the program prints with each file of examples/, and its refusals, and tries it at the format's limits and on some random scenarios
 
-test-memory: $(OF_MEMORY) ## refuses each allocation in turn, of the program on each example with each engine, on three with each table and each crew that takes threads, on each scenario whose explanation is stored, and of each test of members, roles, the ledger, crews and the drops of whole runs' boxes
+test-memory: $(OF_MEMORY) ## refuses each allocation in turn, of the program on each example with each engine, on three with each table and each crew that takes threads, on each scenario whose explanation is stored, and of each test of members, roles, the ledger, crews, the drops of whole runs' boxes and runs that are asked for totals alone
 
 $(OF_PROGRAM) $(OF_MEMORY): $(PROGRAM)
 

@@ -15,10 +15,10 @@ use srm_crew::gate::OpenGate;
 use srm_crew::plain::PlainCrew;
 use srm_crew::pool::PoolCrew;
 use srm_engine::fault::RunFault;
-use srm_engine::step_stream::step_stream;
+use srm_engine::step_rows::step_rows;
 use srm_engine::stream_fault::StreamFault;
 use srm_engine::width::Windows;
-use srm_engine::window_stream::window_stream;
+use srm_engine::window_rows::window_rows;
 use srm_interfaces::crew::Crew;
 use srm_interfaces::sink::RowSink;
 use srm_ledger::totals::Totals;
@@ -86,8 +86,8 @@ fn in_steps<S: RowSink>(
     ensures rows { (seed : ℕ) → HoldOpeningRecords asked.now.scenario.now asked.now.net.now seed (map (λ b. plain b) members.items)
         → TellsRows S.took S.part asked.now.scenario.now asked.now.net.now seed asked.now.options sink.old result sink.new }
 {
-    match step_stream(alloc, asked.scenario, asked.net, members, sink) {
-        Ok((_, totals)) => Ok(totals),
+    match step_rows(alloc, asked.scenario, asked.net, members, sink) {
+        Ok(totals) => Ok(totals),
         Err(fault) => Err(lab_fault(fault)),
     }
 }
@@ -117,7 +117,7 @@ pub(crate) fn in_windows<M: Participant, C: Crew<M>, S: RowSink>(
         cut: asked.options.cut,
         width: asked.options.width,
     };
-    match window_stream(
+    match window_rows(
         alloc,
         asked.scenario,
         asked.net,
@@ -126,7 +126,7 @@ pub(crate) fn in_windows<M: Participant, C: Crew<M>, S: RowSink>(
         windows,
         sink,
     ) {
-        Ok((_, totals)) => Ok(totals),
+        Ok(totals) => Ok(totals),
         Err(fault) => Err(lab_fault(fault)),
     }
 }

@@ -3,6 +3,7 @@
 
 #[cfg(test)]
 mod boxed;
+pub mod counting;
 #[cfg(test)]
 mod drops_tests;
 pub mod failing;
@@ -20,6 +21,8 @@ mod stream_tests;
 mod streaming;
 #[cfg(test)]
 mod table_tests;
+#[cfg(test)]
+mod totals_tests;
 #[cfg(test)]
 mod trace_sink_tests;
 #[cfg(test)]

@@ -69,8 +69,8 @@ fn member_of(
     }
 }
 
-// All of them.
-fn members_of(
+/// All of them.
+pub(crate) fn members_of(
     alloc: Global,
     scenario: &Scenario,
     net: &Net,
