@@ -59,12 +59,12 @@ fn expect_first_round_a_node(
     rt: &impl Abort,
     alloc: Global,
     width: Width,
-    end: u64,
+    till: u64,
 ) -> Result<(), AllocError> {
     let windows = Windows { cut: 3, width };
     let crew = recorded(rt, alloc, STAR_LOSS_AT_THE_SOURCE.scenario, windows)?;
     match crew.calls() {
-        [first, ..] => assert_eq!(rt; first.as_slice(), three_and_one(end).as_slice()),
+        [first, ..] => assert_eq!(rt; first.as_slice(), three_and_one(till).as_slice()),
         [] => assert!(rt; false, "no call"),
     }
     Ok(())
