@@ -65,8 +65,8 @@ impl<'a> Engine<'a> {
         })
     }
 
-    /// The whole run, its rows handed to a sink in pieces: first none, and then all of them, in order, no more than 32 at a time. After
-    /// the last of them it asks for no memory.
+    /// The whole run, its rows handed to a sink in pieces: first none, and then all of them, in order, no more than 32 at a time.
+    /// After the last of them it asks for no memory.
     pub(crate) fn run<S: RowSink>(
         alloc: Global,
         scenario: &'a Scenario,
@@ -99,8 +99,8 @@ impl<'a> Engine<'a> {
         Ok(engine)
     }
 
-    /// Steps, one after the other, until nothing is pending before the end of the run. The rows are handed to a sink in pieces: first
-    /// none, and then all of them, in order, no more than 32 at a time.
+    /// Steps, one after the other, until nothing is pending before the end of the run. The rows are handed to a sink in pieces:
+    /// first none, and then all of them, in order, no more than 32 at a time.
     pub(crate) fn stream<S: RowSink>(
         &mut self,
         alloc: Global,
@@ -158,8 +158,8 @@ impl<'a> Engine<'a> {
         Ok(rows)
     }
 
-    /// The step of the sequential run: the least pending event of all is taken, its row put behind others, and its packet handed out.
-    /// Tells whether there was an event.
+    /// The step of the sequential run: the least pending event of all is taken, its row put behind others, and its packet handed
+    /// out. Tells whether there was an event.
     pub(crate) fn step(&mut self, alloc: Global, rows: &mut Vec<Row>) -> Result<bool, StepFault>
         requires network { IsSetUp self.old }
         requires known { MayStep (λ b. plain b) self.old }

@@ -107,8 +107,8 @@ fn take_all(all: &mut Vec<Row>, rows: IntoIter<Row>) -> Result<(), AllocError>
     Ok(())
 }
 
-// From which list each next row comes, in order of times, and of one time in order of the lists. Nothing rests on it but the time that
-// a merge takes.
+// From which list each next row comes, in order of times, and of one time in order of the lists. Nothing rests on it but the time
+// that a merge takes.
 fn turns(alloc: Global, lists: &[Vec<Row>]) -> Result<Vec<u64>, AllocError> {
     let mut turns = Vec::with_capacity(alloc, count_rows(lists))?;
     for (list, rows) in lists.iter().enumerate() {

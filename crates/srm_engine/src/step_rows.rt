@@ -22,9 +22,9 @@ use std::alloc::Global;
 /// There is one box for each member, in order of their numbers, each holding its opening record for this scenario and one seed.
 ///
 /// # Errors
-/// As of [`step_stream`](crate::step_stream::step_stream), but `Run` with `NoMemory` only where something is left undone: the sink was
-/// not called yet, and is as it was; or it took the rows so far, and there is a step to take; or it was itself refused memory, or the
-/// run would have more than 2^62 rows. So no run is refused of which the sink took all rows.
+/// As of [`step_stream`](crate::step_stream::step_stream), but `Run` with `NoMemory` only where something is left undone: the sink is
+/// as it was; or it took the rows so far, and there is a step to take, or there were 2^62 rows; or it was itself refused memory. So
+/// memory is refused to no run of fewer rows whose sink took the last one and refused nothing.
 ///
 /// The boxes are then gone, and the sink stands as after `step_stream`.
 pub fn step_rows<S: RowSink>(
