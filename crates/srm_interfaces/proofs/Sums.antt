@@ -83,14 +83,14 @@ module _ {M : Type 0} where
       ∙ word_of_added (crossings s own) (crossings s (rows_of ds)) (crossings_long s own ∙ sym (crossings_long s (rows_of ds))) k in
       omega (arith, one, more, both)
 
-  pub rows_are : (f : M → Record) (end : ℕ) (qs : List OwnCell) (rows : List (List Row)) (cs : List (Cell M))
-      → RanEach f end qs rows cs → AreRowsOf end qs (joined rows)
-  rows_are f end [] [] [] h = refl
-  rows_are f end [] [] (c ∷ cs) h = absurd h
-  rows_are f end [] (r ∷ rs) cs h = absurd h
-  rows_are f end (q ∷ qs) [] cs h = absurd h
-  rows_are f end (q ∷ qs) (r ∷ rs) [] h = absurd h
-  rows_are f end (q ∷ qs) (r ∷ rs) (c ∷ cs) h = (r, joined rs, h.0.0, h.0.1, refl, rows_are f end qs rs cs h.1)
+  pub rows_are : (f : M → Record) (till : ℕ) (qs : List OwnCell) (rows : List (List Row)) (cs : List (Cell M))
+      → RanEach f till qs rows cs → AreRowsOf till qs (joined rows)
+  rows_are f till [] [] [] h = refl
+  rows_are f till [] [] (c ∷ cs) h = absurd h
+  rows_are f till [] (r ∷ rs) cs h = absurd h
+  rows_are f till (q ∷ qs) [] cs h = absurd h
+  rows_are f till (q ∷ qs) (r ∷ rs) [] h = absurd h
+  rows_are f till (q ∷ qs) (r ∷ rs) (c ∷ cs) h = (r, joined rs, h.0.0, h.0.1, refl, rows_are f till qs rs cs h.1)
 
   pub rows_of_all : (f : M → Record) (s : Traffic) (ps : List PlainJob) (ds : List (job.Done M))
       → AllZip (λ p d. IsDone f s p d) ps ds → AreRowsOfSome ps (rows_of ds)

@@ -52,10 +52,10 @@ AnyEnds o (p ∷ ps) = FirstEnds o p.till p.cells ⊎ AnyEnds o ps
 
 -- the rows of the cells' own runs
 abbrev pub AreRowsOf : ℕ → List OwnCell → List Row → Type 0
-AreRowsOf end [] rows = rows ≡ []
-AreRowsOf end (q ∷ qs) rows =
-    (own : List Row) × (more : List Row) × (d : PlainCell) × IsOwnRun end q.member q.cell own d
-    × (rows ≡ own ++ more) × AreRowsOf end qs more
+AreRowsOf till [] rows = rows ≡ []
+AreRowsOf till (q ∷ qs) rows =
+    (own : List Row) × (more : List Row) × (d : PlainCell) × IsOwnRun till q.member q.cell own d
+    × (rows ≡ own ++ more) × AreRowsOf till qs more
 
 -- the rows of some of the jobs
 abbrev pub AreRowsOfSome : List PlainJob → List Row → Type 0

@@ -15,53 +15,54 @@ pub mapped : {A B : Type 0} (f : A → B) (o : Option A) (x : B) → option_map 
 mapped f None x h = cc
 mapped f (Some a) x h = (a, refl, cc)
 
-present : (end m : ℕ) (o : Option PlainCell) (y : StepOutcome Stepped) → IsRefusal y → own_of end m o ≡ y → (c : PlainCell) × (o ≡ Some c)
-    × (own_step end m c ≡ y)
-present end m None y r e = absurd (subst IsRefusal (sym e) r)
-present end m (Some c) y r e = (c, refl, e)
+present : (till m : ℕ) (o : Option PlainCell) (y : StepOutcome Stepped) → IsRefusal y → own_of till m o ≡ y → (c : PlainCell) × (o ≡ Some c)
+    × (own_step till m c ≡ y)
+present till m None y r e = absurd (subst IsRefusal (sym e) r)
+present till m (Some c) y r e = (c, refl, e)
 
-module _ (s : Setting) (end : ℕ) where
+module _ (s : Setting) (till : ℕ) where
   -- the own run of each cell has a result
   abbrev Results : List PlainCell → Type 0
-  Results cs = (m : ℕ) (c : PlainCell) → slice_get cs m ≡ Some c → (n : ℕ) × (own_end end m n c ≡ Idle)
+  Results cs = (m : ℕ) (c : PlainCell) → slice_get cs m ≡ Some c → (n : ℕ) × (own_end till m n c ≡ Idle)
 
-  results_after : (cs : List PlainCell) → Safe s end cs → Results cs → (b : ℕ) (d : Stepped) → own_of end b (slice_get cs b) ≡ Done d
+  results_after : (cs : List PlainCell) → Safe s till cs → Results cs → (b : ℕ) (d : Stepped) → own_of till b (slice_get cs b) ≡ Done d
       → Results (cells_after s b d 0 cs)
   results_after cs safe has b d e m x g =
       let h = mapped (at_member s b d m) (slice_get cs m) x (sym (get_after s b d m cs) ∙ g) in
       let c = h.0 in
       let r = has m c h.1 in
-      elim (m == b) as (λ t. (m == b) ≡ t → (n : ℕ) × (own_end end m n x ≡ Idle)) [
+      elim (m == b) as (λ t. (m == b) ≡ t → (n : ℕ) × (own_end till m n x ≡ Idle)) [
         | true ↦ λ mb.
-            let own : own_step end m c ≡ Done d = sym (ap (own_of end m) h.1) ∙ ap (λ k. own_of end k (slice_get cs k)) (eqb-true _ _ mb)
+            let own : own_step till m c ≡ Done d = sym (ap (own_of till m) h.1) ∙ ap (λ k. own_of till k (slice_get cs k)) (eqb-true _ _ mb)
             ∙ e in
             let is : d.cell ≡ x = sym (ap (λ t. cond t d.cell (told_to s.traffic d.row.sent m c)) mb) ∙ h.2 in
-            let f = fewer s end m d r.0 c false own r.1 in
-            (f.0, subst (λ y. own_end end m f.0 y ≡ Idle) is f.2)
+            let f = fewer s till m d r.0 c false own r.1 in
+            (f.0, subst (λ y. own_end till m f.0 y ≡ Idle) is f.2)
         | false ↦ λ mb.
             let is : told_to s.traffic d.row.sent m c ≡ x = sym (ap (λ t. cond t d.cell (told_to s.traffic d.row.sent m c)) mb) ∙ h.2 in
-            (r.0, subst (λ y. own_end end m r.0 y ≡ Idle) is (end_late s end d.row.sent (step_late s end cs safe b d e) m r.0 c false r.1))
+            (r.0, subst (λ y. own_end till m r.0 y ≡ Idle) is
+                (end_late s till d.row.sent (step_late s till cs safe b d e) m r.0 c false r.1))
       ] refl
 
-  answered : (ms : List ℕ) (w : World) → Safe s end w.cells → Results w.cells → ¬ IsRefusal (scheduled s end ms w)
+  answered : (ms : List ℕ) (w : World) → Safe s till w.cells → Results w.cells → ¬ IsRefusal (scheduled s till ms w)
   unfolding scheduled after_step then_schedule
   answered [] w safe has h = h
-  answered (m ∷ ms) w safe has h = elim (own_of end m (slice_get w.cells m)) as
-      (λ o. own_of end m (slice_get w.cells m) ≡ o → IsRefusal (then_schedule s end ms (after_step s w m o)) → ⊥) [
+  answered (m ∷ ms) w safe has h = elim (own_of till m (slice_get w.cells m)) as
+      (λ o. own_of till m (slice_get w.cells m) ≡ o → IsRefusal (then_schedule s till ms (after_step s w m o)) → ⊥) [
         | Idle ↦ λ e r. r
         | Full ↦ λ e r.
-            let p = present end m (slice_get w.cells m) Full tt e in
+            let p = present till m (slice_get w.cells m) Full tt e in
             let n = has m p.0 p.1 in
-            true≢false (sym (full_flag s end m n.0 p.0 false p.2 n.1))
+            true≢false (sym (full_flag s till m n.0 p.0 false p.2 n.1))
         | Spent ↦ λ e r.
-            let p = present end m (slice_get w.cells m) Spent tt e in
+            let p = present till m (slice_get w.cells m) Spent tt e in
             let n = has m p.0 p.1 in
-            spent_flag s end m n.0 p.0 false p.2 n.1
+            spent_flag s till m n.0 p.0 false p.2 n.1
         | Done d ↦ λ e r.
             answered ms (record { cells = cells_after s m d 0 w.cells; trace = w.trace ++ d.row ∷ [] })
-            (safe_after s end w.cells safe m d e)
+            (safe_after s till w.cells safe m d e)
             (results_after w.cells safe has m d e) r
       ] refl h
 
 pub schedules_are_answered : SchedulesAreAnswered
-schedules_are_answered s w end safe has ms = answered s end ms w safe (λ m c g. has m c g)
+schedules_are_answered s w till safe has ms = answered s till ms w safe (λ m c g. has m c g)

@@ -240,8 +240,8 @@ alike_by_packets xs ys h = record {
       ∙ sym (sendings_of_packets k xs);
 }
 
-module _ (s : Setting) (w : World) (end : ℕ) (fit : IsFit s) (reached : IsReached s w) (within : end ≤ s.traffic.until)
-    (safe : IsSafe s end w) (results : List OwnResult) (alone : AreOwnRuns end 0 w.cells results) where
+module _ (s : Setting) (w : World) (till : ℕ) (fit : IsFit s) (reached : IsReached s w) (within : till ≤ s.traffic.until)
+    (safe : IsSafe s till w) (results : List OwnResult) (alone : AreOwnRuns till 0 w.cells results) where
   abbrev lists : List Row
   lists = joined (rows_in results)
 
@@ -255,7 +255,7 @@ module _ (s : Setting) (w : World) (end : ℕ) (fit : IsFit s) (reached : IsReac
   v = after_window s w results all
 
   there : IsReached s v
-  there = (windows_agree s w v end fit reached within safe
+  there = (windows_agree s w v till fit reached within safe
       (record { results = results; rows = all; alone = alone; merged = merge; is = refl })).1
 
   module _ (rows : List Row) (alike : SendAlike lists rows) where
@@ -272,7 +272,7 @@ module _ (s : Setting) (w : World) (end : ℕ) (fit : IsFit s) (reached : IsReac
         let row = in_all p (r, at, sent) in
         let x = row.0 in
         let cut = contained_split all x row.1 in
-        let told = window_packets_are_new s w end fit reached within safe results all alone merge cut.0 cut.1 x p cut.2 row.2 in
+        let told = window_packets_are_new s w till fit reached within safe results all alone merge cut.0 cut.1 x p cut.2 row.2 in
         let whole : v.trace ≡ (w.trace ++ cut.0) ++ x ∷ cut.1 = ap (λ l. w.trace ++ l) cut.2
         ∙ sym (append_assoc w.trace cut.0 (x ∷ cut.1)) in
         let earlier = later_is_new s v there (w.trace ++ cut.0) cut.1 x p whole row.2 in
@@ -307,7 +307,7 @@ module _ (s : Setting) (w : World) (end : ℕ) (fit : IsFit s) (reached : IsReac
               ap (λ n. one_if (is_packet n h.0.sent)) (sym e) ∙ ap one_if (is_its_own q h.0.sent h.2) in
               absurd (omega arith)
         ] in
-        (new_after s w end results before p reached alone other, told.1, told.2)
+        (new_after s w till results before p reached alone other, told.1, told.2)
 
   -- rows that send the packets of the window are heard alike, in whatever order they do
   module _ (xs ys : List Row) (first : SendAlike lists xs) (second : SendAlike lists ys) where
@@ -327,8 +327,8 @@ module _ (s : Setting) (w : World) (end : ℕ) (fit : IsFit s) (reached : IsReac
       heard_alike rows lists (alike_by_packets lists rows h) (alike_by_rows lists lists (IsPermutation-refl lists))
 
 pub packets_are_heard_in_any_order : PacketsAreHeardInAnyOrder
-packets_are_heard_in_any_order s w end fit reached within safe results rows alone perm =
+packets_are_heard_in_any_order s w till fit reached within safe results rows alone perm =
     let alike = alike_by_rows (joined (rows_in results)) in (
-      new_in_turn s w end fit reached within safe results alone rows (alike rows perm),
-      λ others h. (heard_alike s w end fit reached within safe results alone rows others (alike rows perm) (alike others h)).1,
+      new_in_turn s w till fit reached within safe results alone rows (alike rows perm),
+      λ others h. (heard_alike s w till fit reached within safe results alone rows others (alike rows perm) (alike others h)).1,
     )

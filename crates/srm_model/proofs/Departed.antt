@@ -48,7 +48,7 @@ module _ (s : Setting) (fit : IsFit s) where
   told_holds None m c = refl
   told_holds (Some p) m c = hear_at_holds p (arrival_of s.traffic p m) c
 
-  module _ (end : ℕ) (cs : List PlainCell) (e : Event) (d : Stepped) (stable : Stable cs) (h : before end (least_event 0 cs) ≡ Some e)
+  module _ (till : ℕ) (cs : List PlainCell) (e : Event) (d : Stepped) (stable : Stable cs) (h : before till (least_event 0 cs) ≡ Some e)
       (x : step_at (Some e) ≡ Done d) where
     abbrev m : ℕ
     m = e.key.member
@@ -56,17 +56,17 @@ module _ (s : Setting) (fit : IsFit s) where
     abbrev after : List PlainCell
     after = cells_after s m d 0 cs
 
-    facts : StepFacts s fit end cs e d
-    facts = step_facts s fit end cs e d h x
+    facts : StepFacts s fit till cs e d
+    facts = step_facts s fit till cs e d h x
 
     next_is : next_event m facts.cell ≡ Some e
-    next_is = (before_some end (next_event m facts.cell) e facts.event).0
+    next_is = (before_some till (next_event m facts.cell) e facts.event).0
 
     below : m < s.traffic.members
-    below = member_below s fit end cs e d stable.good h x
+    below = member_below s fit till cs e d stable.good h x
 
     all_after : EachCell (Above (λ k. e.key.time ≤ k.time)) after
-    all_after j c g = above_time s fit e.key j c (above_after s fit end cs e d stable.good h x j c g)
+    all_after j c g = above_time s fit e.key j c (above_after s fit till cs e d stable.good h x j c g)
 
     -- the event is pending, and so not before a leave
     event_after : (t : ℕ) → EachCell (Above (λ k. t ≤ k.time)) cs → t ≤ e.key.time
@@ -103,7 +103,7 @@ module _ (s : Setting) (fit : IsFit s) where
         let c = facts.cell in
         let stays = stable.stays m c facts.here in
         record {
-          good = good_step s fit end cs e d stable.good h x;
+          good = good_step s fit till cs e d stable.good h x;
           stays = each_after s (λ j c. Stays (s.traffic.leave j) c) cs m d
               (stays_step (s.traffic.leave m) m c e d (stable.good.tidy m c facts.here) stays next_is x)
               (λ j b g ne. told_stays d.row.sent facts.sender facts.sent_at j b (stable.stays j b g) (stable.past j b g));
@@ -112,9 +112,9 @@ module _ (s : Setting) (fit : IsFit s) where
               (λ j b g ne. subst (Past after j) (sym (told_holds d.row.sent j b)) (kept_past j b.holds (stable.past j b g)));
         }
 
-  pub stable_seq : {end : ℕ} {cs ds : List PlainCell} {rows : List Row} → Seq s end cs rows ds → Stable cs → Stable ds
+  pub stable_seq : {till : ℕ} {cs ds : List PlainCell} {rows : List Row} → Seq s till cs rows ds → Stable cs → Stable ds
   stable_seq rest stable = stable
-  stable_seq {end} (next {cs = cs} {e = e} {d = d} h x more) stable = stable_seq more (stable_step end cs e d stable h x)
+  stable_seq {till} (next {cs = cs} {e = e} {d = d} h x more) stable = stable_seq more (stable_step till cs e d stable h x)
 
   opening_stays : (n i : ℕ) → i + n ≡ s.traffic.members → (j : ℕ) (c : PlainCell) → slice_get (opening_cells s n i) j ≡ Some c
       → Stays (s.traffic.leave (i + j)) c
@@ -146,9 +146,9 @@ module _ (s : Setting) (fit : IsFit s) where
   stable_reached n w h = stable_seq (run_seq s fit n (opening s) w h).1 stable_opening
 
   -- the least event of such a world is one of an active record
-  pub least_not_spent : (end : ℕ) (cs : List PlainCell) (e : Event) → Stable cs → before end (least_event 0 cs) ≡ Some e
+  pub least_not_spent : (till : ℕ) (cs : List PlainCell) (e : Event) → Stable cs → before till (least_event 0 cs) ≡ Some e
       → step_at (Some e) ≢ Spent
-  least_not_spent end cs e stable h x =
-      let r = least_from end 0 cs e h in
-      let q = (before_some end (next_event (0 + r.0) r.1) e r.3).0 in
+  least_not_spent till cs e stable h x =
+      let r = least_from till 0 cs e h in
+      let q = (before_some till (next_event (0 + r.0) r.1) e r.3).0 in
       not_spent e (rest_active (s.traffic.leave r.0) (0 + r.0) r.1 (stable.stays r.0 r.1 r.2) e q) x

@@ -19,9 +19,9 @@ row_added : (s : Setting) (w v : World) (m : ℕ) (o : StepOutcome Stepped) → 
 unfolding after_step
 row_added s w v m o h = grind arith
 
-step_goes_on : (s : Setting) (end : ℕ) (w v : World) → step_to s end w ≡ Done v → GoesOn w v
+step_goes_on : (s : Setting) (till : ℕ) (w v : World) → step_to s till w ≡ Done v → GoesOn w v
 unfolding step_to step_of
-step_goes_on s end w v h = grind (arith, row_added)
+step_goes_on s till w v h = grind (arith, row_added)
 
 -- so do the steps of a run
 pub goes_on : (s : Setting) (k : ℕ) (w v : World) → run s k w ≡ Done v → GoesOn w v

@@ -115,9 +115,9 @@ distance_wide net n width wide a b ha hb ne =
     walk_wide net width wide (host net a) (member_route net a b) (host net b) r.0 r.1.0 (hosts_apart net n a b ha hb ne)
 
 pub link_delays_are_safe : LinkDelaysAreSafe
-link_delays_are_safe p seed accepted w e width end reached least wide within =
+link_delays_are_safe p seed accepted w e width till reached least wide within =
     let hosts : length (network_of p).hosts ≡ length p.members = length-map p.members (λ (k : MemberSpec). k.node) in
-    windows_are_safe (setting_of p (network_of p) seed) w e width end (settings_are_fit p seed accepted) reached least
+    windows_are_safe (setting_of p (network_of p) seed) w e width till (settings_are_fit p seed accepted) reached least
     (λ a b ha hb ne. distance_wide (network_of p) accepted.network width wide a b (subst (λ n. a < n) (sym hosts) ha)
     (subst (λ n. b < n) (sym hosts) hb) ne)
     within

@@ -206,13 +206,13 @@ ascends_second [] ys h = h
 ascends_second (x ∷ xs) ys h = ascends_second xs ys h.1
 
 module _ (s : Setting) (fit : IsFit s) where
-  seq_members : {end : ℕ} {cs ds : List PlainCell} {rows : List Row} → Seq s end cs rows ds → Good s fit cs
+  seq_members : {till : ℕ} {cs ds : List PlainCell} {rows : List Row} → Seq s till cs rows ds → Good s fit cs
       → AllIn (λ r. r.key.member < s.traffic.members) rows
   seq_members rest good = tt
-  seq_members {end} (next {cs = cs} {e = e} {d = d} h x more) good =
-      let f = step_facts s fit end cs e d h x in (
-        subst (λ (k : Key). k.member < s.traffic.members) (sym f.key) (member_below s fit end cs e d good h x),
-        seq_members more (good_step s fit end cs e d good h x),
+  seq_members {till} (next {cs = cs} {e = e} {d = d} h x more) good =
+      let f = step_facts s fit till cs e d h x in (
+        subst (λ (k : Key). k.member < s.traffic.members) (sym f.key) (member_below s fit till cs e d good h x),
+        seq_members more (good_step s fit till cs e d good h x),
       )
 
 pub merges_agree : MergesAgree

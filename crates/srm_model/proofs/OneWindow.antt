@@ -30,37 +30,37 @@ use Rattle.srm_model.proofs.Sequential.{good_reached, run_seq}
 -- ---- results
 
 -- what the own run of a cell gives
-pub result_at : (end i : ℕ) (cs : List PlainCell) (rs : List OwnResult) → AreOwnRuns end i cs rs → (j : ℕ) (c : PlainCell) → slice_get cs j
-    ≡ Some c → (r : OwnResult) × IsOwnRun end (i + j) c r.rows r.cell
-result_at end i [] [] h j c g = cc
-result_at end i (x ∷ cs) (r ∷ rs) h zero c g = let same : x ≡ c = cc in
-    (r, rw add-zero (subst (λ y. IsOwnRun end i y r.rows r.cell) same h.0))
-result_at end i (x ∷ cs) (r ∷ rs) h (suc j) c g = rw (shifted i j) (result_at end (suc i) cs rs h.1 j c g)
-result_at end i [] (r ∷ rs) h j c g = absurd h
-result_at end i (x ∷ cs) [] h j c g = absurd h
+pub result_at : (till i : ℕ) (cs : List PlainCell) (rs : List OwnResult) → AreOwnRuns till i cs rs → (j : ℕ) (c : PlainCell)
+    → slice_get cs j ≡ Some c → (r : OwnResult) × IsOwnRun till (i + j) c r.rows r.cell
+result_at till i [] [] h j c g = cc
+result_at till i (x ∷ cs) (r ∷ rs) h zero c g = let same : x ≡ c = cc in
+    (r, rw add-zero (subst (λ y. IsOwnRun till i y r.rows r.cell) same h.0))
+result_at till i (x ∷ cs) (r ∷ rs) h (suc j) c g = rw (shifted i j) (result_at till (suc i) cs rs h.1 j c g)
+result_at till i [] (r ∷ rs) h j c g = absurd h
+result_at till i (x ∷ cs) [] h j c g = absurd h
 
 -- there are as many results as cells
-pub as_many_results : (end i : ℕ) (cs : List PlainCell) (rs : List OwnResult) → AreOwnRuns end i cs rs → length (cells_in rs) ≡ length cs
-as_many_results end i [] [] h = refl
-as_many_results end i (c ∷ cs) (r ∷ rs) h = ap suc (as_many_results end (suc i) cs rs h.1)
-as_many_results end i [] (r ∷ rs) h = absurd h
-as_many_results end i (c ∷ cs) [] h = absurd h
+pub as_many_results : (till i : ℕ) (cs : List PlainCell) (rs : List OwnResult) → AreOwnRuns till i cs rs → length (cells_in rs) ≡ length cs
+as_many_results till i [] [] h = refl
+as_many_results till i (c ∷ cs) (r ∷ rs) h = ap suc (as_many_results till (suc i) cs rs h.1)
+as_many_results till i [] (r ∷ rs) h = absurd h
+as_many_results till i (c ∷ cs) [] h = absurd h
 
-pub have_results : (end : ℕ) (w : World) (rs : List OwnResult) → AreOwnRuns end 0 w.cells rs → (m : ℕ) → HasResult end w m
-have_results end w rs h m c g = let r = result_at end 0 w.cells rs h m c g in (r.1.steps, rw zero-add at r.1.ends)
+pub have_results : (till : ℕ) (w : World) (rs : List OwnResult) → AreOwnRuns till 0 w.cells rs → (m : ℕ) → HasResult till w m
+have_results till w rs h m c g = let r = result_at till 0 w.cells rs h m c g in (r.1.steps, rw zero-add at r.1.ends)
 
-module _ (s : Setting) (end : ℕ) (rows : List Row) where
+module _ (s : Setting) (till : ℕ) (rows : List Row) where
   -- where each cell ran alone and heard the rows, in which its own are those of its run, the results are those of the
   -- members
-  run_alone : (i : ℕ) (cs : List PlainCell) (rs : List OwnResult) (ds : List PlainCell) → AreOwnRuns end i cs rs → length ds ≡ length cs
-      → ((j : ℕ) (c : PlainCell) → slice_get cs j ≡ Some c → Alone s end (i + j) rows c (slice_get ds j))
+  run_alone : (i : ℕ) (cs : List PlainCell) (rs : List OwnResult) (ds : List PlainCell) → AreOwnRuns till i cs rs → length ds ≡ length cs
+      → ((j : ℕ) (c : PlainCell) → slice_get cs j ≡ Some c → Alone s till (i + j) rows c (slice_get ds j))
       → (rows_in rs ≡ by_member i (length cs) rows) × (ds ≡ each_hears s.traffic i rows (cells_in rs))
   run_alone i [] [] [] h many alone = (refl, refl)
   run_alone i [] [] (d ∷ ds) h many alone = absurd (omega arith)
   run_alone i (c ∷ cs) (r ∷ rs) [] h many alone = absurd (omega arith)
   run_alone i (c ∷ cs) (r ∷ rs) (d ∷ ds) h many alone =
-      let a : Alone s end i rows c (Some d) = rw add-zero at (alone 0 c refl) in
-      let same = own_runs_are_one end i c r.rows (own_rows end i a.0 c) r.cell (own_after end i a.0 c) h.0
+      let a : Alone s till i rows c (Some d) = rw add-zero at (alone 0 c refl) in
+      let same = own_runs_are_one till i c r.rows (own_rows till i a.0 c) r.cell (own_after till i a.0 c) h.0
       (record { steps = a.0; ends = a.1; rows_are = refl; leaves = refl }) in
       let first = same.0 ∙ sym a.2 in
       let heard : d ≡ hear_rows s.traffic i rows r.cell = same_Some _ _ a.3 ∙ ap (hear_rows s.traffic i rows) (sym same.1) in
@@ -86,28 +86,28 @@ reached_on s n w v reached h = (reached.0 + n, run_on s reached.0 n (opening s) 
 
 -- ---- the world to which the sequential run comes, as the own runs of its cells give it
 
-pub record IsPart (s : Setting) (end : ℕ) (w : World) (results : List OwnResult) (u : World) : Type 0 where
-  pub first : IsFirstQuiet s end w u
+pub record IsPart (s : Setting) (till : ℕ) (w : World) (results : List OwnResult) (u : World) : Type 0 where
+  pub first : IsFirstQuiet s till w u
   pub reached : IsReached s u
   pub rows : rows_in results ≡ by_member 0 s.traffic.members (new_rows w u)
   pub cells : u.cells ≡ each_hears s.traffic 0 (new_rows w u) (cells_in results)
 
-pub part_of : (s : Setting) (w : World) (end : ℕ) → IsFit s → IsReached s w → end ≤ s.traffic.until → IsSafe s end w
-    → (results : List OwnResult) → AreOwnRuns end 0 w.cells results → (u : World) × IsPart s end w results u
-part_of s w end fit reached within safe results h =
-    let r = schedules_agree s w end fit reached within safe (have_results end w results h) in
+pub part_of : (s : Setting) (w : World) (till : ℕ) → IsFit s → IsReached s w → till ≤ s.traffic.until → IsSafe s till w
+    → (results : List OwnResult) → AreOwnRuns till 0 w.cells results → (u : World) × IsPart s till w results u
+part_of s w till fit reached within safe results h =
+    let r = schedules_agree s w till fit reached within safe (have_results till w results h) in
     let u = r.0 in
-    let first : IsFirstQuiet s end w u = r.1 in
+    let first : IsFirstQuiet s till w u = r.1 in
     let on = reached_on s first.steps w u reached first.comes in
     let members = (good_reached s fit reached.0 w reached.1).members in
     let many = (good_reached s fit on.0 u on.1).members in
-    let alone = run_alone s end (new_rows w u) 0 w.cells results u.cells h (many ∙ sym members)
-    (λ m c g. rw (zero-add m) (cells_run_alone s w end safe r.2.0 u r.2.1 first.quiet m c g)) in
+    let alone = run_alone s till (new_rows w u) 0 w.cells results u.cells h (many ∙ sym members)
+    (λ m c g. rw (zero-add m) (cells_run_alone s w till safe r.2.0 u r.2.1 first.quiet m c g)) in
     (u, record { first = first; reached = on; rows = alone.0 ∙ ap (λ n. by_member 0 n (new_rows w u)) members; cells = alone.1 })
 
 pub windows_agree : WindowsAgree
-windows_agree s w v end fit reached within safe window =
-    let part = part_of s w end fit reached within safe window.results window.alone in
+windows_agree s w v till fit reached within safe window =
+    let part = part_of s w till fit reached within safe window.results window.alone in
     let u = part.0 in
     let p = part.1 in
     let rows : new_rows w u ≡ window.rows = merges_agree s w u fit reached p.first.steps p.first.comes window.rows
@@ -117,17 +117,17 @@ windows_agree s w v end fit reached within safe window =
     let trace : u.trace ≡ w.trace ++ window.rows = trace_grows s fit p.first.steps w u p.first.comes ∙ ap (λ l. w.trace ++ l) rows in
     let is : u ≡ after_window s w window.results window.rows = λ i. record { cells = cells i; trace = trace i } in
     let same : u ≡ v = is ∙ sym window.is in
-    (subst (IsFirstQuiet s end w) same p.first, subst (IsReached s) same p.reached)
+    (subst (IsFirstQuiet s till w) same p.first, subst (IsReached s) same p.reached)
 
 -- ---- where every own run has a result there is a window
 
-collected : (end i : ℕ) (cs : List PlainCell) → ((j : ℕ) (c : PlainCell) → slice_get cs j ≡ Some c → (n : ℕ)
-    × (own_end end (i + j) n c ≡ Idle)) → (rs : List OwnResult) × AreOwnRuns end i cs rs
-collected end i [] f = ([], tt)
-collected end i (c ∷ cs) f =
-    let now : (n : ℕ) × (own_end end i n c ≡ Idle) = rw add-zero at (f 0 c refl) in
-    let more = collected end (suc i) cs (λ j b g. rw (← shifted i j) (f (suc j) b g)) in (
-      record { rows = own_rows end i now.0 c; cell = own_after end i now.0 c } ∷ more.0,
+collected : (till i : ℕ) (cs : List PlainCell) → ((j : ℕ) (c : PlainCell) → slice_get cs j ≡ Some c → (n : ℕ)
+    × (own_end till (i + j) n c ≡ Idle)) → (rs : List OwnResult) × AreOwnRuns till i cs rs
+collected till i [] f = ([], tt)
+collected till i (c ∷ cs) f =
+    let now : (n : ℕ) × (own_end till i n c ≡ Idle) = rw add-zero at (f 0 c refl) in
+    let more = collected till (suc i) cs (λ j b g. rw (← shifted i j) (f (suc j) b g)) in (
+      record { rows = own_rows till i now.0 c; cell = own_after till i now.0 c } ∷ more.0,
       (record { steps = now.0; ends = now.1; rows_are = refl; leaves = refl }, more.1),
     )
 
@@ -155,8 +155,8 @@ pub some_merge : (lists : List (List Row)) → IsMerge lists (ordered row_cmp (j
 some_merge lists = grind (arith, ordered_moves, rows_are_sorted, ordered_rises, rows_total)
 
 pub windows_are_there : WindowsAreThere
-windows_are_there s w end results =
-    let rs = collected end 0 w.cells (λ j c g. rw (zero-add j) (results j c g)) in
+windows_are_there s w till results =
+    let rs = collected till 0 w.cells (λ j c g. rw (zero-add j) (results j c g)) in
     let rows = ordered row_cmp (joined (rows_in rs.0)) in (
       after_window s w rs.0 rows,
       record { results = rs.0; rows = rows; alone = rs.1; merged = some_merge (rows_in rs.0); is = refl },

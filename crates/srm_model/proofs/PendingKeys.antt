@@ -52,11 +52,11 @@ all_keys_differ i (c ∷ cs) h = all_differ_append (pending_keys i c) (keys_from
     (λ k e. above_differs i k e (keys_from (suc i) cs) (members_from (suc i) cs)) (pending_keys i c) (member_keys i c))
 
 module _ (s : Setting) (fit : IsFit s) where
-  strict_seq : {end : ℕ} {cs ds : List PlainCell} {rows : List Row} → Seq s end cs rows ds → Good s fit cs → Strict s fit cs
+  strict_seq : {till : ℕ} {cs ds : List PlainCell} {rows : List Row} → Seq s till cs rows ds → Good s fit cs → Strict s fit cs
       → Strict s fit ds
   strict_seq rest good strict = strict
-  strict_seq {end} (next {cs = cs} {e = e} {d = d} h x more) good strict =
-      strict_seq more (good_step s fit end cs e d good h x) (strict_step s fit end cs e d good strict h x)
+  strict_seq {till} (next {cs = cs} {e = e} {d = d} h x more) good strict =
+      strict_seq more (good_step s fit till cs e d good h x) (strict_step s fit till cs e d good strict h x)
 
   pub strict_reached : (n : ℕ) (w : World) → run s n (opening s) ≡ Done w → Strict s fit w.cells
   strict_reached n w h = strict_seq (run_seq s fit n (opening s) w h).1 (good_opening s fit) (strict_opening s fit)

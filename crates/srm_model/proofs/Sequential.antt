@@ -62,40 +62,40 @@ module _ (s : Setting) (fit : IsFit s) where
     pub tidy : EachCell (λ j c. IsTidy c) cs
     pub sound : EachCell (λ j c. SoundRecord c.holds) cs
 
-  module _ (end : ℕ) where
+  module _ (till : ℕ) where
     -- what is known of a step of the sequential run
     pub record StepFacts (cs : List PlainCell) (e : Event) (d : Stepped) : Type 0 where
       pub cell : PlainCell
       pub here : slice_get cs e.key.member ≡ Some cell
-      pub event : before end (next_event e.key.member cell) ≡ Some e
+      pub event : before till (next_event e.key.member cell) ≡ Some e
       pub key : d.row.key ≡ e.key
       pub sender : SentBy e.key.member d.row.sent
       pub sent_at : SentAt e.key.time d.row.sent
 
-    pub step_facts : (cs : List PlainCell) (e : Event) (d : Stepped) → before end (least_event 0 cs) ≡ Some e → step_at (Some e) ≡ Done d
+    pub step_facts : (cs : List PlainCell) (e : Event) (d : Stepped) → before till (least_event 0 cs) ≡ Some e → step_at (Some e) ≡ Done d
         → StepFacts cs e d
     step_facts cs e d h x =
-        let r = least_from end 0 cs e h in
-        let at_j : before end (next_event r.0 r.1) ≡ Some e = rw zero-add at r.3 in
-        let of_j : e.key.member ≡ r.0 = subst (IsOf r.0) at_j (before_of r.0 end (next_event r.0 r.1) (next_event_of r.0 r.1)) in
+        let r = least_from till 0 cs e h in
+        let at_j : before till (next_event r.0 r.1) ≡ Some e = rw zero-add at r.3 in
+        let of_j : e.key.member ≡ r.0 = subst (IsOf r.0) at_j (before_of r.0 till (next_event r.0 r.1) (next_event_of r.0 r.1)) in
         let row = subst (OnStep (RowOf e.key)) x (row_step e) in
         record {
           cell = r.1;
           here = ap (slice_get cs) of_j ∙ r.2;
-          event = ap (λ k. before end (next_event k r.1)) of_j ∙ at_j;
+          event = ap (λ k. before till (next_event k r.1)) of_j ∙ at_j;
           key = row.0;
           sender = (subst (IsStepOf e.key.member) x (step_at_of e.key.member (Some e) refl)).1;
           sent_at = row.1;
         }
 
-    pub good_step : (cs : List PlainCell) (e : Event) (d : Stepped) → Good cs → before end (least_event 0 cs) ≡ Some e → step_at (Some e)
+    pub good_step : (cs : List PlainCell) (e : Event) (d : Stepped) → Good cs → before till (least_event 0 cs) ≡ Some e → step_at (Some e)
         ≡ Done d → Good (cells_after s e.key.member d 0 cs)
     good_step cs e d good h x =
         let f = step_facts cs e d h x in
-        let t = subst (OnEvent RestTidy) f.event (before_on RestTidy end (next_event e.key.member f.cell)
+        let t = subst (OnEvent RestTidy) f.event (before_on RestTidy till (next_event e.key.member f.cell)
         (next_tidy e.key.member f.cell (good.tidy e.key.member f.cell f.here))) in
         let taken = subst (OnEvent (Taken f.cell)) f.event
-        (before_on (Taken f.cell) end (next_event e.key.member f.cell) (next_taken e.key.member f.cell)) in
+        (before_on (Taken f.cell) till (next_event e.key.member f.cell) (next_taken e.key.member f.cell)) in
         record {
           members = length_after s e.key.member d 0 cs ∙ good.members;
           tidy = each_after s (λ j c. IsTidy c) cs e.key.member d (subst (OnStep (λ d. IsTidy d.cell)) x (tidy_step e t))
@@ -106,15 +106,15 @@ module _ (s : Setting) (fit : IsFit s) where
               (λ j c g ne. told_sound d.row.sent j c (good.sound j c g));
         }
 
-    pub good_seq : {cs ds : List PlainCell} {rows : List Row} → Seq s end cs rows ds → Good cs → Good ds
+    pub good_seq : {cs ds : List PlainCell} {rows : List Row} → Seq s till cs rows ds → Good cs → Good ds
     good_seq rest good = good
     good_seq (next {cs = cs} {e = e} {d = d} h x more) good = good_seq more (good_step cs e d good h x)
 
     -- all that is pending is from the least event's key on
-    pub above_all : (cs : List PlainCell) (e : Event) → Good cs → before end (least_event 0 cs) ≡ Some e
+    pub above_all : (cs : List PlainCell) (e : Event) → Good cs → before till (least_event 0 cs) ≡ Some e
         → EachCell (Above (NotBefore e.key)) cs
     above_all cs e good h j c g =
-        let b = before_some end (least_event 0 cs) e h in
+        let b = before_some till (least_event 0 cs) e h in
         let least : Least e.key (least_event 0 cs) = subst (Least e.key) (sym b.0) (from_refl key_cmp key_total e.key) in
         above_least e.key j c (good.tidy j c g) (rw zero-add at (least_of_all e.key 0 cs least j c g))
 
@@ -143,12 +143,12 @@ module _ (s : Setting) (fit : IsFit s) where
         let arrives = f.2 in
         later _ (omega arith)) a
 
-    pub member_below : (cs : List PlainCell) (e : Event) (d : Stepped) → Good cs → before end (least_event 0 cs) ≡ Some e → step_at (Some e)
-        ≡ Done d → e.key.member < s.traffic.members
+    pub member_below : (cs : List PlainCell) (e : Event) (d : Stepped) → Good cs → before till (least_event 0 cs) ≡ Some e
+        → step_at (Some e) ≡ Done d → e.key.member < s.traffic.members
     member_below cs e d good h x = let f = step_facts cs e d h x in subst (λ n. e.key.member < n) good.members
         (get_below cs e.key.member f.cell f.here)
 
-    pub above_step : (P : Key → Type 0) (cs : List PlainCell) (e : Event) (d : Stepped) → Good cs → before end (least_event 0 cs) ≡ Some e
+    pub above_step : (P : Key → Type 0) (cs : List PlainCell) (e : Event) (d : Stepped) → Good cs → before till (least_event 0 cs) ≡ Some e
         → step_at (Some e) ≡ Done d → ((k : Key) → e.key.time < k.time → P k)
         → Above P e.key.member d.cell → ((j : ℕ) (c : PlainCell) → slice_get cs j ≡ Some c → j ≢ e.key.member → Above P j c)
         → EachCell (Above P) (cells_after s e.key.member d 0 cs)
@@ -157,7 +157,7 @@ module _ (s : Setting) (fit : IsFit s) where
         each_after s (Above P) cs e.key.member d mine (λ j c g ne. told_above_by P e.key.time e.key.member d.row.sent later
         (member_below cs e d good h x) f.sender f.sent_at j c (all j c g ne))
 
-    pub above_after : (cs : List PlainCell) (e : Event) (d : Stepped) → Good cs → before end (least_event 0 cs) ≡ Some e → step_at (Some e)
+    pub above_after : (cs : List PlainCell) (e : Event) (d : Stepped) → Good cs → before till (least_event 0 cs) ≡ Some e → step_at (Some e)
         ≡ Done d → EachCell (Above (NotBefore e.key)) (cells_after s e.key.member d 0 cs)
     above_after cs e d good h x =
         let f = step_facts cs e d h x in
@@ -165,7 +165,7 @@ module _ (s : Setting) (fit : IsFit s) where
         let m = e.key.member in
         let lt : m < s.traffic.members = subst (λ n. m < n) good.members (get_below cs m f.cell f.here) in
         let a = subst (OnEvent (IsAbove (NotBefore e.key) m)) f.event
-        (before_on (IsAbove (NotBefore e.key) m) end (next_event m f.cell)
+        (before_on (IsAbove (NotBefore e.key) m) till (next_event m f.cell)
         (next_above (NotBefore e.key) m f.cell (all m f.cell f.here))) in
         each_after s (Above (NotBefore e.key)) cs m d
         (subst (OnStep (λ d. Above (NotBefore e.key) m d.cell)) x
@@ -177,7 +177,7 @@ module _ (s : Setting) (fit : IsFit s) where
     FirstFrom k [] = Unit {0}
     FirstFrom k (r ∷ rs) = NotBefore k r.key
 
-    seq_from : {cs ds : List PlainCell} {rows : List Row} (k : Key) → Seq s end cs rows ds → EachCell (Above (NotBefore k)) cs
+    seq_from : {cs ds : List PlainCell} {rows : List Row} (k : Key) → Seq s till cs rows ds → EachCell (Above (NotBefore k)) cs
         → FirstFrom k rows
     unfolding FirstFrom
     seq_from k rest a = tt
@@ -185,7 +185,7 @@ module _ (s : Setting) (fit : IsFit s) where
         let f = step_facts cs e d h x in
         let m = e.key.member in
         let b = subst (OnEvent (IsAbove (NotBefore k) m)) f.event
-        (before_on (IsAbove (NotBefore k) m) end (next_event m f.cell) (next_above (NotBefore k) m f.cell (a m f.cell f.here))) in
+        (before_on (IsAbove (NotBefore k) m) till (next_event m f.cell) (next_above (NotBefore k) m f.cell (a m f.cell f.here))) in
         subst (NotBefore k) (sym f.key) b.0
 
     first_place : (r : Row) (rows : List Row) → FirstFrom r.key rows → place row_cmp r rows ≡ r ∷ rows
@@ -194,7 +194,7 @@ module _ (s : Setting) (fit : IsFit s) where
     first_place r (q ∷ rows) h = rw h
 
     -- so the rows of the sequential run are in order
-    pub seq_ordered : {cs ds : List PlainCell} {rows : List Row} → Seq s end cs rows ds → Good cs → ordered row_cmp rows ≡ rows
+    pub seq_ordered : {cs ds : List PlainCell} {rows : List Row} → Seq s till cs rows ds → Good cs → ordered row_cmp rows ≡ rows
     seq_ordered rest good = refl
     seq_ordered (next {cs = cs} {e = e} {d = d} {rows = rows} h x more) good =
         let f = step_facts cs e d h x in
@@ -235,35 +235,35 @@ module _ (s : Setting) (fit : IsFit s) where
 
   -- ---- windows
 
-  module _ (start end : ℕ) where
+  module _ (start till : ℕ) where
     abbrev FromTime : Key → Type 0
     FromTime k = start ≤ k.time
 
-    module _ (m : ℕ) (lt : m < s.traffic.members) (far : (b : ℕ) → b < s.traffic.members → b ≢ m → end ≤ start + s.traffic.distance m b)
+    module _ (m : ℕ) (lt : m < s.traffic.members) (far : (b : ℕ) → b < s.traffic.members → b ≢ m → till ≤ start + s.traffic.distance m b)
       where
-        sends_late : (t : ℕ) (r : Row) → start ≤ t → SentBy m r.sent → SentAt t r.sent → SendsLate s end r
+        sends_late : (t : ℕ) (r : Row) → start ≤ t → SentBy m r.sent → SentAt t r.sent → SendsLate s till r
         sends_late t r from by at p e j a g = grind arith
 
-        pub own_late : (n : ℕ) (c : PlainCell) → Above FromTime m c → AllSendLate s end (own_rows end m n c)
+        pub own_late : (n : ℕ) (c : PlainCell) → Above FromTime m c → AllSendLate s till (own_rows till m n c)
         unfolding own_rows own_step
         own_late zero c a = tt
-        own_late (suc n) c a = subst (AllSendLate s end) (sym (rows_first end m n c))
-            (by_event (λ b h. own_late n b h) (before end (next_event m c)) refl)
+        own_late (suc n) c a = subst (AllSendLate s till) (sym (rows_first till m n c))
+            (by_event (λ b h. own_late n b h) (before till (next_event m c)) refl)
           where
-            by_event : ((b : PlainCell) → Above FromTime m b → AllSendLate s end (own_rows end m n b)) → (o : Option Event)
-                → before end (next_event m c) ≡ o → AllSendLate s end (rows_by end m n (own_step end m c))
-            by_event again None h = subst (λ o. AllSendLate s end (rows_by end m n (step_at o))) (sym h) tt
+            by_event : ((b : PlainCell) → Above FromTime m b → AllSendLate s till (own_rows till m n b)) → (o : Option Event)
+                → before till (next_event m c) ≡ o → AllSendLate s till (rows_by till m n (own_step till m c))
+            by_event again None h = subst (λ o. AllSendLate s till (rows_by till m n (step_at o))) (sym h) tt
             by_event again (Some e) h =
                 let b = subst (OnEvent (IsAbove FromTime m)) h
-                (before_on (IsAbove FromTime m) end (next_event m c) (next_above FromTime m c a)) in
+                (before_on (IsAbove FromTime m) till (next_event m c) (next_above FromTime m c a)) in
                 let from : start ≤ e.key.time = b.0 in
-                let of_m : e.key.member ≡ m = subst (IsOf m) h (before_of m end (next_event m c) (next_event_of m c)) in
-                subst (λ o. AllSendLate s end (rows_by end m n (step_at o))) (sym h)
-                (elim (step_at (Some e)) as (λ o. step_at (Some e) ≡ o → AllSendLate s end (rows_by end m n (step_at (Some e)))) [
-                  | Idle ↦ λ x. subst (λ o. AllSendLate s end (rows_by end m n o)) (sym x) tt
-                  | Full ↦ λ x. subst (λ o. AllSendLate s end (rows_by end m n o)) (sym x) tt
-                  | Spent ↦ λ x. subst (λ o. AllSendLate s end (rows_by end m n o)) (sym x) tt
-                  | Done d ↦ λ x. subst (λ o. AllSendLate s end (rows_by end m n o)) (sym x) (
+                let of_m : e.key.member ≡ m = subst (IsOf m) h (before_of m till (next_event m c) (next_event_of m c)) in
+                subst (λ o. AllSendLate s till (rows_by till m n (step_at o))) (sym h)
+                (elim (step_at (Some e)) as (λ o. step_at (Some e) ≡ o → AllSendLate s till (rows_by till m n (step_at (Some e)))) [
+                  | Idle ↦ λ x. subst (λ o. AllSendLate s till (rows_by till m n o)) (sym x) tt
+                  | Full ↦ λ x. subst (λ o. AllSendLate s till (rows_by till m n o)) (sym x) tt
+                  | Spent ↦ λ x. subst (λ o. AllSendLate s till (rows_by till m n o)) (sym x) tt
+                  | Done d ↦ λ x. subst (λ o. AllSendLate s till (rows_by till m n o)) (sym x) (
                     sends_late e.key.time d.row from (subst (IsStepOf m) x (step_at_of m (Some e) of_m)).1
                         (subst (OnStep (RowOf e.key)) x (row_step e)).1,
                     again d.cell (subst (OnStep (λ d. Above FromTime m d.cell)) x
@@ -275,56 +275,57 @@ module _ (s : Setting) (fit : IsFit s) where
   above_time k m c a = above_weaker (NotBefore k) (λ l. k.time ≤ l.time) (λ l h. not_before_time k l h) m c a
 
   -- a window from the least pending time is safe, where it is no wider than any distance
-  pub window_safe : (cs : List PlainCell) → Good cs → (until : ℕ) (e : Event) → before until (least_event 0 cs) ≡ Some e → (width end : ℕ)
-      → end ≤ e.key.time + width →
-      ((a b : ℕ) → a < s.traffic.members → b < s.traffic.members → a ≢ b → width ≤ s.traffic.distance a b) → Safe s end cs
-  window_safe cs good until e h width end within wide m c g n =
+  pub window_safe : (cs : List PlainCell) → Good cs → (until : ℕ) (e : Event) → before until (least_event 0 cs) ≡ Some e → (width till : ℕ)
+      → till ≤ e.key.time + width →
+      ((a b : ℕ) → a < s.traffic.members → b < s.traffic.members → a ≢ b → width ≤ s.traffic.distance a b) → Safe s till cs
+  window_safe cs good until e h width till within wide m c g n =
       let lt = subst (λ k. m < k) good.members (get_below cs m c g) in
-      own_late e.key.time end m lt (λ b bl ne. let w = wide m b lt bl (λ q. ne (sym q)) in omega arith) n c
+      own_late e.key.time till m lt (λ b bl ne. let w = wide m b lt bl (λ q. ne (sym q)) in omega arith) n c
       (above_time e.key m c (above_all until cs e good h m c g))
 
   -- ---- promises
 
-  silent_late : (end m n : ℕ) (c : PlainCell) → Silent c.holds → AllSendLate s end (own_rows end m n c)
+  silent_late : (till m n : ℕ) (c : PlainCell) → Silent c.holds → AllSendLate s till (own_rows till m n c)
   unfolding own_rows own_step
-  silent_late end m zero c h = tt
-  silent_late end m (suc n) c h = subst (AllSendLate s end) (sym (rows_first end m n c))
-      (by_event (λ b g. silent_late end m n b g) (before end (next_event m c)) refl)
+  silent_late till m zero c h = tt
+  silent_late till m (suc n) c h = subst (AllSendLate s till) (sym (rows_first till m n c))
+      (by_event (λ b g. silent_late till m n b g) (before till (next_event m c)) refl)
     where
-      by_event : ((b : PlainCell) → Silent b.holds → AllSendLate s end (own_rows end m n b)) → (o : Option Event)
-          → before end (next_event m c) ≡ o → AllSendLate s end (rows_by end m n (own_step end m c))
-      by_event again None q = subst (λ o. AllSendLate s end (rows_by end m n (step_at o))) (sym q) tt
+      by_event : ((b : PlainCell) → Silent b.holds → AllSendLate s till (own_rows till m n b)) → (o : Option Event)
+          → before till (next_event m c) ≡ o → AllSendLate s till (rows_by till m n (own_step till m c))
+      by_event again None q = subst (λ o. AllSendLate s till (rows_by till m n (step_at o))) (sym q) tt
       by_event again (Some e) q =
-          let taken = subst (OnEvent (Taken c)) q (before_on (Taken c) end (next_event m c) (next_taken m c)) in
-          subst (λ o. AllSendLate s end (rows_by end m n (step_at o))) (sym q)
-          (elim (step_at (Some e)) as (λ o. step_at (Some e) ≡ o → AllSendLate s end (rows_by end m n (step_at (Some e)))) [
-            | Idle ↦ λ x. subst (λ o. AllSendLate s end (rows_by end m n o)) (sym x) tt
-            | Full ↦ λ x. subst (λ o. AllSendLate s end (rows_by end m n o)) (sym x) tt
-            | Spent ↦ λ x. subst (λ o. AllSendLate s end (rows_by end m n o)) (sym x) tt
+          let taken = subst (OnEvent (Taken c)) q (before_on (Taken c) till (next_event m c) (next_taken m c)) in
+          subst (λ o. AllSendLate s till (rows_by till m n (step_at o))) (sym q)
+          (elim (step_at (Some e)) as (λ o. step_at (Some e) ≡ o → AllSendLate s till (rows_by till m n (step_at (Some e)))) [
+            | Idle ↦ λ x. subst (λ o. AllSendLate s till (rows_by till m n o)) (sym x) tt
+            | Full ↦ λ x. subst (λ o. AllSendLate s till (rows_by till m n o)) (sym x) tt
+            | Spent ↦ λ x. subst (λ o. AllSendLate s till (rows_by till m n o)) (sym x) tt
             | Done d ↦ λ x.
                 let f = subst (OnStep SentNothing) x (silent_step e (rest_silent c e taken h)) in
-                subst (λ o. AllSendLate s end (rows_by end m n o)) (sym x)
+                subst (λ o. AllSendLate s till (rows_by till m n o)) (sym x)
                 ((λ p sent j a g. let no : Some p ≡ None = sym sent ∙ f.0 in cc), again d.cell f.1)
           ] refl)
 
-  idle_late : (end m n : ℕ) (c : PlainCell) → next_event m c ≡ None → AllSendLate s end (own_rows end m n c)
+  idle_late : (till m n : ℕ) (c : PlainCell) → next_event m c ≡ None → AllSendLate s till (own_rows till m n c)
   unfolding own_rows own_step
-  idle_late end m zero c h = tt
-  idle_late end m (suc n) c h = subst (AllSendLate s end) (sym (rows_first end m n c))
-      (subst (λ o. AllSendLate s end (rows_by end m n (step_at (before end o)))) (sym h) tt)
+  idle_late till m zero c h = tt
+  idle_late till m (suc n) c h = subst (AllSendLate s till) (sym (rows_first till m n c))
+      (subst (λ o. AllSendLate s till (rows_by till m n (step_at (before till o)))) (sym h) tt)
 
   -- an end that no member's next event, with the way from it to any other, falls short of is safe
-  pub promise_safe : (cs : List PlainCell) → Good cs → (end : ℕ)
+  pub promise_safe : (cs : List PlainCell) → Good cs → (till : ℕ)
       → ((m : ℕ) (c : PlainCell) (e : Event) → slice_get cs m ≡ Some c → next_event m c ≡ Some e → Silent c.holds
-      ⊎ ((b : ℕ) → b < s.traffic.members → b ≢ m → end ≤ e.key.time + s.traffic.distance m b))
-      → Safe s end cs
-  promise_safe cs good end promise m c g n = elim (next_event m c) as (λ o. next_event m c ≡ o → AllSendLate s end (own_rows end m n c)) [
-    | None ↦ λ h. idle_late end m n c h
+      ⊎ ((b : ℕ) → b < s.traffic.members → b ≢ m → till ≤ e.key.time + s.traffic.distance m b))
+      → Safe s till cs
+  promise_safe cs good till promise m c g n = elim (next_event m c) as (λ o. next_event m c ≡ o
+      → AllSendLate s till (own_rows till m n c)) [
+    | None ↦ λ h. idle_late till m n c h
     | Some e ↦ λ h. elim (promise m c e g h) [
-      | inl q ↦ silent_late end m n c q
+      | inl q ↦ silent_late till m n c q
       | inr far ↦
           let least : Least e.key (next_event m c) = subst (Least e.key) (sym h) (from_refl key_cmp key_total e.key) in
-          own_late e.key.time end m (subst (λ k. m < k) good.members (get_below cs m c g)) far n c
+          own_late e.key.time till m (subst (λ k. m < k) good.members (get_below cs m c g)) far n c
           (above_time e.key m c (above_least e.key m c (good.tidy m c g) least))
     ]
   ] refl

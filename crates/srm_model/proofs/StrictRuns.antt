@@ -16,6 +16,7 @@ use Rattle.srm_cell.specs.Flights.{flight_cmp, numbers_of_flight}
 use Rattle.srm_cell.specs.OwnRuns.{told_to}
 use Rattle.srm_cell.specs.Setting.{HasOwnRanks, IsFit, Setting, arrival_of}
 use Rattle.srm_cell.specs.declared.flight.Flight.{Flight}
+use Rattle.srm_model.proofs.HandedOnce.{sent_by, sent_of}
 use Rattle.srm_model.proofs.OneStep.{hear_at_sent}
 use Rattle.srm_model.proofs.RunLemmas.{Seq, next, rest, seq_run}
 use Rattle.srm_model.proofs.Sequential.{Good, StepFacts, above_after, above_all, above_step, good_opening, good_step}
@@ -58,13 +59,6 @@ ascends_tail cmp ys xs (inr e) h = (subst (Ascends cmp) e.1 h).1
 
 -- ---- how many packets each member sent
 
-unfoldable pub sent_by : Option PlainCell → ℕ
-sent_by None = 0
-sent_by (Some c) = c.sent
-
-abbrev pub sent_of : List PlainCell → ℕ → ℕ
-sent_of cs x = sent_by (slice_get cs x)
-
 -- the packets in an inbox were sent
 abbrev pub IsFresh : List PlainCell → PlainCell → Type 0
 IsFresh cs c = AllIn (λ f. f.packet.id.count < sent_of cs f.packet.id.sender) c.inbox
@@ -94,17 +88,17 @@ module _ (s : Setting) (fit : IsFit s) where
   told_sent None m c = refl
   told_sent (Some p) m c = hear_at_sent p (arrival_of s.traffic p m) c
 
-  module _ (end : ℕ) (cs : List PlainCell) (e : Event) (d : Stepped) (good : Good s fit cs) (strict : Strict cs)
-      (h : before end (least_event 0 cs) ≡ Some e) (x : step_at (Some e) ≡ Done d) where
+  module _ (till : ℕ) (cs : List PlainCell) (e : Event) (d : Stepped) (good : Good s fit cs) (strict : Strict cs)
+      (h : before till (least_event 0 cs) ≡ Some e) (x : step_at (Some e) ≡ Done d) where
     abbrev m : ℕ
     m = e.key.member
 
-    facts : StepFacts s fit end cs e d
-    facts = step_facts s fit end cs e d h x
+    facts : StepFacts s fit till cs e d
+    facts = step_facts s fit till cs e d h x
 
     rest_of : RestOf facts.cell e
     rest_of = subst (OnEvent (RestOf facts.cell)) facts.event
-        (before_on (RestOf facts.cell) end (next_event m facts.cell) (next_rest m facts.cell))
+        (before_on (RestOf facts.cell) till (next_event m facts.cell) (next_rest m facts.cell))
 
     did : StepOf e d
     did = subst (OnStep (StepOf e)) x (step_is_of e)
@@ -116,19 +110,15 @@ module _ (s : Setting) (fit : IsFit s) where
     here_after = grind (arith, get_after, facts)
 
     pub sent_here : sent_of cs m ≡ e.rest.sent
-    unfolding sent_by
     sent_here = ap sent_by facts.here ∙ sym rest_of.sent
 
     sent_after : sent_of after m ≡ d.cell.sent
-    unfolding sent_by
     sent_after = ap sent_by here_after
 
     sent_at : (y : ℕ) (c : PlainCell) → slice_get cs y ≡ Some c → c.sent ≤ (at_member s m d y c).sent
-    unfolding sent_by
     sent_at y c g = grind (arith, sent_here, did, told_sent)
 
     sent_grows : (y : ℕ) → sent_of cs y ≤ sent_of after y
-    unfolding sent_by
     sent_grows y = grind (arith, get_after, sent_at)
 
     fresh_after : (c : PlainCell) → IsFresh cs c → IsFresh after c
@@ -200,44 +190,45 @@ module _ (s : Setting) (fit : IsFit s) where
     strictly_after : EachCell (Above (After e.key)) after
     strictly_after =
         let besides = subst (OnEvent (Besides m facts.cell)) facts.event
-        (before_on (Besides m facts.cell) end (next_event m facts.cell)
+        (before_on (Besides m facts.cell) till (next_event m facts.cell)
         (next_besides m facts.cell (strict.distinct m facts.cell facts.here))) in
         let clear = subst (OnStep (λ d. Above (Differs e.key) m d.cell)) x
         (clear_step m facts.cell e (good.sound m facts.cell facts.here) besides) in
-        let from = above_after s fit end cs e d good h x m d.cell here_after in
-        above_step s fit end (After e.key) cs e d good h x
+        let from = above_after s fit till cs e d good h x m d.cell here_after in
+        above_step s fit till (After e.key) cs e d good h x
         (λ k lt. then_after e.key k (later_not_before e.key k lt) (later_differs e.key k lt)) (both e.key m d.cell from clear)
-        (λ j c g ne. both e.key j c (above_all s fit end cs e good h j c g) (other_member e.key j c (λ q. ne (sym q))))
+        (λ j c g ne. both e.key j c (above_all s fit till cs e good h j c g) (other_member e.key j c (λ q. ne (sym q))))
 
     still_after : (k : Key) → EachCell (Above (After k)) cs → (After k e.key) × EachCell (Above (After k)) after
     still_after k all =
         let a = subst (OnEvent (IsAbove (After k) m)) facts.event
-        (before_on (IsAbove (After k) m) end (next_event m facts.cell)
+        (before_on (IsAbove (After k) m) till (next_event m facts.cell)
         (next_above (After k) m facts.cell (all m facts.cell facts.here))) in
         let later : (l : Key) → e.key.time < l.time → After k l = λ l lt. key_total.trans k e.key l a.0
         (then_after e.key l (later_not_before e.key l lt) (later_differs e.key l lt)) in (
           a.0,
-          above_step s fit end (After k) cs e d good h x later
+          above_step s fit till (After k) cs e d good h x later
               (subst (OnStep (λ d. Above (After k) m d.cell)) x (step_above (After k) m e.key.time later e refl a.1))
               (λ j c g ne. all j c g),
         )
 
-  seq_after : {end : ℕ} {cs ds : List PlainCell} {rows : List Row} (r : Row) → Seq s end cs rows ds → Good s fit cs → Strict cs
+  seq_after : {till : ℕ} {cs ds : List PlainCell} {rows : List Row} (r : Row) → Seq s till cs rows ds → Good s fit cs → Strict cs
       → EachCell (Above (λ l. key_cmp r.key l ≡ Less)) cs → AllAfter row_cmp r rows
   seq_after r rest good strict all = tt
-  seq_after {end} r (next {cs = cs} {e = e} {d = d} h x more) good strict all =
-      let a = still_after end cs e d good strict h x r.key all in
-      let f = step_facts s fit end cs e d h x in
-      (ap (key_cmp r.key) f.key ∙ a.0, seq_after r more (good_step s fit end cs e d good h x) (strict_step end cs e d good strict h x) a.1)
+  seq_after {till} r (next {cs = cs} {e = e} {d = d} h x more) good strict all =
+      let a = still_after till cs e d good strict h x r.key all in
+      let f = step_facts s fit till cs e d h x in
+      (ap (key_cmp r.key) f.key ∙ a.0,
+        seq_after r more (good_step s fit till cs e d good h x) (strict_step till cs e d good strict h x) a.1)
 
-  seq_ascends : {end : ℕ} {cs ds : List PlainCell} {rows : List Row} → Seq s end cs rows ds → Good s fit cs → Strict cs
+  seq_ascends : {till : ℕ} {cs ds : List PlainCell} {rows : List Row} → Seq s till cs rows ds → Good s fit cs → Strict cs
       → Ascends row_cmp rows
   seq_ascends rest good strict = tt
-  seq_ascends {end} (next {cs = cs} {e = e} {d = d} h x more) good strict =
-      let f = step_facts s fit end cs e d h x in
-      let good' = good_step s fit end cs e d good h x in
-      let strict' = strict_step end cs e d good strict h x in
-      let all = strictly_after end cs e d good strict h x in (
+  seq_ascends {till} (next {cs = cs} {e = e} {d = d} h x more) good strict =
+      let f = step_facts s fit till cs e d h x in
+      let good' = good_step s fit till cs e d good h x in
+      let strict' = strict_step till cs e d good strict h x in
+      let all = strictly_after till cs e d good strict h x in (
         seq_after d.row more good' strict' (subst (λ k. EachCell (Above (λ l. key_cmp k l ≡ Less))
             (cells_after s e.key.member d 0 cs))
             (sym f.key) all),

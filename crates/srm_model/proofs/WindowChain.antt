@@ -27,8 +27,8 @@ module _ (s : Setting) (rule : World → ℕ) where
 
   -- ---- a run has one list of windows
 
-  first_is_one : (end : ℕ) (w v u : World) → IsFirstQuiet s end w v → IsFirstQuiet s end w u → v ≡ u
-  first_is_one end w v u a b = grind arith
+  first_is_one : (till : ℕ) (w v u : World) → IsFirstQuiet s till w v → IsFirstQuiet s till w u → v ≡ u
+  first_is_one till w v u a b = grind arith
 
   longer : (begins : List World) (w : World) → length (begins ++ w ∷ []) ≡ suc (length begins)
   longer begins w = omega (arith, length-append begins (w ∷ []))
@@ -75,19 +75,19 @@ module _ (s : Setting) (rule : World → ℕ) where
     -- ---- windows come to the end
 
     AllResults : ℕ → ℕ → List PlainCell → Type 0
-    AllResults end i cs = (j : ℕ) (c : PlainCell) → slice_get cs j ≡ Some c → (n : ℕ) × (own_end end (i + j) n c ≡ Idle)
+    AllResults till i cs = (j : ℕ) (c : PlainCell) → slice_get cs j ≡ Some c → (n : ℕ) × (own_end till (i + j) n c ≡ Idle)
 
     SomeFull : ℕ → ℕ → List PlainCell → Type 0
-    SomeFull end i cs = (j : ℕ) × (c : PlainCell) × (slice_get cs j ≡ Some c) × (n : ℕ) × (own_end end (i + j) n c ≡ Full)
+    SomeFull till i cs = (j : ℕ) × (c : PlainCell) × (slice_get cs j ≡ Some c) × (n : ℕ) × (own_end till (i + j) n c ≡ Full)
 
     Come : Type 0
     Come = ((begins : List World) × (w : World) × AreWindows s rule begins w × IsLast s w) ⊎ RunMeetsFull s
 
-    all_or_full : (end i : ℕ) (cs : List PlainCell) → ((j : ℕ) (c : PlainCell) → slice_get cs j ≡ Some c → (n : ℕ)
-        × ((own_end end (i + j) n c ≡ Idle) ⊎ (own_end end (i + j) n c ≡ Full))) → AllResults end i cs ⊎ SomeFull end i cs
+    all_or_full : (till i : ℕ) (cs : List PlainCell) → ((j : ℕ) (c : PlainCell) → slice_get cs j ≡ Some c → (n : ℕ)
+        × ((own_end till (i + j) n c ≡ Idle) ⊎ (own_end till (i + j) n c ≡ Full))) → AllResults till i cs ⊎ SomeFull till i cs
     unfolding AllResults SomeFull
-    all_or_full end i [] f = inl (λ j c g. cc)
-    all_or_full end i (c ∷ cs) f = elim (all_or_full end (suc i) cs (λ j b g. rw (← shifted i j) (f (suc j) b g))) [
+    all_or_full till i [] f = inl (λ j c g. cc)
+    all_or_full till i (c ∷ cs) f = elim (all_or_full till (suc i) cs (λ j b g. rw (← shifted i j) (f (suc j) b g))) [
       | inr r ↦ inr (suc r.0, r.1, r.2, r.3, rw (shifted i r.0) r.4)
       | inl r ↦
           let now = f 0 c refl in
@@ -97,10 +97,10 @@ module _ (s : Setting) (rule : World → ℕ) where
           ]
     ]
       where
-        each : (n : ℕ) → own_end end (i + 0) n c ≡ Idle →
-            ((j : ℕ) (b : PlainCell) → slice_get cs j ≡ Some b → (k : ℕ) × (own_end end (suc i + j) k b ≡ Idle)) → (j : ℕ) (b : PlainCell)
-            → slice_get (c ∷ cs) j ≡ Some b → (k : ℕ) × (own_end end (i + j) k b ≡ Idle)
-        each n idle r zero b g = let same : c ≡ b = cc in (n, subst (λ x. own_end end (i + 0) n x ≡ Idle) same idle)
+        each : (n : ℕ) → own_end till (i + 0) n c ≡ Idle →
+            ((j : ℕ) (b : PlainCell) → slice_get cs j ≡ Some b → (k : ℕ) × (own_end till (suc i + j) k b ≡ Idle)) → (j : ℕ) (b : PlainCell)
+            → slice_get (c ∷ cs) j ≡ Some b → (k : ℕ) × (own_end till (i + j) k b ≡ Idle)
+        each n idle r zero b g = let same : c ≡ b = cc in (n, subst (λ x. own_end till (i + 0) n x ≡ Idle) same idle)
         each n idle r (suc j) b g = rw (shifted i j) (r j b g)
 
     one_window : (begins : List World) (w : World) (e : Event) → AreWindows s rule begins w → IsNext s w e

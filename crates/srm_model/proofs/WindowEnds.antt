@@ -32,18 +32,18 @@ start_is s w e h = let b = before_some s.traffic.until (least_event 0 w.cells) e
     (ap (λ x. unwrap_or (time_of x) s.traffic.until) b.0, b.1)
 
 -- what is pending where nothing before an end is, is from there on
-quiet_after : (s : Setting) (end : ℕ) (v : World) → IsQuiet end v → (x : Option Event) → least_event 0 v.cells ≡ x → end ≤ s.traffic.until
-    → end ≤ unwrap_or (time_of x) s.traffic.until
-quiet_after s end v quiet None h within = within
-quiet_after s end v quiet (Some e) h within = elim (nat_lt e.key.time end) as (λ b. nat_lt e.key.time end ≡ b → end ≤ e.key.time) [
+quiet_after : (s : Setting) (till : ℕ) (v : World) → IsQuiet till v → (x : Option Event) → least_event 0 v.cells ≡ x
+    → till ≤ s.traffic.until → till ≤ unwrap_or (time_of x) s.traffic.until
+quiet_after s till v quiet None h within = within
+quiet_after s till v quiet (Some e) h within = elim (nat_lt e.key.time till) as (λ b. nat_lt e.key.time till ≡ b → till ≤ e.key.time) [
   | true ↦ λ q.
-      let early : before end (least_event 0 v.cells) ≡ Some e = ap (before end) h ∙ ap (λ b. keep b e) q in
-      absurd (some_not_idle e (sym (least_own end v.cells e early) ∙ quiet e.key.member))
+      let early : before till (least_event 0 v.cells) ≡ Some e = ap (before till) h ∙ ap (λ b. keep b e) q in
+      absurd (some_not_idle e (sym (least_own till v.cells e early) ∙ quiet e.key.member))
   | false ↦ λ q. ltb-false _ _ q
 ] refl
 
-pub starts_after : (s : Setting) (end : ℕ) (v : World) → IsQuiet end v → end ≤ s.traffic.until → end ≤ start_of s v
-starts_after s end v quiet within = quiet_after s end v quiet (least_event 0 v.cells) refl within
+pub starts_after : (s : Setting) (till : ℕ) (v : World) → IsQuiet till v → till ≤ s.traffic.until → till ≤ start_of s v
+starts_after s till v quiet within = quiet_after s till v quiet (least_event 0 v.cells) refl within
 
 -- ---- rules
 

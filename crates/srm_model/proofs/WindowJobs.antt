@@ -83,31 +83,31 @@ jobs_are_in_place cut till w pos = (
 
 -- ---- the results of jobs
 
-runs_append : (end i : ℕ) (cs : List PlainCell) (qs : List OwnResult) (ds : List PlainCell) (rs : List OwnResult) → AreOwnRuns end i cs qs
-    → AreOwnRuns end (i + length cs) ds rs → AreOwnRuns end i (cs ++ ds) (qs ++ rs)
-runs_append end i [] [] ds rs h g = rw add-zero at g
-runs_append end i (c ∷ cs) (q ∷ qs) ds rs h g = (
+runs_append : (till i : ℕ) (cs : List PlainCell) (qs : List OwnResult) (ds : List PlainCell) (rs : List OwnResult) → AreOwnRuns till i cs qs
+    → AreOwnRuns till (i + length cs) ds rs → AreOwnRuns till i (cs ++ ds) (qs ++ rs)
+runs_append till i [] [] ds rs h g = rw add-zero at g
+runs_append till i (c ∷ cs) (q ∷ qs) ds rs h g = (
   h.0,
-  runs_append end (suc i) cs qs ds rs h.1
-      (let e : i + suc (length cs) ≡ suc i + length cs = omega arith in subst (λ k. AreOwnRuns end k ds rs) e g),
+  runs_append till (suc i) cs qs ds rs h.1
+      (let e : i + suc (length cs) ≡ suc i + length cs = omega arith in subst (λ k. AreOwnRuns till k ds rs) e g),
 )
-runs_append end i [] (q ∷ qs) ds rs h g = absurd h
-runs_append end i (c ∷ cs) [] ds rs h g = absurd h
+runs_append till i [] (q ∷ qs) ds rs h g = absurd h
+runs_append till i (c ∷ cs) [] ds rs h g = absurd h
 
-jobs_run : (n cut end place i : ℕ) (cs : List PlainCell) (rss : List (List OwnResult)) → 0 < cut → length cs ≤ n
-    → AreJobRuns i (jobs_within n cut end place cs) rss → AreOwnRuns end i cs (joined rss)
-jobs_run n cut end place i [] [] pos le h = tt
-jobs_run n cut end place i [] (rs ∷ rss) pos le h = absurd h
-jobs_run zero cut end place i (c ∷ cs) rss pos le h = absurd (omega arith)
-jobs_run (suc n) cut end place i (c ∷ cs) [] pos le h = absurd h
-jobs_run (suc n) cut end place i (c ∷ cs) (rs ∷ rss) pos le h =
+jobs_run : (n cut till place i : ℕ) (cs : List PlainCell) (rss : List (List OwnResult)) → 0 < cut → length cs ≤ n
+    → AreJobRuns i (jobs_within n cut till place cs) rss → AreOwnRuns till i cs (joined rss)
+jobs_run n cut till place i [] [] pos le h = tt
+jobs_run n cut till place i [] (rs ∷ rss) pos le h = absurd h
+jobs_run zero cut till place i (c ∷ cs) rss pos le h = absurd (omega arith)
+jobs_run (suc n) cut till place i (c ∷ cs) [] pos le h = absurd h
+jobs_run (suc n) cut till place i (c ∷ cs) (rs ∷ rss) pos le h =
     let all = c ∷ cs in
-    let more = jobs_run n cut end (suc place) (i + length (take cut all)) (drop cut all) rss pos (shorter cut n c cs pos le) h.1 in
-    subst (λ l. AreOwnRuns end i l (rs ++ joined rss)) (take-append-drop cut all)
-    (runs_append end i (take cut all) rs (drop cut all) (joined rss) h.0 more)
+    let more = jobs_run n cut till (suc place) (i + length (take cut all)) (drop cut all) rss pos (shorter cut n c cs pos le) h.1 in
+    subst (λ l. AreOwnRuns till i l (rs ++ joined rss)) (take-append-drop cut all)
+    (runs_append till i (take cut all) rs (drop cut all) (joined rss) h.0 more)
 
 pub jobs_run_all : JobsRunAll
-jobs_run_all w cut end rss pos h = jobs_run (length w.cells) cut end 0 0 w.cells rss pos (le_refl (length w.cells)) h
+jobs_run_all w cut till rss pos h = jobs_run (length w.cells) cut till 0 0 w.cells rss pos (le_refl (length w.cells)) h
 
 -- ---- jobs that meet a step without a result
 
@@ -120,30 +120,30 @@ pub get_second : {A : Type 0} (xs ys : List A) (j : ℕ) → slice_get (xs ++ ys
 get_second [] ys j = ap (slice_get ys) (zero-add j)
 get_second (z ∷ xs) ys j = let e : suc (length xs) + j ≡ suc (length xs + j) = omega arith in rw e (get_second xs ys j)
 
-jobs_full : (n cut end place i : ℕ) (cs : List PlainCell) → 0 < cut → length cs ≤ n → SomeJobMeetsFull i (jobs_within n cut end place cs)
-    → SomeMeetsFull end i cs
-jobs_full n cut end place i [] pos le h = absurd h
-jobs_full zero cut end place i (c ∷ cs) pos le h = absurd (omega arith)
-jobs_full (suc n) cut end place i (c ∷ cs) pos le (inl h) = (
+jobs_full : (n cut till place i : ℕ) (cs : List PlainCell) → 0 < cut → length cs ≤ n → SomeJobMeetsFull i (jobs_within n cut till place cs)
+    → SomeMeetsFull till i cs
+jobs_full n cut till place i [] pos le h = absurd h
+jobs_full zero cut till place i (c ∷ cs) pos le h = absurd (omega arith)
+jobs_full (suc n) cut till place i (c ∷ cs) pos le (inl h) = (
   h.0,
   h.1,
   subst (λ l. slice_get l h.0 ≡ Some h.1) (take-append-drop cut (c ∷ cs))
       (get_first (take cut (c ∷ cs)) (drop cut (c ∷ cs)) h.0 h.1 h.2),
   h.3,
 )
-jobs_full (suc n) cut end place i (c ∷ cs) pos le (inr h) =
+jobs_full (suc n) cut till place i (c ∷ cs) pos le (inr h) =
     let all = c ∷ cs in
-    let r = jobs_full n cut end (suc place) (i + length (take cut all)) (drop cut all) pos (shorter cut n c cs pos le) h in
+    let r = jobs_full n cut till (suc place) (i + length (take cut all)) (drop cut all) pos (shorter cut n c cs pos le) h in
     let at : i + length (take cut all) + r.0 ≡ i + (length (take cut all) + r.0) = omega arith in (
       length (take cut all) + r.0,
       r.1,
       subst (λ l. slice_get l (length (take cut all) + r.0) ≡ Some r.1) (take-append-drop cut all)
           (get_second (take cut all) (drop cut all) r.0 ∙ r.2),
-      subst (λ m. MeetsFull end m r.1) at r.3,
+      subst (λ m. MeetsFull till m r.1) at r.3,
     )
 
 pub jobs_refuse : JobsRefuse
-jobs_refuse w cut end pos h = grind (arith, jobs_full)
+jobs_refuse w cut till pos h = grind (arith, jobs_full)
 
 -- ---- crossings in any order
 

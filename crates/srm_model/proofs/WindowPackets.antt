@@ -75,21 +75,21 @@ module _ (s : Setting) (v : World) (reached : IsReached s v) (earlier after : Li
 -- ---- what inboxes keep
 
 module _ (Q : Flight → Type 0) where
-  step_keeps : (end m : ℕ) (c : PlainCell) (d : Stepped) → own_step end m c ≡ Done d → AllIn Q c.inbox → AllIn Q d.cell.inbox
+  step_keeps : (till m : ℕ) (c : PlainCell) (d : Stepped) → own_step till m c ≡ Done d → AllIn Q c.inbox → AllIn Q d.cell.inbox
   unfolding own_step
-  step_keeps end m c d h a = grind (arith, step_is_of, next_rest)
+  step_keeps till m c d h a = grind (arith, step_is_of, next_rest)
 
-  run_keeps : (end m n : ℕ) (c : PlainCell) → AllIn Q c.inbox → AllIn Q (own_after end m n c).inbox
+  run_keeps : (till m n : ℕ) (c : PlainCell) → AllIn Q c.inbox → AllIn Q (own_after till m n c).inbox
   unfolding own_after
-  run_keeps end m zero c a = a
-  run_keeps end m (suc n) c a =
-      let by = λ (o : StepOutcome Stepped) (e : own_step end m c ≡ o). after_first end m n c ∙ ap (after_by end m n c) e in
-      elim (own_step end m c) as (λ o. own_step end m c ≡ o → AllIn Q (own_after end m (suc n) c).inbox) [
+  run_keeps till m zero c a = a
+  run_keeps till m (suc n) c a =
+      let by = λ (o : StepOutcome Stepped) (e : own_step till m c ≡ o). after_first till m n c ∙ ap (after_by till m n c) e in
+      elim (own_step till m c) as (λ o. own_step till m c ≡ o → AllIn Q (own_after till m (suc n) c).inbox) [
         | Idle ↦ λ e. subst (λ (b : PlainCell). AllIn Q b.inbox) (sym (by Idle e)) a
         | Full ↦ λ e. subst (λ (b : PlainCell). AllIn Q b.inbox) (sym (by Full e)) a
         | Spent ↦ λ e. subst (λ (b : PlainCell). AllIn Q b.inbox) (sym (by Spent e)) a
         | Done d ↦ λ e. subst (λ (b : PlainCell). AllIn Q b.inbox) (sym (by (Done d) e))
-            (run_keeps end m n d.cell (step_keeps end m c d e a))
+            (run_keeps till m n d.cell (step_keeps till m c d e a))
       ] refl
 
   module _ (s : Setting) where
@@ -119,43 +119,43 @@ brings_none id (f ∷ fs) h = (h.0, brings_none id fs h.1)
 
 -- ---- a window's packets
 
-get_cell : (end i : ℕ) (cs : List PlainCell) (rs : List OwnResult) → AreOwnRuns end i cs rs → (j : ℕ) (d : PlainCell)
+get_cell : (till i : ℕ) (cs : List PlainCell) (rs : List OwnResult) → AreOwnRuns till i cs rs → (j : ℕ) (d : PlainCell)
     → slice_get (cells_in rs) j ≡ Some d
-    → (c : PlainCell) × (n : ℕ) × (slice_get cs j ≡ Some c) × (d ≡ own_after end (i + j) n c)
-get_cell end i [] [] h j d g = cc
-get_cell end i (c ∷ cs) (r ∷ rs) h zero d g = (
+    → (c : PlainCell) × (n : ℕ) × (slice_get cs j ≡ Some c) × (d ≡ own_after till (i + j) n c)
+get_cell till i [] [] h j d g = cc
+get_cell till i (c ∷ cs) (r ∷ rs) h zero d g = (
   c,
   h.0.steps,
   refl,
   same_Some _ _ (sym g) ∙ h.0.leaves
-      ∙ ap (λ k. own_after end k h.0.steps c) (sym (add-zero i)),
+      ∙ ap (λ k. own_after till k h.0.steps c) (sym (add-zero i)),
 )
-get_cell end i (c ∷ cs) (r ∷ rs) h (suc j) d g = rw (shifted i j) (get_cell end (suc i) cs rs h.1 j d g)
-get_cell end i [] (r ∷ rs) h j d g = absurd h
-get_cell end i (c ∷ cs) [] h j d g = absurd h
+get_cell till i (c ∷ cs) (r ∷ rs) h (suc j) d g = rw (shifted i j) (get_cell till (suc i) cs rs h.1 j d g)
+get_cell till i [] (r ∷ rs) h j d g = absurd h
+get_cell till i (c ∷ cs) [] h j d g = absurd h
 
 -- where every packet that was sent before is another, it is new to every cell that has heard those of the rows
-pub new_after : (s : Setting) (w : World) (end : ℕ) (results : List OwnResult) (rows : List Row) (p : Packet) → IsReached s w
-    → AreOwnRuns end 0 w.cells results → ((q : Packet) → SentIn q (w.trace ++ rows) → q.id ≢ p.id)
+pub new_after : (s : Setting) (w : World) (till : ℕ) (results : List OwnResult) (rows : List Row) (p : Packet) → IsReached s w
+    → AreOwnRuns till 0 w.cells results → ((q : Packet) → SentIn q (w.trace ++ rows) → q.id ≢ p.id)
     → IsUnheard p.id (each_hears s.traffic 0 rows (cells_in results))
-new_after s w end results rows p reached alone other = λ j q g.
+new_after s w till results rows p reached alone other = λ j q g.
     let Q = λ (f : Flight). f.packet.id ≢ p.id in
     let d = mapped (hear_rows s.traffic (0 + j) rows) (slice_get (cells_in results) j) q
     (sym (get_heard s 0 j rows (cells_in results)) ∙ g) in
-    let c = get_cell end 0 w.cells results alone j d.0 d.1 in
+    let c = get_cell till 0 w.cells results alone j d.0 d.1 in
     let flights = (handed_reached s w reached).flights j c.0 c.2 in
     let was : AllIn Q c.0.inbox = AllIn-weaker (IsFlight s w.trace j) Q (λ f h. other f.packet (sent_more f.packet w.trace rows h.0))
     c.0.inbox flights in
-    let ran : AllIn Q d.0.inbox = subst (λ (b : PlainCell). AllIn Q b.inbox) (sym c.3) (run_keeps Q end (0 + j) c.1 c.0 was) in
+    let ran : AllIn Q d.0.inbox = subst (λ (b : PlainCell). AllIn Q b.inbox) (sym c.3) (run_keeps Q till (0 + j) c.1 c.0 was) in
     let heard : AllIn Q (hear_rows s.traffic (0 + j) rows d.0).inbox =
     hear_keeps Q s (0 + j) rows d.0 (λ x t at. other x (t.0, Contains-append_right w.trace rows t.0 t.1, t.2)) ran in
     brings_none p.id q.inbox (subst (λ (b : PlainCell). AllIn Q b.inbox) d.2 heard)
 
 pub window_packets_are_new : WindowPacketsAreNew
-window_packets_are_new s w end fit reached within safe results all alone merge rows after r p split sent =
+window_packets_are_new s w till fit reached within safe results all alone merge rows after r p split sent =
     let v = after_window s w results all in
-    let window : IsWindow s end w v = record { results = results; rows = all; alone = alone; merged = merge; is = refl } in
-    let agree = windows_agree s w v end fit reached within safe window in
+    let window : IsWindow s till w v = record { results = results; rows = all; alone = alone; merged = merge; is = refl } in
+    let agree = windows_agree s w v till fit reached within safe window in
     let trace : v.trace ≡ w.trace ++ all = refl in
     let whole : v.trace ≡ (w.trace ++ rows) ++ r ∷ after = trace ∙ ap (λ l. w.trace ++ l) split
     ∙ sym (append_assoc w.trace rows (r ∷ after)) in
@@ -165,7 +165,7 @@ window_packets_are_new s w end fit reached within safe results all alone merge r
     (subst (AllIn (IsWithin s fit)) new (rows_within s fit part.1 (good_reached s fit reached.0 w reached.1))) in
     let number = packets_are_numbered s v agree.1 (w.trace ++ rows) after r p whole sent in
     let other = later_is_new s v agree.1 (w.trace ++ rows) after r p whole sent in (
-      new_after s w end results rows p reached alone other,
+      new_after s w till results rows p reached alone other,
       subst (λ n. n < s.traffic.members) (sym number.0) here.0,
       subst (λ n. n < s.traffic.until) (sym number.2) here.1,
     )

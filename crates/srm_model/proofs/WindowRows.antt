@@ -57,8 +57,8 @@ each_listed Q [] h = tt
 each_listed Q (x ∷ xs) h = (h 0 x refl, each_listed Q xs (λ m y g. h (suc m) y g))
 
 pub own_rows_are_sorted : OwnRowsAreSorted
-own_rows_are_sorted s w end fit reached within safe results runs =
-    let part = part_of s w end fit reached within safe results runs in
+own_rows_are_sorted s w till fit reached within safe results runs =
+    let part = part_of s w till fit reached within safe results runs in
     let p = part.1 in
     let new = new_rows w part.0 in
     let all : Ascends row_cmp (w.trace ++ new) = subst (Ascends row_cmp) (trace_grows s fit p.first.steps w part.0 p.first.comes)

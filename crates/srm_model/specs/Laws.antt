@@ -80,30 +80,31 @@ RunEnds = (s : Setting) → IsFit s → (n : ℕ) × ((run s n (opening s) ≡ I
 
 -- member m's own run to an end is finite
 abbrev pub IsFinite : ℕ → World → ℕ → Type 0
-IsFinite end w m =
-    (c : PlainCell) → slice_get w.cells m ≡ Some c → (n : ℕ) × ((own_end end m n c ≡ Idle) ⊎ (own_end end m n c ≡ Full))
+IsFinite till w m =
+    (c : PlainCell) → slice_get w.cells m ≡ Some c
+    → (n : ℕ) × ((own_end till m n c ≡ Idle) ⊎ (own_end till m n c ≡ Full))
 
 -- every own run to every end is finite
 abbrev pub OwnRunsEnd : Type 0
-OwnRunsEnd = (s : Setting) (w : World) (end : ℕ) → IsFit s → IsReached s w → (m : ℕ) → IsFinite end w m
+OwnRunsEnd = (s : Setting) (w : World) (till : ℕ) → IsFit s → IsReached s w → (m : ℕ) → IsFinite till w m
 
 -- no event is pending at a record that is gone: neither the sequential run nor an own run meets one
 abbrev pub NeverSpent : Type 0
 NeverSpent =
     (s : Setting) (w : World) → IsFit s → IsReached s w
     → ((n : ℕ) → run s n w ≢ Spent)
-    × ((end m n : ℕ) (c : PlainCell) → slice_get w.cells m ≡ Some c → own_end end m n c ≢ Spent)
+    × ((till m n : ℕ) (c : PlainCell) → slice_get w.cells m ≡ Some c → own_end till m n c ≢ Spent)
 
 -- ---- schedules
 
 -- every complete schedule to a safe end comes, its rows in order, to the world to which the sequential run comes
 abbrev pub SchedulesAgree : Type 0
 SchedulesAgree =
-    (s : Setting) (w : World) (end : ℕ) → IsFit s → IsReached s w → end ≤ s.traffic.until → IsSafe s end w
-    → ((m : ℕ) → HasResult end w m)
-    → (v : World) × IsFirstQuiet s end w v
-    × ((ms : List ℕ) × (scheduled s end ms w ≡ Done v))
-    × ((ms : List ℕ) (u : World) → scheduled s end ms w ≡ Done u → IsQuiet end u → in_key_order w u ≡ v)
+    (s : Setting) (w : World) (till : ℕ) → IsFit s → IsReached s w → till ≤ s.traffic.until → IsSafe s till w
+    → ((m : ℕ) → HasResult till w m)
+    → (v : World) × IsFirstQuiet s till w v
+    × ((ms : List ℕ) × (scheduled s till ms w ≡ Done v))
+    × ((ms : List ℕ) (u : World) → scheduled s till ms w ≡ Done u → IsQuiet till u → in_key_order w u ≡ v)
 
 -- a refused step: the packet count is used up, or the record is gone
 abbrev pub IsRefusal : {A : Type 0} → StepOutcome A → Type 0
@@ -115,54 +116,54 @@ IsRefusal (Done v) = ⊥
 -- where every own run to a safe end has a result, no schedule to that end meets a refused step
 abbrev pub SchedulesAreAnswered : Type 0
 SchedulesAreAnswered =
-    (s : Setting) (w : World) (end : ℕ) → IsSafe s end w → ((m : ℕ) → HasResult end w m)
-    → (ms : List ℕ) → ¬ IsRefusal (scheduled s end ms w)
+    (s : Setting) (w : World) (till : ℕ) → IsSafe s till w → ((m : ℕ) → HasResult till w m)
+    → (ms : List ℕ) → ¬ IsRefusal (scheduled s till ms w)
 
 -- where an own run to a safe end has no result, the sequential run meets a step that has none, from this world and from
 -- the beginning
 abbrev pub RefusalsAreMet : Type 0
 RefusalsAreMet =
-    (s : Setting) (w : World) (end : ℕ) → IsFit s → IsReached s w → end ≤ s.traffic.until → IsSafe s end w
-    → (m : ℕ) → HasNoResult end w m → ((n : ℕ) × (run s n w ≡ Full)) × RunMeetsFull s
+    (s : Setting) (w : World) (till : ℕ) → IsFit s → IsReached s w → till ≤ s.traffic.until → IsSafe s till w
+    → (m : ℕ) → HasNoResult till w m → ((n : ℕ) × (run s n w ≡ Full)) × RunMeetsFull s
 
 -- after a complete schedule to a safe end each cell is what its own run alone leaves, and then has heard the packets of
 -- all rows; and its member's rows are those of its own run
 abbrev pub CellsRunAlone : Type 0
 CellsRunAlone =
-    (s : Setting) (w : World) (end : ℕ) → IsSafe s end w
-    → (ms : List ℕ) (u : World) → scheduled s end ms w ≡ Done u → IsQuiet end u
+    (s : Setting) (w : World) (till : ℕ) → IsSafe s till w
+    → (ms : List ℕ) (u : World) → scheduled s till ms w ≡ Done u → IsQuiet till u
     → (m : ℕ) (c : PlainCell) → slice_get w.cells m ≡ Some c
-    → (n : ℕ) × (own_end end m n c ≡ Idle)
-    × (rows_of_member m (new_rows w u) ≡ own_rows end m n c)
-    × (slice_get u.cells m ≡ Some (hear_rows s.traffic m (new_rows w u) (own_after end m n c)))
+    → (n : ℕ) × (own_end till m n c ≡ Idle)
+    × (rows_of_member m (new_rows w u) ≡ own_rows till m n c)
+    × (slice_get u.cells m ≡ Some (hear_rows s.traffic m (new_rows w u) (own_after till m n c)))
 
 -- ---- windows
 
 -- an end that is no further from the least pending time than any two members are apart is safe
 abbrev pub WindowsAreSafe : Type 0
 WindowsAreSafe =
-    (s : Setting) (w : World) (e : Event) (width end : ℕ) → IsFit s → IsReached s w
+    (s : Setting) (w : World) (e : Event) (width till : ℕ) → IsFit s → IsReached s w
     → before s.traffic.until (least_event 0 w.cells) ≡ Some e
     → ((a b : ℕ) → a < s.traffic.members → b < s.traffic.members → a ≢ b → width ≤ s.traffic.distance a b)
-    → end ≤ e.key.time + width → IsSafe s end w
+    → till ≤ e.key.time + width → IsSafe s till w
 
 -- an end that the next event of no member that may send, with the way from it to any other member, falls short of is
 -- safe
 abbrev pub PromisesAreSafe : Type 0
 PromisesAreSafe =
-    (s : Setting) (w : World) (end : ℕ) → IsFit s → IsReached s w
+    (s : Setting) (w : World) (till : ℕ) → IsFit s → IsReached s w
     → ((m : ℕ) (c : PlainCell) (e : Event) → slice_get w.cells m ≡ Some c → next_event m c ≡ Some e
-    → Silent c.holds ⊎ ((b : ℕ) → b < s.traffic.members → b ≢ m → end ≤ e.key.time + s.traffic.distance m b))
-    → IsSafe s end w
+    → Silent c.holds ⊎ ((b : ℕ) → b < s.traffic.members → b ≢ m → till ≤ e.key.time + s.traffic.distance m b))
+    → IsSafe s till w
 
 -- so is one that is no further from the least pending time than the least link delay, and every end where there is no
 -- link
 abbrev pub LinkDelaysAreSafe : Type 0
 LinkDelaysAreSafe =
     (p : PlainScenario) (seed : ℕ) → IsAccepted p
-    → (w : World) (e : Event) (width end : ℕ) → IsReached (setting_of p (network_of p) seed) w
+    → (w : World) (e : Event) (width till : ℕ) → IsReached (setting_of p (network_of p) seed) w
     → before p.until (least_event 0 w.cells) ≡ Some e → IsWidth (network_of p) width
-    → end ≤ e.key.time + width → IsSafe (setting_of p (network_of p) seed) end w
+    → till ≤ e.key.time + width → IsSafe (setting_of p (network_of p) seed) till w
 
 -- the end of a promise window is safe, and later than the least pending time
 abbrev pub PromiseEndsAreSafe : Type 0

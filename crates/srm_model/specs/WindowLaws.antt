@@ -23,18 +23,19 @@ use Rattle.srm_model.specs.WindowChains.{window_jobs}
 -- a window to a safe end leaves the first world of the sequential run with no event before the end pending
 abbrev pub WindowsAgree : Type 0
 WindowsAgree =
-    (s : Setting) (w v : World) (end : ℕ) → IsFit s → IsReached s w → end ≤ s.traffic.until → IsSafe s end w
-    → IsWindow s end w v → IsFirstQuiet s end w v × IsReached s v
+    (s : Setting) (w v : World) (till : ℕ) → IsFit s → IsReached s w → till ≤ s.traffic.until → IsSafe s till w
+    → IsWindow s till w v → IsFirstQuiet s till w v × IsReached s v
 
 -- where every own run has a result there is a window
 abbrev pub WindowsAreThere : Type 0
-WindowsAreThere = (s : Setting) (w : World) (end : ℕ) → ((m : ℕ) → HasResult end w m) → (v : World) × IsWindow s end w v
+WindowsAreThere =
+    (s : Setting) (w : World) (till : ℕ) → ((m : ℕ) → HasResult till w m) → (v : World) × IsWindow s till w v
 
 -- the rows of each cell of a window to a safe end are in order of their keys
 abbrev pub OwnRowsAreSorted : Type 0
 OwnRowsAreSorted =
-    (s : Setting) (w : World) (end : ℕ) → IsFit s → IsReached s w → end ≤ s.traffic.until → IsSafe s end w
-    → (results : List OwnResult) → AreOwnRuns end 0 w.cells results → All (IsSorted row_cmp) (rows_in results)
+    (s : Setting) (w : World) (till : ℕ) → IsFit s → IsReached s w → till ≤ s.traffic.until → IsSafe s till w
+    → (results : List OwnResult) → AreOwnRuns till 0 w.cells results → All (IsSorted row_cmp) (rows_in results)
 
 -- the packets of the rows may be heard one after the other: after each row all cells hear its packet
 abbrev pub PacketsAreHeardInTurn : Type 0
@@ -47,16 +48,16 @@ PacketsAreHeardInTurn =
 -- and then each packet is new to every cell
 abbrev pub WindowPacketsAreNew : Type 0
 WindowPacketsAreNew =
-    (s : Setting) (w : World) (end : ℕ) → IsFit s → IsReached s w → end ≤ s.traffic.until → IsSafe s end w
-    → (results : List OwnResult) (rows : List Row) → AreOwnRuns end 0 w.cells results → IsMerge (rows_in results) rows
+    (s : Setting) (w : World) (till : ℕ) → IsFit s → IsReached s w → till ≤ s.traffic.until → IsSafe s till w
+    → (results : List OwnResult) (rows : List Row) → AreOwnRuns till 0 w.cells results → IsMerge (rows_in results) rows
     → AreNewInTurn s.traffic rows (cells_in results)
 
 -- the packets of the rows of all own runs may be heard in any order: each is then new to every cell, and the cells come
 -- out the same
 abbrev pub PacketsAreHeardInAnyOrder : Type 0
 PacketsAreHeardInAnyOrder =
-    (s : Setting) (w : World) (end : ℕ) → IsFit s → IsReached s w → end ≤ s.traffic.until → IsSafe s end w
-    → (results : List OwnResult) (rows : List Row) → AreOwnRuns end 0 w.cells results
+    (s : Setting) (w : World) (till : ℕ) → IsFit s → IsReached s w → till ≤ s.traffic.until → IsSafe s till w
+    → (results : List OwnResult) (rows : List Row) → AreOwnRuns till 0 w.cells results
     → IsPermutation (joined (rows_in results)) rows
     → AreNewInTurn s.traffic rows (cells_in results)
     × ((others : List Row) → IsPermutation (joined (rows_in results)) others
@@ -86,13 +87,13 @@ JobsAreInPlace =
 -- the results of a window's jobs, job after job, are those of all its cells
 abbrev pub JobsRunAll : Type 0
 JobsRunAll =
-    (w : World) (cut end : ℕ) (results : List (List OwnResult)) → 0 < cut → AreJobRuns 0 (jobs_of cut end w) results
-    → AreOwnRuns end 0 w.cells (joined results)
+    (w : World) (cut till : ℕ) (results : List (List OwnResult)) → 0 < cut → AreJobRuns 0 (jobs_of cut till w) results
+    → AreOwnRuns till 0 w.cells (joined results)
 
 -- where a cell of a job meets a step for which the packet count is used up, a member has no result
 abbrev pub JobsRefuse : Type 0
 JobsRefuse =
-    (w : World) (cut end : ℕ) → 0 < cut → SomeJobMeetsFull 0 (jobs_of cut end w) → (m : ℕ) × HasNoResult end w m
+    (w : World) (cut till : ℕ) → 0 < cut → SomeJobMeetsFull 0 (jobs_of cut till w) → (m : ℕ) × HasNoResult till w m
 
 -- crossings do not depend on the order of the rows
 abbrev pub CrossingsKeep : Type 0

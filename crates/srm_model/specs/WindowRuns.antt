@@ -18,9 +18,9 @@ pub record OwnResult : Type 0 where
 
 -- the results of the own runs to an end of the cells of member i, member i + 1 and so on
 abbrev pub AreOwnRuns : ℕ → ℕ → List PlainCell → List OwnResult → Type 0
-AreOwnRuns end i [] [] = Unit {0}
-AreOwnRuns end i (c ∷ cs) (r ∷ rs) = IsOwnRun end i c r.rows r.cell × AreOwnRuns end (suc i) cs rs
-AreOwnRuns end i _ _ = ⊥
+AreOwnRuns till i [] [] = Unit {0}
+AreOwnRuns till i (c ∷ cs) (r ∷ rs) = IsOwnRun till i c r.rows r.cell × AreOwnRuns till (suc i) cs rs
+AreOwnRuns till i _ _ = ⊥
 
 -- the rows of each result
 abbrev pub rows_in : List OwnResult → List (List Row)
@@ -55,10 +55,10 @@ after_window s w results rows =
 
 -- v is w after a window to this end: the own runs of all cells, each alone; their rows merged; and every packet in them
 -- heard
-pub record IsWindow (s : Setting) (end : ℕ) (w v : World) : Type 0 where
+pub record IsWindow (s : Setting) (till : ℕ) (w v : World) : Type 0 where
   pub results : List OwnResult
   pub rows : List Row
-  pub alone : AreOwnRuns end 0 w.cells results
+  pub alone : AreOwnRuns till 0 w.cells results
   pub merged : IsMerge (rows_in results) rows
   pub is : v ≡ after_window s w results rows
 
@@ -103,7 +103,7 @@ job_rows rss = map (λ (rs : List OwnResult). joined (rows_in rs)) rss
 
 -- one of the cells of member i and on meets, in its own run to an end, a step for which the packet count is used up
 abbrev pub SomeMeetsFull : ℕ → ℕ → List PlainCell → Type 0
-SomeMeetsFull end i cs = (j : ℕ) × (c : PlainCell) × (slice_get cs j ≡ Some c) × MeetsFull end (i + j) c
+SomeMeetsFull till i cs = (j : ℕ) × (c : PlainCell) × (slice_get cs j ≡ Some c) × MeetsFull till (i + j) c
 
 -- so does a cell of one of the jobs, of which the first has the cells of member i and on
 abbrev pub SomeJobMeetsFull : ℕ → List WindowJob → Type 0

@@ -63,8 +63,8 @@ promise_end s w = least_promise s 0 w.cells
 -- ---- windows one after the other
 
 -- v is the first world of the sequential run, from w on, in which no event before the end is pending
-pub record IsFirstQuiet (s : Setting) (end : ℕ) (w v : World) : Type 0 where
+pub record IsFirstQuiet (s : Setting) (till : ℕ) (w v : World) : Type 0 where
   pub steps : ℕ
   pub comes : run s steps w ≡ Done v
-  pub quiet : IsQuiet end v
-  pub first : (k : ℕ) (u : World) → k < steps → run s k w ≡ Done u → ¬ IsQuiet end u
+  pub quiet : IsQuiet till v
+  pub first : (k : ℕ) (u : World) → k < steps → run s k w ≡ Done u → ¬ IsQuiet till u

@@ -47,7 +47,7 @@ step_of s w (Some e) = after_step s w e.key.member (step_at (Some e))
 
 -- the step that takes the least pending event of all, if that is before the end
 unfoldable pub step_to : Setting → ℕ → World → StepOutcome World
-step_to s end w = step_of s w (before end (least_event 0 w.cells))
+step_to s till w = step_of s w (before till (least_event 0 w.cells))
 
 -- the step of the sequential run
 abbrev pub step : Setting → World → StepOutcome World

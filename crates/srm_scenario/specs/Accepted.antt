@@ -38,7 +38,7 @@ pub record IsMember (until : ℕ) (m : MemberSpec) : Type 0 where
 -- a member is there at this time, which is before the end of the run
 pub record IsThere (until at : ℕ) (m : MemberSpec) : Type 0 where
   pub joined : m.join ≤ at
-  pub stays : (end : ℕ) → m.leave ≡ Some end → at ≤ end
+  pub stays : (leave : ℕ) → m.leave ≡ Some leave → at ≤ leave
   pub early : at < until
 
 -- a draw is by a sender that is there
