@@ -1,8 +1,8 @@
 -- Jobs that were advanced in pieces.
-use Rattle.std.proofs.Common.{◌≡◌, ◌<◌, ℕ, zero, suc, List, [], ◌∷◌, ◌++◌, map, All, length, get_or, Result, Ok, Err}
+use Rattle.std.proofs.Common.{◌≡◌, ◌<◌, ℕ, zero, suc, List, [], ◌∷◌, ◌++◌, map, length, get_or, Result, Ok, Err}
 use Rattle.std.proofs.Common.{refl, sym, ap, ◌∙◌, subst, inl, inr, append_assoc, append-nil, arith}
 use Rattle.std.proofs.lemmas.List.{map-append}
-use Rattle.std.proofs.lemmas.List.Elements.{All-nil, All-cons, All-head, All-tail, Contains-append_right, Contains-get_or}
+use Rattle.std.proofs.lemmas.List.Elements.{Contains-append_right, Contains-get_or}
 use Rattle.std.specs.List.{AllZip, Contains}
 use Rattle.std.specs.Global.{Vec}
 use Rattle.srm_net.specs.Network.{Network}
@@ -14,7 +14,6 @@ use Rattle.srm_cell.specs.declared.fault.CellFault.{CellFault}
 use Rattle.srm_cell.specs.declared.fault.CellFault.TheVariants as cell
 use Rattle.srm_cell.specs.Cells.{StepOutcome, Stepped}
 use Rattle.srm_cell.specs.Setting.{traffic_of}
-use Rattle.srm_cell.specs.Crossings.{joined}
 use Rattle.srm_cell.specs.Jobs.{PlainJob, IsDone}
 use Rattle.srm_interfaces.specs.Crews.{AreJobs, AnyEnds, AdvanceEach, TellsEach}
 use Rattle.srm_crew.specs.Teams.{PutTogether}

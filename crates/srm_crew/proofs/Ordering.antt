@@ -1,7 +1,7 @@
 -- Results, each in the slot of its index.
 use Rattle.std.proofs.Common.{◌≡◌, ◌≢◌, ◌<◌, ◌≤◌, ℕ, zero, suc, ◌+◌, cond, ◌==◌, List, [], ◌∷◌, ◌++◌, length, map, slice_get, slice_index}
-use Rattle.std.proofs.Common.{Option, Some, Ok, Result, set, length-set, length-append, refl, sym, ap, ◌∙◌, subst, arith, append_assoc}
-use Rattle.std.proofs.Common.{eq-eqb, ne_eqb, lt_of_not-le}
+use Rattle.std.proofs.Common.{Option, Some, Ok, Err, Result, set, length-set, length-append, refl, sym, ap, ◌∙◌, subst, arith, append_assoc}
+use Rattle.std.proofs.Common.{IsOk, eq-eqb, ne_eqb, lt_of_not-le}
 use Rattle.std.specs.List.{AllZip}
 use mathlib.Core.Logic.{dite}
 use native.Mathlib.Decide.{ℕ_discrete, dec_le}
@@ -10,7 +10,8 @@ use Rattle.srm_cell.specs.declared.fault.CellFault.{CellFault}
 use Rattle.srm_crew.specs.Indices.{times, EachOnce}
 use Rattle.srm_crew.specs.declared.bag_fault.EmptyFault.{EmptyFault}
 use Rattle.srm_crew.specs.declared.bag_fault.EmptyFault.TheVariants as empty
-use Rattle.srm_crew.specs.Passes.{PassView, RefusesEmpty}
+use Rattle.srm_crew.specs.declared.taken.Taken.{Taken}
+use Rattle.srm_crew.specs.Passes.{BagView, PassView, RefusesEmpty, TellsEmpty}
 use Rattle.srm_interfaces.specs.Crews.{HasGrown}
 use Rattle.srm_crew.specs.Shared.{HoldsAt, sum_of, InOrder, ComeOf, Worked}
 use Rattle.srm_crew.proofs.Peeling.{once_length, sum_same}
@@ -250,10 +251,16 @@ module _ {T D : Type 0} (R : T → Result D CellFault → Type 0) (numbers : D �
       ∙ sym (ap length w.gave) in
       record { once = subst (EachOnce indices) (sym (once_length (length items) indices whole) ∙ many) whole; many = many; whole = whole }
 
-  -- the bag is emptied
-  pub not_refused : (P p : PassView T) (S s : SeatView) (r : List D) (e : EmptyFault) → P.weight ≡ 65536 → Worked R numbers P S [] p s r
+  not_refused : (P p : PassView T) (S s : SeatView) (r : List D) (e : EmptyFault) → P.weight ≡ 65536 → Worked R numbers P S [] p s r
       → (p.weight ≡ 65536 → EachOnce p.taken (length p.put)) → RefusesEmpty p e → ⊥
   not_refused P p S s r empty.NotWhole is w whole h = let weight : p.weight ≡ 65536 = ap (λ q. q.weight) w.taken
       ∙ is in omega (arith, weight, h)
   not_refused P p S s r empty.NotEmpty is w whole h = let long = once_length (length p.put) p.taken (whole h.0) in let short = h.1 in
       omega (arith, long, short)
+
+  -- the bag is emptied
+  pub emptied : (b : BagView) (P p : PassView T) (S s : SeatView) (r : List D) (t : Result Taken (BagView × PassView T × EmptyFault))
+      → P.weight ≡ 65536 → Worked R numbers P S [] p s r → (p.weight ≡ 65536 → EachOnce p.taken (length p.put))
+      → TellsEmpty b p t → IsOk t
+  emptied b P p S s r (Ok t) is w whole h = refl
+  emptied b P p S s r (Err e) is w whole h = absurd (not_refused P p S s r e.2 is w whole h.2)

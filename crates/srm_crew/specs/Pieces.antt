@@ -1,6 +1,7 @@
 -- What a team's worker is given, and what it gives back.
 use Rattle.std.specs.Prelude.{◌≡◌, List, length, map, All, Result, Ok}
 use Rattle.std.specs.Arc.{arc_value}
+use Rattle.std.specs.declared.alloc.AllocError.{AllocError}
 use Rattle.std.specs.Global.{Vec}
 use Rattle.srm_net.specs.Network.{Network}
 use Rattle.srm_scenario.specs.Plain.{PlainScenario, network_of}
@@ -58,6 +59,10 @@ module _ {M : Type 0} where
   abbrev pub IsHeard : Worked M → Type 0
   IsHeard (Advanced r) = ⊥
   IsHeard (Heard r) = Unit {0}
+
+  -- this came of hearers
+  abbrev pub IsHeardAs : Result (Vec (Vec (Cell M))) AllocError → Worked M → Type 0
+  IsHeardAs r w = w ≡ Heard r
 
   -- all groups that came of these hearers, in order
   abbrev pub HeardTogether : List (Worked M) → List (Vec (Cell M)) → Type 0

@@ -78,10 +78,9 @@ impl<T> Bag<T> {
             index: pass.puts,
             item,
         };
-        match self.queue.push_as::<Puts, R>(rt, &mut pass.hold, spot) {
-            Ok(()) => {}
-            Err(_) => unreachable!(),
-        }
+        self.queue
+            .push_as::<Puts, R>(rt, &mut pass.hold, spot)
+            .unwrap();
         pass.puts += 1;
         Ok(())
     }

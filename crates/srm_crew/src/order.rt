@@ -37,10 +37,7 @@ fn collect<D: Drop>(alloc: Global, slots: Vec<Option<D>>) -> Result<Vec<D>, Allo
 {
     let mut all: Vec<D> = Vec::new(alloc);
     for slot in slots {
-        let Some(result) = slot else {
-            unreachable!();
-        };
-        all.push(result)?;
+        all.push(slot.unwrap())?;
     }
     Ok(all)
 }

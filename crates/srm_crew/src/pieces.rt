@@ -149,10 +149,7 @@ pub(crate) fn advanced_of<M: Participant>(
 {
     let mut results = Vec::new(alloc);
     for worked in all {
-        match worked {
-            Worked::Advanced { done } => results.push(done)?,
-            Worked::Heard { .. } => unreachable!(),
-        }
+        results.push(worked.into_advanced().unwrap())?;
     }
     Ok(results)
 }
@@ -190,13 +187,8 @@ pub(crate) fn heard_of<M: Participant>(
 {
     let mut heard = Vec::new(alloc);
     for worked in all {
-        match worked {
-            Worked::Heard { groups } => {
-                let mut groups = groups?;
-                heard.append(&mut groups)?;
-            }
-            Worked::Advanced { .. } => unreachable!(),
-        }
+        let mut groups = worked.into_heard().unwrap()?;
+        heard.append(&mut groups)?;
     }
     Ok(heard)
 }

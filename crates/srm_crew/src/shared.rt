@@ -27,10 +27,7 @@ fn put_all<R: Wait, T: Drop>(rt: &R, bag: &Bag<T>, mut pass: Pass<T>, items: Vec
     ensures { (result.bag ≡ pass.bag) × (result.weight ≡ 65536) × (result.put ≡ items.items) × (result.taken ≡ []) }
 {
     for item in items {
-        match bag.put(rt, &mut pass, item) {
-            Ok(()) => {}
-            Err(_) => unreachable!(),
-        }
+        bag.put(rt, &mut pass, item).unwrap();
     }
     pass
 }
@@ -105,9 +102,7 @@ pub(crate) fn by_workers<
         Ok(shared) => shared,
         Err(fault) => return Err(fault),
     };
-    let Ok(taken) = bag.empty(pass) else {
-        unreachable!();
-    };
+    let taken = bag.empty(pass).unwrap();
     match in_order(alloc, taken.indices.as_slice(), results) {
         Ok(all) => Ok((all, seat)),
         Err(AllocError) => Err(CrewFault::NoMemory),

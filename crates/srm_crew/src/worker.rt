@@ -63,9 +63,7 @@ pub(crate) fn work_alone<
         let Some(item) = bag.take(rt, &mut pass) else {
             return Ok((pass, seat, results));
         };
-        let Some(index) = pass.last() else {
-            unreachable!();
-        };
+        let index = pass.last().unwrap();
         gate.enter(rt, index, &pass);
         match work_on(ledger, &mut seat, &mut results, work, item) {
             Ok(()) => {}

@@ -40,16 +40,22 @@ pub(crate) fn reached_from_0(
     Ok(reached)
 }
 
+// Lists, one for each node, of which none has a node yet.
+fn no_neighbours(alloc: Global, nodes: u16) -> Result<Vec<Vec<u16>>, AllocError> {
+    let mut neighbours = Vec::new(alloc);
+    for _node in 0..nodes {
+        neighbours.push(Vec::new(alloc))?;
+    }
+    Ok(neighbours)
+}
+
 // The nodes to which each node is joined.
 fn neighbours_of(
     alloc: Global,
     nodes: u16,
     links: &[LinkSpec],
 ) -> Result<Vec<Vec<u16>>, AllocError> {
-    let mut neighbours = Vec::new(alloc);
-    for _node in 0..nodes {
-        neighbours.push(Vec::new(alloc))?;
-    }
+    let mut neighbours = no_neighbours(alloc, nodes)?;
     for link in links {
         join(&mut neighbours, link.a, link.b)?;
         join(&mut neighbours, link.b, link.a)?;

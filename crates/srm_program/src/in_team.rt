@@ -51,10 +51,8 @@ fn lead<M: Participant, C: Crew<M> + Drop, S: RowSink>(
         → HandsOn S.stage S.failures S.same S.took S.part asked.now.scenario.now asked.now.net.now asked.now.options
         (map M.plain l.1.items) sink.old result sink.new }
 {
-    match waiting.take() {
-        Some((mut crew, members)) => in_windows(alloc, asked, members, &mut crew, sink),
-        None => unreachable!(),
-    }
+    let (mut crew, members) = waiting.take().unwrap();
+    in_windows(alloc, asked, members, &mut crew, sink)
 }
 
 // The same beside so many threads, of which there may be none. They serve at the bench until the crew is gone.

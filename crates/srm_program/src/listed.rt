@@ -106,10 +106,8 @@ fn write_waiting<R: Threads + Wait + Sync, L: Listing, O: Outlet>(
         → IsListed L.form O.failures O.taken asked.now.scenario.now asked.now.net.now asked.now.options
         (map (λ b. plain b) l.1.items) outlet.old result outlet.new }
 {
-    match waiting.take() {
-        Some((listing, members)) => write_table(rt, alloc, asked, listing, members, outlet),
-        None => unreachable!(),
-    }
+    let (listing, members) = waiting.take().unwrap();
+    write_table(rt, alloc, asked, listing, members, outlet)
 }
 
 // The same beside so many threads, of which there may be none. They serve at the bench until the table is written.

@@ -8,6 +8,7 @@ loop-worked-preserved g c = (
   tt,
   tt,
   All-tail (λ w. IsAdvanced w) _ _ (rw c.in-Some.ensures.steps.0 at c.loop-worked.invariant.2),
-  zip_more (λ w r. IsAdvancedAs r w) _ _ _ _ c.in-Some.worked c.in-Advanced.done
-      (rw c.in-Some.ensures.steps.0 at c.loop-worked.invariant.3) c.in-Advanced.is c.in_ok-push-in-Advanced.ensures.items,
+  zip_more (λ w r. IsAdvancedAs r w) _ _ _ _ c.in-Some.worked c.unwrap.result
+      (rw c.in-Some.ensures.steps.0 at c.loop-worked.invariant.3) (rw c.unwrap.ensures at c.into_advanced.ensures)
+      c.in_ok-push.ensures.items,
 )

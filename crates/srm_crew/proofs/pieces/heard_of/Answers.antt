@@ -10,6 +10,6 @@ loop-worked-preserved g c = (
   tt,
   tt,
   All-tail (λ w. IsHeard w) _ _ (rw c.in-Some.ensures.steps.0 at c.loop-worked.invariant.2),
-  heard_more _ _ c.in-Some.worked _ _ c.in_ok-groups-in-Heard.groups (rw c.in-Some.ensures.steps.0 at c.loop-worked.invariant.3)
-      (c.in-Heard.is ∙ ap Heard c.in_ok-groups-in-Heard.was) c.in_ok-append-in-Heard.ensures.items,
+  heard_more _ _ c.in-Some.worked _ _ c.in_ok-groups.groups (rw c.in-Some.ensures.steps.0 at c.loop-worked.invariant.3)
+      ((rw c.unwrap.ensures at c.into_heard.ensures) ∙ ap Heard c.in_ok-groups.was) c.in_ok-append.ensures.items,
 )
