@@ -2,8 +2,9 @@
 use Rattle.std.proofs.Common.{◌≡◌, ◌≢◌, ℕ, zero, suc, ◌+◌, ◌-◌, ◌*◌, ◌/◌, ◌%◌, ◌^◌, ◌<◌, ◌≤◌, ◌⊎◌, inl, inr, Bool, true, false, cond}
 use Rattle.std.proofs.Common.{◌==◌, List, [], ◌∷◌, length, map, drop, Option, Some, None, refl, sym, ap, ◌∙◌, subst, arith, true≢false}
 use Rattle.std.proofs.Common.{eqb-true, eq-eqb, lt-ltb, zero-add, nat_lt, nat_le, slice_get, slice_set, slice_index_or, get_or-drop}
-use Rattle.std.proofs.Common.{get_or-set_same, get_or-set_other, length-drop}
+use Rattle.std.proofs.Common.{get_or-set_same, get_or-set_other, length-drop, ◌++◌, take}
 use Rattle.std.proofs.Math.ListN.{length-set}
+use Rattle.std.proofs.Math.Seq.{take-append_seam}
 use Rattle.std.proofs.lemmas.Bool.{eqb-false}
 use Rattle.std.proofs.lemmas.Bool.Decides.{nat_tests}
 use Rattle.std.proofs.lemmas.Nat.{and_mask}
@@ -11,7 +12,7 @@ use Rattle.std.proofs.lemmas.Option.{slice_get-get_or}
 use Rattle.std.specs.Int.Bits.{bit_and, bit_xor, xor_add_and}
 use Rattle.srm_engine.specs.declared.next_times.Entry.{Entry}
 use Rattle.srm_engine.specs.NextTimes.{sooner_time, least_of_times, is_time, slot_of, time_in, entry_at, sooner_entry, winner_below}
-use Rattle.srm_engine.specs.NextTimes.{AreWinners}
+use Rattle.srm_engine.specs.NextTimes.{HaveLeaves, AreWinners, KeepsLeaves}
 use Rattle.srm_engine.specs.NextTimes.{SetsLeaf, IsEntryOf, Holds, times_in, IsTournament}
 
 -- ---- the least
@@ -180,15 +181,15 @@ first_is_told ts m None e lt few none =
 pub first_told : (ts : List (Option ℕ)) (es : List Entry) → Holds ts es → 0 < length ts → told (entry_at es 1) ≡ least_of_times 0 ts
 first_told ts es h some =
     let n : ℕ = length ts in
-    let size : length es ≡ 2 * n = h.size in
+    let size : length es ≡ 2 * n = h.leaves.size in
     let leaf = of_a_leaf es n size h.tree (2 * n) 1 (omega arith) (omega arith) (omega arith) in
     let m : ℕ = leaf.0 in
     let lt : m < n = leaf.1 in
-    let is : entry_at es 1 ≡ slot_of (slice_index_or ts m None) m = leaf.2 ∙ (h.leaves m lt).0 in
+    let is : entry_at es 1 ≡ slot_of (slice_index_or ts m None) m = leaf.2 ∙ (h.leaves.each m lt).0 in
     let first : IsFirst ts (entry_at es 1) = λ u j g.
     let r = timed ts u j g in
     let within : j < n = r.0 in
-    let l = h.leaves j within in
+    let l = h.leaves.each j within in
     let at : entry_at es (n + j) ≡ slot_of (Some u) j = l.0 ∙ ap (λ o. slot_of o j) r.1 in
     let far : NotAfter (entry_at es 1) (entry_at es (n + j)) =
     first_of_all es n size h.tree (2 * n) (n + j) (omega arith) (omega arith) (omega arith) in
@@ -215,12 +216,12 @@ leaves_tell (t ∷ ts) (e ∷ es) i len few h =
 pub times_are : (ts : List (Option ℕ)) (es : List Entry) → Holds ts es → times_in es ≡ ts
 times_are ts es h =
     let n : ℕ = length ts in
-    let size = h.size in
+    let size = h.leaves.size in
     let few = h.few in
     let half : length es / 2 ≡ n = omega arith in
     let len : length (drop n es) ≡ n = length-drop n es ∙ omega arith in
     ap (λ k. map time_in (drop k es)) half ∙ leaves_tell ts (drop n es) 0 len (omega arith) (λ m lt.
-    get_or-drop n es m (record { time = 0; number = 0 }) ∙ (h.leaves m lt).0
+    get_or-drop n es m (record { time = 0; number = 0 }) ∙ (h.leaves.each m lt).0
     ∙ ap (slot_of (slice_index_or ts m None)) (sym (zero-add m)))
 
 -- entries that hold these times are a tournament
@@ -232,13 +233,34 @@ pub held : (ts : List (Option ℕ)) (es : List Entry) (n : ℕ) → n ≡ length
     → ((m : ℕ) → m < n → IsEntryOf (slice_index_or ts m None) m (entry_at es (n + m))) → AreWinners es → Holds ts es
 held ts es n e few size leaves tree = grind arith
 
+-- so it is once the winners are raised over the leaves
+pub raised : (ts : List (Option ℕ)) (es fs : List Entry) → length ts ≤ 65536 → HaveLeaves ts es → length fs ≡ length es
+    → AreWinners fs → KeepsLeaves es fs → Holds ts fs
+raised ts es fs few leaves same tree keeps = record {
+  few = few;
+  leaves = record {
+    size = same ∙ leaves.size;
+    each = λ m lt.
+        let size = leaves.size in
+        subst (IsEntryOf (slice_index_or ts m None) m) (sym (keeps (length ts + m) (omega arith))) (leaves.each m lt);
+  };
+  tree = tree;
+}
+
+-- what a vector has when a slice of all its items is written back to it
+abbrev pub written : ℕ → List Entry → List Entry → List Entry
+written len old new = take len (new ++ drop (length new) old)
+
+pub written_back : (len : ℕ) (old new : List Entry) → len ≡ length old → length new ≡ length old → new ≡ written len old new
+written_back len old new all long = sym (ap (λ k. written k old new) (all ∙ sym long) ∙ take-append_seam new (drop (length new) old))
+
 -- ---- a time is set
 
 pub holds_set : (ts : List (Option ℕ)) (es fs : List Entry) (m : ℕ) (t : Option ℕ) (e : Entry) → Holds ts es → m < length ts
     → length fs ≡ length es → AreWinners fs → IsEntryOf t m e → SetsLeaf (length ts + m) e es fs → Holds (slice_set ts m t) fs
 holds_set ts es fs m t e h lt same tree is set =
     let n : ℕ = length ts in
-    let size : length es ≡ 2 * n = h.size in
+    let size : length es ≡ 2 * n = h.leaves.size in
     let few = h.few in
     let len : length (slice_set ts m t) ≡ n = length-set ts m t in
     held (slice_set ts m t) fs n (sym len) (omega arith) (same ∙ size) (λ j below. by size j below (j == m) refl) tree
@@ -262,7 +284,7 @@ holds_set ts es fs m t e h lt same tree is set =
         ∙ get_or-set_other es (length ts + m) (length ts + j) e (record { time = 0; number = 0 }) apart in
         let now : slice_index_or (slice_set ts m t) j None ≡ slice_index_or ts j None = get_or-set_other ts m j t None there in
         subst (λ (x : Entry). IsEntryOf (slice_index_or (slice_set ts m t) j None) j x) (sym at)
-        (subst (λ o. IsEntryOf o j (entry_at es (length ts + j))) (sym now) (h.leaves j below))
+        (subst (λ o. IsEntryOf o j (entry_at es (length ts + j))) (sym now) (h.leaves.each j below))
 
 -- ---- the climb
 

@@ -14,9 +14,7 @@ use Rattle.srm_cell.specs.Views.{HasWork}
 use Rattle.srm_engine.specs.declared.halt.Halt.{Halt}
 use Rattle.srm_engine.specs.declared.halt.Halt.TheVariants as halt
 use Rattle.srm_engine.specs.declared.engine.Engine.{Engine}
-use Rattle.srm_engine.specs.declared.fault.RunFault.TheVariants as fault
 use Rattle.srm_engine.specs.declared.stream_fault.StreamFault.{StreamFault}
-use Rattle.srm_engine.specs.declared.stream_fault.StreamFault.TheVariants.{Run, Stopped}
 use Rattle.srm_engine.specs.declared.step_fault.StepFault.{StepFault}
 use Rattle.srm_engine.specs.declared.step_fault.StepFault.TheVariants as step_fault
 use Rattle.srm_interfaces.specs.declared.sink.SinkFault.TheVariants as sink
@@ -79,21 +77,16 @@ module _ {S : Type 0} (took part : S → List Row → S → Type 0) where
   -- where the sink is as it was, all is left undone
   pub uncalled : (stage : S → Stage) (may_lack : World → Type 0) (s : Setting) (old : S) (x : StreamFault)
       → UndoneAfter stage took part may_lack s old x old
-  uncalled stage may_lack s old (Run fault.NoMemory) = inl refl
-  uncalled stage may_lack s old (Run fault.CountFull) = tt
-  uncalled stage may_lack s old (Run fault.ShareFull) = tt
-  uncalled stage may_lack s old (Run fault.BadCut) = tt
-  uncalled stage may_lack s old (Run fault.BadWidth) = tt
-  uncalled stage may_lack s old (Stopped n) = tt
+  uncalled stage may_lack s old x e = inl refl
 
   -- what was left undone where such a run is refused memory
   pub steps_undone : (stage : S → Stage) (A : Type 0) (s : Setting) (old : S) (x : Halt StepFault) (new : S)
       → TellsHalt took part (MayStop s) s old x new → stage new ≡ stage_after (sink_in {A = A} (Err x))
       → UndoneAfter stage took part (MayLackSteps s) s old (stream_fault_of step_refused x) new
-  steps_undone stage A s old (halt.Run step_fault.NoMemory) new h at = inr (inl h)
-  steps_undone stage A s old (halt.Run step_fault.CountFull) new h at = tt
-  steps_undone stage A s old (halt.Sink sink.NoMemory) new h at = inr (inr (at, h))
-  steps_undone stage A s old (halt.Sink (sink.Stopped n)) new h at = tt
+  steps_undone stage A s old (halt.Run step_fault.NoMemory) new h at e = inr (inl h)
+  steps_undone stage A s old (halt.Run step_fault.CountFull) new h at e = cc
+  steps_undone stage A s old (halt.Sink sink.NoMemory) new h at e = inr (inr (at, h))
+  steps_undone stage A s old (halt.Sink (sink.Stopped n)) new h at e = cc
 
 -- what an engine counted that is seen as a world of a run
 pub run_totals : {M : Type 0} (e : Engine M) (p : PlainScenario) (net : Network) (seed : ℕ) (w : World) (totals : List ℕ)

@@ -337,11 +337,11 @@ pub windows_undone : {S : Type 0} (took part : S → List Row → S → Type 0) 
     (rule : Setting → World → ℕ) (n : ℕ) (from : S) (x : Halt WindowFault) (to : S)
     → TellsHalt took part (MayCome s (rule s) n) s from x to → stage to ≡ stage_after (sink_in {A = A} (Err x))
     → UndoneAfter stage took part (MayLackWindow rule n s) s from (stream_fault_of run_fault_of x) to
-windows_undone took part stage A s rule n from (halt.Run window.NoMemory) to h at = inr (inl h)
-windows_undone took part stage A s rule n from (halt.Run window.CountFull) to h at = tt
-windows_undone took part stage A s rule n from (halt.Run window.ShareFull) to h at = tt
-windows_undone took part stage A s rule n from (halt.Sink sink.NoMemory) to h at = inr (inr (at, h))
-windows_undone took part stage A s rule n from (halt.Sink (sink.Stopped k)) to h at = tt
+windows_undone took part stage A s rule n from (halt.Run window.NoMemory) to h at e = inr (inl h)
+windows_undone took part stage A s rule n from (halt.Run window.CountFull) to h at e = cc
+windows_undone took part stage A s rule n from (halt.Run window.ShareFull) to h at e = cc
+windows_undone took part stage A s rule n from (halt.Sink sink.NoMemory) to h at e = inr (inr (at, h))
+windows_undone took part stage A s rule n from (halt.Sink (sink.Stopped k)) to h at e = cc
 
 -- ---- its end
 

@@ -50,6 +50,10 @@ winner_below es i = sooner_entry (entry_at es (2 * i)) (entry_at es (2 * i + 1))
 abbrev pub AreWinners : List Entry → Type 0
 AreWinners es = (i : ℕ) → 0 < i → 2 * i + 1 < length es → entry_at es i ≡ winner_below es i
 
+-- in the second list each leaf is as in the first
+abbrev pub KeepsLeaves : List Entry → List Entry → Type 0
+KeepsLeaves old new = (i : ℕ) → length old ≤ 2 * i → entry_at new i ≡ entry_at old i
+
 -- in the second list the leaf is this entry, and each other leaf is as in the first
 abbrev pub SetsLeaf : ℕ → Entry → List Entry → List Entry → Type 0
 SetsLeaf leaf e old new = (i : ℕ) → length old ≤ 2 * i → entry_at new i ≡ entry_at (slice_set old leaf e) i
@@ -58,11 +62,15 @@ SetsLeaf leaf e old new = (i : ℕ) → length old ≤ 2 * i → entry_at new i 
 abbrev pub IsEntryOf : Option ℕ → ℕ → Entry → Type 0
 IsEntryOf time m e = (e ≡ slot_of time m) × (e.time < 2 ^ 64)
 
+-- the leaves, which are the latter half of the entries, are those of the members with these times
+pub record HaveLeaves (ts : List (Option ℕ)) (es : List Entry) : Type 0 where
+  pub size : length es ≡ 2 * length ts
+  pub each : (m : ℕ) → m < length ts → IsEntryOf (slice_index_or ts m None) m (entry_at es (length ts + m))
+
 -- the entries are a tree over those of the members with these times
 pub record Holds (ts : List (Option ℕ)) (es : List Entry) : Type 0 where
-  pub size : length es ≡ 2 * length ts
   pub few : length ts ≤ 65536
-  pub leaves : (m : ℕ) → m < length ts → IsEntryOf (slice_index_or ts m None) m (entry_at es (length ts + m))
+  pub leaves : HaveLeaves ts es
   pub tree : AreWinners es
 
 -- the times of the members, whose entries are the latter half

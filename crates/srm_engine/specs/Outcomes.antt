@@ -1,5 +1,5 @@
 -- What a run is given, and what it tells.
-use Rattle.std.specs.Prelude.{◌≡◌, ◌≢◌, ℕ, List, [], ◌∷◌, Option, None, Result, Ok, Err}
+use Rattle.std.specs.Prelude.{◌≡◌, ◌≢◌, ◌⊎◌, ℕ, List, [], ◌∷◌, Option, None, Result, MatchResult}
 use Rattle.srm_net.specs.Network.{Network}
 use Rattle.srm_scenario.specs.Plain.{PlainScenario}
 use Rattle.srm_member.specs.declared.exit.Exit.{Exit}
@@ -14,14 +14,13 @@ use Rattle.srm_engine.specs.declared.outcome.Outcome.{Outcome}
 pub use Rattle.srm_engine.specs.Openings.{records_from, HoldOpeningRecords}
 use Rattle.srm_model.specs.World.{IsOutcome, RunMeetsFull, exit_at}
 
--- what a run tells: the outcome of the sequential run; or that it meets a step for which the packet count is used up
+-- when the sequential run may be refused: for memory; or where it meets a step for which the packet count is used up
+abbrev pub MayRefuseRun : Setting → RunFault → Type 0
+MayRefuseRun s e = (e ≡ fault.NoMemory) ⊎ ((e ≡ fault.CountFull) × RunMeetsFull s)
+
+-- what a run tells: the outcome of the sequential run, or why it is refused
 abbrev pub TellsOutcome : Setting → Result Outcome RunFault → Type 0
-TellsOutcome s (Ok v) = IsOutcome s v.trace.items v.exits.items v.totals
-TellsOutcome s (Err fault.NoMemory) = Unit {0}
-TellsOutcome s (Err fault.CountFull) = RunMeetsFull s
-TellsOutcome s (Err fault.BadCut) = ⊥
-TellsOutcome s (Err fault.BadWidth) = ⊥
-TellsOutcome s (Err fault.ShareFull) = ⊥
+TellsOutcome s r = MatchResult r (λ v. IsOutcome s v.trace.items v.exits.items v.totals) (MayRefuseRun s)
 
 -- so for every seed whose opening records the boxes hold
 abbrev pub RunsFrom : PlainScenario → Network → List Record → Result Outcome RunFault → Type 0

@@ -13,7 +13,7 @@ use Rattle.srm_engine.specs.declared.fault.RunFault.TheVariants as fault
 use Rattle.srm_engine.specs.declared.step_fault.StepFault.TheVariants as step_fault
 use Rattle.srm_engine.specs.declared.window_fault.WindowFault.TheVariants as window
 use Rattle.srm_engine.specs.declared.stream_fault.StreamFault.{StreamFault}
-use Rattle.srm_engine.specs.declared.stream_fault.StreamFault.TheVariants.{Run, Stopped}
+use Rattle.srm_engine.specs.declared.stream_fault.StreamFault.TheVariants.{Run}
 use Rattle.srm_model.specs.World.{World, IsReached, IsLast, IsOutcome}
 use Rattle.srm_engine.specs.Openings.{HoldOpeningRecords}
 use Rattle.srm_engine.specs.Streams.{MayStop, TakesTraceFront}
@@ -68,12 +68,7 @@ module _ {S : Type 0} (stage : S → Stage) (took part : S → List Row → S �
 
   -- so after a refusal that tells that memory was refused
   abbrev pub UndoneAfter : (World → Type 0) → Setting → S → StreamFault → S → Type 0
-  UndoneAfter may_lack s old (Run fault.NoMemory) new = IsUndone may_lack s old new
-  UndoneAfter may_lack s old (Run fault.CountFull) new = Unit {0}
-  UndoneAfter may_lack s old (Run fault.ShareFull) new = Unit {0}
-  UndoneAfter may_lack s old (Run fault.BadCut) new = Unit {0}
-  UndoneAfter may_lack s old (Run fault.BadWidth) new = Unit {0}
-  UndoneAfter may_lack s old (Stopped n) new = Unit {0}
+  UndoneAfter may_lack s old x new = x ≡ Run fault.NoMemory → IsUndone may_lack s old new
 
   -- so for every seed whose opening records the boxes hold
   abbrev pub UndoneFrom : {A : Type 0} → (Setting → World → Type 0) → PlainScenario → Network → List Record

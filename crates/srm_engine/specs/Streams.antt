@@ -1,5 +1,6 @@
 -- Runs that hand their rows on as they come, and what they tell.
-use Rattle.std.specs.Prelude.{◌≡◌, ◌⊎◌, ◌<◌, ◌≤◌, ◌^◌, ℕ, List, ◌++◌, length, Result, Ok, Err, MatchResult}
+use Rattle.std.specs.Prelude.{◌≡◌, ◌⊎◌, ◌<◌, ◌≤◌, ◌^◌, ℕ, List, ◌++◌, length, Option, Some, None, Result, Ok, Err}
+use Rattle.std.specs.Prelude.{MatchResult, IfErr, IfSome}
 use Rattle.std.specs.Global.{Vec}
 use Rattle.srm_net.specs.Network.{Network}
 use Rattle.srm_scenario.specs.Plain.{PlainScenario}
@@ -24,7 +25,7 @@ use Rattle.srm_engine.specs.declared.stream_fault.StreamFault.{StreamFault}
 use Rattle.srm_engine.specs.declared.stream_fault.StreamFault.TheVariants.{Run, Stopped}
 use Rattle.srm_model.specs.World.{World, IsReached, IsLast, IsOutcome, RunMeetsFull, step}
 use Rattle.srm_engine.specs.Openings.{HoldOpeningRecords}
-use Rattle.srm_engine.specs.Outcomes.{TellsOutcome}
+use Rattle.srm_engine.specs.Outcomes.{MayRefuseRun}
 use Rattle.srm_engine.specs.Engines.{Shows, IsOpened, setting_in}
 
 -- ---- refusals
@@ -44,6 +45,11 @@ sink_in (Err (halt.Sink e)) = Err e
 abbrev pub stream_fault_of : {F : Type 0} → (F → RunFault) → Halt F → StreamFault
 stream_fault_of told (halt.Run e) = Run (told e)
 stream_fault_of told (halt.Sink e) = fault_of_sink e
+
+-- why the run gave no outcome, unless it is that the device under the sink failed
+abbrev pub run_fault_in : StreamFault → Option RunFault
+run_fault_in (Run e) = Some e
+run_fault_in (Stopped n) = None
 
 -- how many failures of a sink's device this answer tells
 abbrev pub stopped_in : {A : Type 0} → Result A StreamFault → ℕ
@@ -90,9 +96,7 @@ module _ {S : Type 0} (took part : S → List Row → S → Type 0) where
 
 -- when a run that is not cut into windows is refused: where `step_run` is, or where the sink was
 abbrev pub MeetsRefusal : {A : Type 0} → Setting → Result A StreamFault → Type 0
-MeetsRefusal s (Ok v) = Unit {0}
-MeetsRefusal s (Err (Run e)) = TellsOutcome s (Err e)
-MeetsRefusal s (Err (Stopped n)) = Unit {0}
+MeetsRefusal s r = IfErr r (λ x. IfSome (run_fault_in x) (MayRefuseRun s))
 
 -- so for every seed whose opening records the boxes hold
 abbrev pub RefusedFrom : {A : Type 0} → PlainScenario → Network → List Record → Result A StreamFault → Type 0

@@ -1,5 +1,5 @@
 -- Runs in windows that hand their rows to a sink, and what they tell.
-use Rattle.std.specs.Prelude.{◌≡◌, ℕ, List, Result, Ok, Err}
+use Rattle.std.specs.Prelude.{◌≡◌, ◌⊎◌, ℕ, List, Result, Ok, Err, IfErr, IfSome}
 use Rattle.srm_net.specs.Network.{Network}
 use Rattle.srm_scenario.specs.Plain.{PlainScenario}
 use Rattle.srm_member.specs.Record.{Record}
@@ -8,36 +8,29 @@ use Rattle.srm_cell.specs.Jobs as cell
 use Rattle.srm_engine.specs.declared.width.Windows.{Windows}
 use Rattle.srm_engine.specs.declared.fault.RunFault.TheVariants as fault
 use Rattle.srm_engine.specs.declared.stream_fault.StreamFault.{StreamFault}
-use Rattle.srm_engine.specs.declared.stream_fault.StreamFault.TheVariants.{Run, Stopped}
+use Rattle.srm_engine.specs.declared.stream_fault.StreamFault.TheVariants.{Run}
 use Rattle.srm_model.specs.World.{World, IsLast}
 use Rattle.srm_model.specs.WindowChains.{AreWindows}
 use Rattle.srm_engine.specs.Openings.{HoldOpeningRecords}
+use Rattle.srm_engine.specs.Streams.{run_fault_in}
 use Rattle.srm_engine.specs.Windowed.{IsCut, MayBeWide, calls_for, TellsRunAsked, MayRefuse}
 
 -- ---- what is asked for
 
 -- whether what was asked for is refused, and when: as that of a run whose rows are kept
 abbrev pub TellsStreamAsked : {A : Type 0} → Network → Windows → Result A StreamFault → Type 0
-TellsStreamAsked net asked (Ok v) = IsCut asked.cut × MayBeWide net asked.width
 TellsStreamAsked net asked (Err (Run e)) = TellsRunAsked net asked (Err e)
-TellsStreamAsked net asked (Err (Stopped n)) = IsCut asked.cut × MayBeWide net asked.width
+TellsStreamAsked net asked r = IsCut asked.cut × MayBeWide net asked.width
 
 -- a sink is left as it was where the cut or the width is refused
 abbrev pub IsLeft : {A S : Type 0} → S → Result A StreamFault → S → Type 0
-IsLeft old (Ok v) new = Unit {0}
-IsLeft old (Err (Run fault.BadCut)) new = new ≡ old
-IsLeft old (Err (Run fault.BadWidth)) new = new ≡ old
-IsLeft old (Err (Run fault.ShareFull)) new = Unit {0}
-IsLeft old (Err (Run fault.NoMemory)) new = Unit {0}
-IsLeft old (Err (Run fault.CountFull)) new = Unit {0}
-IsLeft old (Err (Stopped n)) new = Unit {0}
+IsLeft old r new = IfErr r (λ x. (x ≡ Run fault.BadCut) ⊎ (x ≡ Run fault.BadWidth) → new ≡ old)
 
 -- ---- calls of a crew
 
 -- when a run in windows is refused: where `window_run` is, or where the sink was
 abbrev pub MeetsWindowRefusal : {C : Type 0} → Setting → (World → ℕ) → ℕ → C → StreamFault → C → Type 0
-MeetsWindowRefusal s rule cut old (Run e) new = MayRefuse s rule cut old e new
-MeetsWindowRefusal s rule cut old (Stopped n) new = Unit {0}
+MeetsWindowRefusal s rule cut old x new = IfSome (run_fault_in x) (λ e. MayRefuse s rule cut old e new)
 
 module _ {C : Type 0} (handed : C → List (List cell.PlainJob) → C → Type 0) where
   -- what a crew was handed in a run: exactly the windows' jobs, window after window; or when the run is refused

@@ -87,10 +87,7 @@ MayRefuse s rule cut old fault.BadWidth new = new ≡ old
 abbrev pub TellsRunAsked : Network → Windows → Result Outcome RunFault → Type 0
 TellsRunAsked net asked (Err fault.BadCut) = ¬ IsCut asked.cut
 TellsRunAsked net asked (Err fault.BadWidth) = IsCut asked.cut × ¬ MayBeWide net asked.width
-TellsRunAsked net asked (Err fault.ShareFull) = IsCut asked.cut × MayBeWide net asked.width
-TellsRunAsked net asked (Err fault.NoMemory) = IsCut asked.cut × MayBeWide net asked.width
-TellsRunAsked net asked (Err fault.CountFull) = IsCut asked.cut × MayBeWide net asked.width
-TellsRunAsked net asked (Ok v) = IsCut asked.cut × MayBeWide net asked.width
+TellsRunAsked net asked r = IsCut asked.cut × MayBeWide net asked.width
 
 module _ {C : Type 0} (handed : C → List (List cell.PlainJob) → C → Type 0) where
   -- what a run in windows tells: the outcome of the sequential run, for which the crew was handed exactly the windows'

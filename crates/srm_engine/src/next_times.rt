@@ -1,6 +1,6 @@
 //! The next times of all members, the least of them at hand.
 ghost use Rattle.std.specs.Prelude.{◌≡◌, ◌<◌, ◌≤◌, ◌*◌, ◌%◌, [], IfOk, length, slice_set};
-ghost use Rattle.srm_engine.specs.NextTimes.{least_of_times, sooner_entry, IsEntryOf, AreWinners, SetsLeaf};
+ghost use Rattle.srm_engine.specs.NextTimes.{least_of_times, sooner_entry, IsEntryOf, HaveLeaves, AreWinners, KeepsLeaves, SetsLeaf};
 
 use std::alloc::{AllocError, Global};
 use std::marker::Model;
@@ -54,15 +54,8 @@ impl NextTimes {
         requires { length times.items ≤ 65536 }
         ensures { IfOk result (λ n. n ≡ times.items) }
     {
-        let count = times.len();
-        let none = Entry { time: 0, number: 0 };
-        let mut entries = vec![in alloc; none; 2 * count]?;
-        for (member, time) in times.iter().enumerate() {
-            entries[count + member] = standing(*time, member as u16);
-        }
-        for node in (1..count).rev() {
-            entries[node] = sooner(entries[2 * node], entries[2 * node + 1]);
-        }
+        let mut entries = leaves(alloc, times.as_slice())?;
+        raise_winners(&mut entries);
         Ok(NextTimes { entries })
     }
 
@@ -85,6 +78,30 @@ impl NextTimes {
         } else {
             None
         }
+    }
+}
+
+// The leaves of the members with these times, and as many entries before them, which mean nothing yet.
+fn leaves(alloc: Global, times: &[Option<u64>]) -> Result<Vec<Entry>, AllocError>
+    requires { length times.now ≤ 65536 }
+    ensures { IfOk result (λ entries. HaveLeaves times.now entries.items) }
+{
+    let count = times.len();
+    let none = Entry { time: 0, number: 0 };
+    let mut entries = vec![in alloc; none; 2 * count]?;
+    for (member, time) in times.iter().enumerate() {
+        entries[count + member] = standing(*time, member as u16);
+    }
+    Ok(entries)
+}
+
+// Makes each entry that has two below it the sooner of them, from the last such entry to the first.
+fn raise_winners(entries: &mut [Entry])
+    ensures tree { AreWinners entries.new }
+    ensures leaves { KeepsLeaves entries.old entries.new }
+{
+    for node in (1..entries.len() / 2).rev() {
+        entries[node] = sooner(entries[2 * node], entries[2 * node + 1]);
     }
 }
 

@@ -10,7 +10,7 @@ use Rattle.srm_engine.proofs.next_times.NextTimes.least.Goals as goal
 first : (es fs : List Entry) (e : Entry) (ts : List (Option ℕ)) → IsTournament es → fs ≡ es → times_in es ≡ ts
     → 1 < length fs → e ≡ entry_at fs 1 → told e ≡ least_of_times 0 ts
 first es fs e ts h same view more is =
-    let size = h.size in
+    let size = h.leaves.size in
     let some : 0 < length (times_in es) = (let long = subst (λ (xs : List Entry). 1 < length xs) same more in omega arith) in
     ap told (is ∙ ap (λ (xs : List Entry). entry_at xs 1) same) ∙ first_told (times_in es) es h some ∙ ap (least_of_times 0) view
 

@@ -1,13 +1,8 @@
-use Rattle.std.proofs.Common.{◌≡◌, ◌<◌, ◌+◌, ◌/◌, ◌++◌, ℕ, List, Option, length, take, drop, sym, ◌∙◌, ap, subst, slice_set, arith}
-use Rattle.std.proofs.Math.Seq.{take-append_seam}
+use Rattle.std.proofs.Common.{◌≡◌, ◌<◌, ◌+◌, ◌/◌, ℕ, List, Option, length, ◌∙◌, ap, subst, slice_set, arith}
 use Rattle.srm_engine.specs.declared.next_times.Entry.{Entry}
 use Rattle.srm_engine.specs.NextTimes.{Holds, IsTournament, times_in, AreWinners, SetsLeaf, IsEntryOf}
-use Rattle.srm_engine.proofs.Index.{holds_set, times_are, tournament}
+use Rattle.srm_engine.proofs.Index.{holds_set, times_are, tournament, written, written_back}
 use Rattle.srm_engine.proofs.next_times.NextTimes.set.Goals as goal
-
--- what a vector has when a slice of all its items is written back to it
-abbrev written : ℕ → List Entry → List Entry → List Entry
-written len old new = take len (new ++ drop (length new) old)
 
 -- a tournament that climbed, put back in its vector, is one of the times with the one that was set
 put_back : (len : ℕ) (es was new : List Entry) (leaf m : ℕ) (t : Option ℕ) (e : Entry) (ts : List (Option ℕ))
@@ -16,13 +11,12 @@ put_back : (len : ℕ) (es was new : List Entry) (leaf m : ℕ) (t : Option ℕ)
     → IsTournament (written len es new) × (times_in (written len es new) ≡ slice_set ts m t)
 put_back len es was new leaf m t e ts h view lt all same as_long at is tree set =
     let held : Holds ts es = subst (λ us. Holds us es) view h in
-    let size = held.size in
+    let size = held.leaves.size in
     let at_leaf : leaf ≡ length ts + m = omega arith in
     let long : length new ≡ length es = as_long ∙ ap length same in
     let leaves : SetsLeaf (length ts + m) e es new =
     subst (λ k. SetsLeaf k e es new) at_leaf (subst (λ xs. SetsLeaf leaf e xs new) same set) in
-    let back : new ≡ written len es new =
-    sym (ap (λ k. written k es new) (all ∙ sym long) ∙ take-append_seam new (drop (length new) es)) in
+    let back : new ≡ written len es new = written_back len es new all long in
     let now : Holds (slice_set ts m t) (written len es new) =
     subst (Holds (slice_set ts m t)) back (holds_set ts es new m t e held lt long tree is leaves) in
     (tournament _ _ now, times_are _ _ now)
