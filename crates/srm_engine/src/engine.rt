@@ -13,6 +13,7 @@ ghost use Rattle.srm_engine.specs.RowRuns.{LastFrom, MayLackSteps, UndoneFrom};
 use crate::cells::{Cells, open_cells};
 use crate::halt::Halt;
 use crate::handing::hand_none;
+use crate::start::Start;
 use crate::step_fault::{StepFault, step_fault};
 use crate::stream_fault::StreamFault;
 use srm_cell::arrival::arrival;
@@ -69,26 +70,31 @@ impl<'a> Engine<'a> {
     /// After the last of them it asks for no memory.
     pub(crate) fn run<S: RowSink>(
         alloc: Global,
-        scenario: &'a Scenario,
-        net: &'a Net,
-        members: Vec<Box<dyn Member>>,
+        start: Start<'a>,
         sink: &mut S,
     ) -> Result<Engine<'a>, StreamFault>
-        requires network { net.now ≡ network_of scenario.now }
-        requires boxes { (seed : ℕ) × HoldOpeningRecords scenario.now net.now seed (map (λ b. plain b) members.items) }
+        requires network { start.net.now ≡ network_of start.scenario.now }
+        requires boxes { (seed : ℕ) × HoldOpeningRecords start.scenario.now start.net.now seed
+            (map (λ b. plain b) start.members.items) }
         requires open { IsOpen (S.stage sink.old) }
         requires failures { S.failures sink.old < 2 ^ 64 - 1 }
-        ensures given { IfOk result (λ e. (e.scenario.now ≡ scenario.now) × (e.net.now ≡ net.now)) }
+        ensures given { IfOk result (λ e. (e.scenario.now ≡ start.entry.scenario.now) × (e.net.now ≡ start.entry.net.now)) }
         ensures device { S.same sink.old sink.new }
         ensures stands { StandsAs result (S.stage sink.new) }
         ensures failures { S.failures sink.new ≡ S.failures sink.old + stopped_in result }
         ensures pieces { TellsPieces S.handed sink.old result sink.new }
-        ensures last { LastFrom S.took S.part (λ _. Shows (λ b. plain b)) scenario.now net.now
-            (map (λ b. plain b) members.items) sink.old result sink.new }
-        ensures refused { RefusedFrom scenario.now net.now (map (λ b. plain b) members.items) result }
-        ensures undone { UndoneFrom S.stage S.took S.part MayLackSteps scenario.now net.now
-            (map (λ b. plain b) members.items) sink.old result sink.new }
+        ensures last { LastFrom S.took S.part (λ _. Shows (λ b. plain b)) start.entry.scenario.now start.entry.net.now
+            (map (λ b. plain b) start.entry.members.items) sink.old result sink.new }
+        ensures refused { RefusedFrom start.entry.scenario.now start.entry.net.now
+            (map (λ b. plain b) start.entry.members.items) result }
+        ensures undone { UndoneFrom S.stage S.took S.part MayLackSteps start.entry.scenario.now start.entry.net.now
+            (map (λ b. plain b) start.entry.members.items) sink.old result sink.new }
     {
+        let Start {
+            scenario,
+            net,
+            members,
+        } = start;
         let mut engine = match Engine::open(alloc, scenario, net, members) {
             Ok(engine) => engine,
             Err(error) => return Err(error.into()),

@@ -39,7 +39,7 @@ impl KeptRows {
 impl RowSink for KeptRows {
     ghost use Rattle.std.specs.Prelude.{refl, List, ◌++◌};
     ghost use Rattle.srm_engine.specs.Kept.{rows_kept, stage_of_kept, Keeps, KeepsFront};
-    ghost use Rattle.srm_engine.specs.KeptLaws.{keeps_none, keeps_more, front_none, front_more, front_longer};
+    ghost use Rattle.srm_engine.specs.KeptLaws.{keeps_none, keeps_more, front_kept_none, front_kept_more, front_kept_longer};
 
     ghost stage = { stage_of_kept };
 
@@ -65,11 +65,11 @@ impl RowSink for KeptRows {
 
     ghost took_more = { keeps_more };
 
-    ghost part_none = { front_none };
+    ghost part_none = { front_kept_none };
 
-    ghost part_more = { front_more };
+    ghost part_more = { front_kept_more };
 
-    ghost part_longer = { front_longer };
+    ghost part_longer = { front_kept_longer };
 
     fn rows(&mut self, _alloc: Global, rows: Vec<Row>) -> Result<(), SinkFault> {
         let mut rows = rows;

@@ -15,6 +15,7 @@ pub mod next_times;
 pub mod outcome;
 mod sent;
 mod soonest;
+pub mod start;
 pub mod step_fault;
 pub mod step_rows;
 pub mod step_run;

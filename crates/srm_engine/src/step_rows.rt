@@ -7,12 +7,10 @@ ghost use Rattle.srm_engine.specs.Streams.{StandsAs, stopped_in, RefusedFrom};
 ghost use Rattle.srm_engine.specs.RowRuns.{TotalsFrom, MayLackSteps, UndoneFrom};
 
 use crate::engine::Engine;
+use crate::start::Start;
 use crate::stream_fault::StreamFault;
 use srm_interfaces::sink::RowSink;
 use srm_ledger::totals::Totals;
-use srm_member::member::Member;
-use srm_net::net::Net;
-use srm_scenario::scenario::Scenario;
 use std::alloc::Global;
 
 /// The sequential run of a scenario, its rows handed to a sink as [`step_stream`](crate::step_stream::step_stream) hands them on. What
@@ -29,26 +27,26 @@ use std::alloc::Global;
 /// The boxes are then gone, and the sink stands as after `step_stream`.
 pub fn step_rows<S: RowSink>(
     alloc: Global,
-    scenario: &Scenario,
-    net: &Net,
-    members: Vec<Box<dyn Member>>,
+    start: Start,
     sink: &mut S,
 ) -> Result<Totals, StreamFault>
-    requires network { net.now ≡ network_of scenario.now }
-    requires boxes { (seed : ℕ) × HoldOpeningRecords scenario.now net.now seed (map (λ b. plain b) members.items) }
+    requires network { start.net.now ≡ network_of start.scenario.now }
+    requires boxes { (seed : ℕ) × HoldOpeningRecords start.scenario.now start.net.now seed
+        (map (λ b. plain b) start.members.items) }
     requires open { IsOpen (S.stage sink.old) }
     requires failures { S.failures sink.old < 2 ^ 64 - 1 }
     ensures device { S.same sink.old sink.new }
     ensures stands { StandsAs result (S.stage sink.new) }
     ensures failures { S.failures sink.new ≡ S.failures sink.old + stopped_in result }
     ensures pieces { TellsPieces S.handed sink.old result sink.new }
-    ensures totals { TotalsFrom S.took S.part scenario.now net.now (map (λ b. plain b) members.items)
-        sink.old result sink.new }
-    ensures refused { RefusedFrom scenario.now net.now (map (λ b. plain b) members.items) result }
-    ensures undone { UndoneFrom S.stage S.took S.part MayLackSteps scenario.now net.now
-        (map (λ b. plain b) members.items) sink.old result sink.new }
+    ensures totals { TotalsFrom S.took S.part start.entry.scenario.now start.entry.net.now
+        (map (λ b. plain b) start.entry.members.items) sink.old result sink.new }
+    ensures refused { RefusedFrom start.entry.scenario.now start.entry.net.now (map (λ b. plain b) start.entry.members.items)
+        result }
+    ensures undone { UndoneFrom S.stage S.took S.part MayLackSteps start.entry.scenario.now start.entry.net.now
+        (map (λ b. plain b) start.entry.members.items) sink.old result sink.new }
 {
-    match Engine::run(alloc, scenario, net, members, sink) {
+    match Engine::run(alloc, start, sink) {
         Ok(ran) => {
             let Engine { net, tally, .. } = ran;
             Ok(tally.into_totals(net))

@@ -7,6 +7,7 @@ ghost use Rattle.srm_engine.specs.Streams.{StandsAs, stopped_in, StreamsFrom, Re
 
 use crate::cells::finish_cells;
 use crate::engine::Engine;
+use crate::start::Start;
 use crate::stream_fault::StreamFault;
 use srm_interfaces::sink::RowSink;
 use srm_ledger::totals::Totals;
@@ -48,7 +49,12 @@ pub fn step_stream<S: RowSink>(
         sink.old result sink.new }
     ensures refused { RefusedFrom scenario.now net.now (map (λ b. plain b) members.items) result }
 {
-    let ran = match Engine::run(alloc, scenario, net, members, sink) {
+    let start = Start {
+        scenario,
+        net,
+        members,
+    };
+    let ran = match Engine::run(alloc, start, sink) {
         Ok(ran) => ran,
         Err(fault) => return Err(fault),
     };

@@ -20,6 +20,7 @@ use crate::groups::{Groups, apart, jobs};
 use crate::halt::Halt;
 use crate::handing::{hand_lists, hand_none};
 use crate::soonest::least;
+use crate::start::Start;
 use crate::stream_fault::StreamFault;
 use crate::width::Windows;
 use crate::window_fault::{WindowFault, window_fault};
@@ -85,35 +86,40 @@ impl<'a, M: Participant> WindowEngine<'a, M> {
     /// the last of them it asks for no memory.
     pub(crate) fn run<C: Crew<M>, S: RowSink>(
         alloc: Global,
-        scenario: &'a Scenario,
-        net: &'a Net,
-        members: Vec<M>,
+        start: Start<'a, M>,
         crew: &mut C,
         asked: Windows,
         sink: &mut S,
     ) -> Result<WindowEngine<'a, M>, StreamFault>
         requires ready { C.ready crew.old }
-        requires serves { C.serves crew.old scenario.now net.now }
-        requires network { net.now ≡ network_of scenario.now }
-        requires boxes { (seed : ℕ) × HoldOpeningRecords scenario.now net.now seed (map M.plain members.items) }
+        requires serves { C.serves crew.old start.scenario.now start.net.now }
+        requires network { start.net.now ≡ network_of start.scenario.now }
+        requires boxes { (seed : ℕ) × HoldOpeningRecords start.scenario.now start.net.now seed (map M.plain start.members.items) }
         requires open { IsOpen (S.stage sink.old) }
         requires failures { S.failures sink.old < 2 ^ 64 - 1 }
         ensures ready { C.ready crew.new }
-        ensures serves { C.serves crew.new scenario.now net.now }
-        ensures given { IfOk result (λ e. (e.scenario.now ≡ scenario.now) × (e.net.now ≡ net.now)) }
+        ensures serves { C.serves crew.new start.entry.scenario.now start.entry.net.now }
+        ensures given { IfOk result (λ e. (e.scenario.now ≡ start.entry.scenario.now) × (e.net.now ≡ start.entry.net.now)) }
         ensures under_way { IfOk result (λ e. IsUnderWay M.plain e) }
         ensures device { S.same sink.old sink.new }
         ensures stands { StandsAs result (S.stage sink.new) }
         ensures failures { S.failures sink.new ≡ S.failures sink.old + stopped_in result }
-        ensures asked { TellsStreamAsked net.now asked result }
+        ensures asked { TellsStreamAsked start.entry.net.now asked result }
         ensures left { IsLeft sink.old result sink.new }
-        ensures last { LastFrom S.took S.part (IsAt M.plain) scenario.now net.now (map M.plain members.items)
-            sink.old result sink.new }
-        ensures windows { CallsInWindows C.handed scenario.now net.now (map M.plain members.items)
-            (λ s. rule_of s net.now asked.width) asked.cut crew.old result crew.new }
-        ensures undone { UndoneFrom S.stage S.took S.part (MayLackWindow (λ s. rule_of s net.now asked.width) asked.cut)
-            scenario.now net.now (map M.plain members.items) sink.old result sink.new }
+        ensures last { LastFrom S.took S.part (IsAt M.plain) start.entry.scenario.now start.entry.net.now
+            (map M.plain start.entry.members.items) sink.old result sink.new }
+        ensures windows { CallsInWindows C.handed start.entry.scenario.now start.entry.net.now
+            (map M.plain start.entry.members.items) (λ s. rule_of s start.entry.net.now asked.width) asked.cut crew.old result
+            crew.new }
+        ensures undone { UndoneFrom S.stage S.took S.part
+            (MayLackWindow (λ s. rule_of s start.entry.net.now asked.width) asked.cut)
+            start.entry.scenario.now start.entry.net.now (map M.plain start.entry.members.items) sink.old result sink.new }
     {
+        let Start {
+            scenario,
+            net,
+            members,
+        } = start;
         let cutting = match Cutting::of(scenario, net, asked) {
             Ok(cutting) => cutting,
             Err(fault) => return Err(fault.into()),

@@ -8,6 +8,7 @@ ghost use Rattle.srm_engine.specs.Windowed.{rule_of};
 ghost use Rattle.srm_engine.specs.WindowStreams.{IsLeft, TellsStreamAsked, CallsInWindows};
 ghost use Rattle.srm_engine.specs.RowRuns.{TotalsFrom, MayLackWindow, UndoneFrom};
 
+use crate::start::Start;
 use crate::stream_fault::StreamFault;
 use crate::width::Windows;
 use crate::window_engine::WindowEngine;
@@ -15,8 +16,6 @@ use srm_interfaces::crew::Crew;
 use srm_interfaces::sink::RowSink;
 use srm_ledger::totals::Totals;
 use srm_member::participant::Participant;
-use srm_net::net::Net;
-use srm_scenario::scenario::Scenario;
 use std::alloc::Global;
 
 /// The run of a scenario in windows of time, its rows handed to a sink as [`window_stream`](crate::window_stream::window_stream) hands
@@ -33,34 +32,33 @@ use std::alloc::Global;
 /// The members are then gone, and the sink stands as after `window_stream`.
 pub fn window_rows<M: Participant, C: Crew<M>, S: RowSink>(
     alloc: Global,
-    scenario: &Scenario,
-    net: &Net,
-    members: Vec<M>,
+    start: Start<M>,
     crew: &mut C,
     asked: Windows,
     sink: &mut S,
 ) -> Result<Totals, StreamFault>
     requires ready { C.ready crew.old }
-    requires serves { C.serves crew.old scenario.now net.now }
-    requires network { net.now ≡ network_of scenario.now }
-    requires boxes { (seed : ℕ) × HoldOpeningRecords scenario.now net.now seed (map M.plain members.items) }
+    requires serves { C.serves crew.old start.scenario.now start.net.now }
+    requires network { start.net.now ≡ network_of start.scenario.now }
+    requires boxes { (seed : ℕ) × HoldOpeningRecords start.scenario.now start.net.now seed (map M.plain start.members.items) }
     requires open { IsOpen (S.stage sink.old) }
     requires failures { S.failures sink.old < 2 ^ 64 - 1 }
     ensures ready { C.ready crew.new }
-    ensures serves { C.serves crew.new scenario.now net.now }
+    ensures serves { C.serves crew.new start.entry.scenario.now start.entry.net.now }
     ensures device { S.same sink.old sink.new }
     ensures stands { StandsAs result (S.stage sink.new) }
     ensures failures { S.failures sink.new ≡ S.failures sink.old + stopped_in result }
-    ensures asked { TellsStreamAsked net.now asked result }
+    ensures asked { TellsStreamAsked start.entry.net.now asked result }
     ensures left { IsLeft sink.old result sink.new }
-    ensures totals { TotalsFrom S.took S.part scenario.now net.now (map M.plain members.items)
-        sink.old result sink.new }
-    ensures windows { CallsInWindows C.handed scenario.now net.now (map M.plain members.items)
-        (λ s. rule_of s net.now asked.width) asked.cut crew.old result crew.new }
-    ensures undone { UndoneFrom S.stage S.took S.part (MayLackWindow (λ s. rule_of s net.now asked.width) asked.cut)
-        scenario.now net.now (map M.plain members.items) sink.old result sink.new }
+    ensures totals { TotalsFrom S.took S.part start.entry.scenario.now start.entry.net.now
+        (map M.plain start.entry.members.items) sink.old result sink.new }
+    ensures windows { CallsInWindows C.handed start.entry.scenario.now start.entry.net.now
+        (map M.plain start.entry.members.items) (λ s. rule_of s start.entry.net.now asked.width) asked.cut crew.old result
+        crew.new }
+    ensures undone { UndoneFrom S.stage S.took S.part (MayLackWindow (λ s. rule_of s start.entry.net.now asked.width) asked.cut)
+        start.entry.scenario.now start.entry.net.now (map M.plain start.entry.members.items) sink.old result sink.new }
 {
-    match WindowEngine::run(alloc, scenario, net, members, crew, asked, sink) {
+    match WindowEngine::run(alloc, start, crew, asked, sink) {
         Ok(ran) => Ok(ran.into_totals()),
         Err(fault) => Err(fault),
     }

@@ -7,6 +7,7 @@ ghost use Rattle.srm_engine.specs.Streams.{StandsAs, stopped_in, StreamsFrom};
 ghost use Rattle.srm_engine.specs.Windowed.{rule_of};
 ghost use Rattle.srm_engine.specs.WindowStreams.{IsLeft, TellsStreamAsked, CallsInWindows};
 
+use crate::start::Start;
 use crate::stream_fault::StreamFault;
 use crate::width::Windows;
 use crate::window_engine::WindowEngine;
@@ -61,7 +62,12 @@ pub fn window_stream<M: Participant, C: Crew<M>, S: RowSink>(
     ensures windows { CallsInWindows C.handed scenario.now net.now (map M.plain members.items)
         (λ s. rule_of s net.now asked.width) asked.cut crew.old result crew.new }
 {
-    let ran = match WindowEngine::run(alloc, scenario, net, members, crew, asked, sink) {
+    let start = Start {
+        scenario,
+        net,
+        members,
+    };
+    let ran = match WindowEngine::run(alloc, start, crew, asked, sink) {
         Ok(ran) => ran,
         Err(fault) => return Err(fault),
     };

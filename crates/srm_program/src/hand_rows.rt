@@ -15,6 +15,7 @@ use srm_crew::gate::OpenGate;
 use srm_crew::plain::PlainCrew;
 use srm_crew::pool::PoolCrew;
 use srm_engine::fault::RunFault;
+use srm_engine::start::Start;
 use srm_engine::step_rows::step_rows;
 use srm_engine::stream_fault::StreamFault;
 use srm_engine::width::Windows;
@@ -86,7 +87,12 @@ fn in_steps<S: RowSink>(
     ensures rows { (seed : ℕ) → HoldOpeningRecords asked.now.scenario.now asked.now.net.now seed (map (λ b. plain b) members.items)
         → TellsRows S.took S.part asked.now.scenario.now asked.now.net.now seed asked.now.options sink.old result sink.new }
 {
-    match step_rows(alloc, asked.scenario, asked.net, members, sink) {
+    let start = Start {
+        scenario: asked.scenario,
+        net: asked.net,
+        members,
+    };
+    match step_rows(alloc, start, sink) {
         Ok(totals) => Ok(totals),
         Err(fault) => Err(lab_fault(fault)),
     }
@@ -113,19 +119,16 @@ pub(crate) fn in_windows<M: Participant, C: Crew<M>, S: RowSink>(
     ensures rows { (seed : ℕ) → HoldOpeningRecords asked.now.scenario.now asked.now.net.now seed (map M.plain members.items)
         → TellsRows S.took S.part asked.now.scenario.now asked.now.net.now seed asked.now.options sink.old result sink.new }
 {
+    let start = Start {
+        scenario: asked.scenario,
+        net: asked.net,
+        members,
+    };
     let windows = Windows {
         cut: asked.options.cut,
         width: asked.options.width,
     };
-    match window_rows(
-        alloc,
-        asked.scenario,
-        asked.net,
-        members,
-        crew,
-        windows,
-        sink,
-    ) {
+    match window_rows(alloc, start, crew, windows, sink) {
         Ok(totals) => Ok(totals),
         Err(fault) => Err(lab_fault(fault)),
     }

@@ -5,6 +5,7 @@ use crate::opening::opened;
 use crate::streaming::members_of;
 use srm_crew::plain::PlainCrew;
 use srm_engine::fault::RunFault;
+use srm_engine::start::Start;
 use srm_engine::step_rows::step_rows;
 use srm_engine::stream_fault::StreamFault;
 use srm_engine::width::{Width, Windows};
@@ -30,13 +31,14 @@ fn run_counted(rt: &impl Abort, alloc: Global, asked: Option<Windows>) -> Result
         stage: Stage::Fresh,
     };
     let mut crew = PlainCrew::new();
+    let start = Start {
+        scenario: &scenario,
+        net: &net,
+        members,
+    };
     let answer = match asked {
-        Some(windows) => {
-            window_rows(
-                alloc, &scenario, &net, members, &mut crew, windows, &mut sink,
-            )
-        }
-        None => step_rows(alloc, &scenario, &net, members, &mut sink),
+        Some(windows) => window_rows(alloc, start, &mut crew, windows, &mut sink),
+        None => step_rows(alloc, start, &mut sink),
     };
     match answer {
         Ok(_) => {

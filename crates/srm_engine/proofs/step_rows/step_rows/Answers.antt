@@ -22,8 +22,8 @@ returns-in-Ok-clause-totals g c = λ seed h.
         last = t.1;
         trace_is = refl;
         exits_are = refl;
-        totals_are = run_totals c.in-Ok.ran c.args.scenario.now c.args.net.now seed t.0 c.into_totals.result c.in-Ok.ensures.given
-            t.3.counted c.into_totals.ensures;
+        totals_are = run_totals c.in-Ok.ran c.args.start.scenario.now c.args.start.net.now seed t.0 c.into_totals.result
+            c.in-Ok.ensures.given t.3.counted c.into_totals.ensures;
       },
       t.2,
     )

@@ -16,8 +16,8 @@ returns-in-Ok-clause-totals g c = λ seed h.
         last = t.1;
         trace_is = refl;
         exits_are = refl;
-        totals_are = totals_from c.in-Ok.ran c.args.scenario.now c.args.net.now seed t.0 c.into_totals.result c.in-Ok.ensures.given
-            (c.into_totals.ensures seed t.3.0 t.0 t.3.1);
+        totals_are = totals_from c.in-Ok.ran c.args.start.scenario.now c.args.start.net.now seed t.0 c.into_totals.result
+            c.in-Ok.ensures.given (c.into_totals.ensures seed t.3.0 t.0 t.3.1);
       },
       t.2,
     )

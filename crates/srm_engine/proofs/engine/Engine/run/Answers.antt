@@ -12,7 +12,7 @@ use Rattle.srm_engine.proofs.engine.Engine.run.Goals as goal
 
 pub returns-in-Err-clause-last : goal.returns-in-Err-clause-last
 returns-in-Err-clause-last g c = λ seed h.
-    let s = setting_of c.args.scenario.now c.args.net.now seed in (
+    let s = setting_of c.args.start.scenario.now c.args.start.net.now seed in (
       opening s,
       opening_reached s,
       subst (λ (l : List Row). g.S.RowSink.part c.args.sink.now l c.args.sink.now) (sym (opening_trace s))
@@ -21,8 +21,8 @@ returns-in-Err-clause-last g c = λ seed h.
 
 pub returns-in-Err-clause-undone : goal.returns-in-Err-clause-undone
 returns-in-Err-clause-undone g c = λ seed h.
-    uncalled g.S.RowSink.took g.S.RowSink.part g.S.RowSink.stage (MayLackSteps (setting_of c.args.scenario.now c.args.net.now seed))
-    (setting_of c.args.scenario.now c.args.net.now seed) c.args.sink.now _
+    let s = setting_of c.args.start.scenario.now c.args.start.net.now seed in
+    uncalled g.S.RowSink.took g.S.RowSink.part g.S.RowSink.stage (MayLackSteps s) s c.args.sink.now _
 
 pub returns-in-Err-clause-pieces : goal.returns-in-Err-clause-pieces
 returns-in-Err-clause-pieces g c = inl refl
@@ -30,7 +30,7 @@ returns-in-Err-clause-pieces g c = inl refl
 pub returns-in-Err-stream-clause-last : goal.returns-in-Err-stream-clause-last
 returns-in-Err-stream-clause-last g c = λ seed h.
     let given = c.in-Ok.ensures.given in
-    let here : setting_in c.in-Ok.engine seed ≡ setting_of c.args.scenario.now c.args.net.now seed =
+    let here : setting_in c.in-Ok.engine seed ≡ setting_of c.args.start.scenario.now c.args.start.net.now seed =
     λ k. setting_of (given.0 k) (given.1 k) seed in
     let t = halted_front g.S.RowSink.took g.S.RowSink.part g.met.S.RowSink.part_none g.met.S.RowSink.part_more
     (MayStop (setting_in c.in-Ok.engine seed)) (setting_in c.in-Ok.engine seed) c.args.sink.now c.in-Err-stream.halt c.stream.new.sink
@@ -40,7 +40,7 @@ returns-in-Err-stream-clause-last g c = λ seed h.
 pub returns-in-Err-stream-clause-refused : goal.returns-in-Err-stream-clause-refused
 returns-in-Err-stream-clause-refused g c = λ seed h.
     let given = c.in-Ok.ensures.given in
-    let here : setting_in c.in-Ok.engine seed ≡ setting_of c.args.scenario.now c.args.net.now seed =
+    let here : setting_in c.in-Ok.engine seed ≡ setting_of c.args.start.scenario.now c.args.start.net.now seed =
     λ k. setting_of (given.0 k) (given.1 k) seed in
     rw c.into-in-Err-stream.ensures
     (subst (λ (x : Setting). MeetsRefusal {A = Unit {0}} x (Err (stream_fault_of step_refused c.in-Err-stream.halt))) here
@@ -50,7 +50,7 @@ returns-in-Err-stream-clause-refused g c = λ seed h.
 pub returns-in-Err-stream-clause-undone : goal.returns-in-Err-stream-clause-undone
 returns-in-Err-stream-clause-undone g c = λ seed h.
     let given = c.in-Ok.ensures.given in
-    let here : setting_in c.in-Ok.engine seed ≡ setting_of c.args.scenario.now c.args.net.now seed =
+    let here : setting_in c.in-Ok.engine seed ≡ setting_of c.args.start.scenario.now c.args.start.net.now seed =
     λ k. setting_of (given.0 k) (given.1 k) seed in
     rw c.into-in-Err-stream.ensures
     (subst (λ (x : Setting). UndoneAfter g.S.RowSink.stage g.S.RowSink.took g.S.RowSink.part (MayLackSteps x) x
@@ -70,7 +70,7 @@ returns-clause-given g c =
 pub returns-clause-last : goal.returns-clause-last
 returns-clause-last g c = λ seed h.
     let given = c.in-Ok.ensures.given in
-    let here : setting_in c.in-Ok.engine seed ≡ setting_of c.args.scenario.now c.args.net.now seed =
+    let here : setting_in c.in-Ok.engine seed ≡ setting_of c.args.start.scenario.now c.args.start.net.now seed =
     λ k. setting_of (given.0 k) (given.1 k) seed in
     let t = c.in_default.ensures.rows seed (c.in-Ok.ensures.opened seed h) in
     (t.0, subst (λ (x : Setting). IsLast x t.0) here t.1, t.2, t.3)
