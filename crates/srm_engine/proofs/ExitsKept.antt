@@ -11,6 +11,7 @@ use Rattle.srm_cell.specs.Setting.{Setting, arrival_of}
 use Rattle.srm_cell.specs.Cells.{PlainCell, Event, StepOutcome, Idle, Full, Spent, Done, Stepped, handle, step_at, before}
 use Rattle.srm_cell.specs.Cells.{hear, hear_at}
 use Rattle.srm_cell.specs.OwnRuns.{told_to}
+use Rattle.srm_cell.specs.declared.fault.CellFault.{CellFault}
 use Rattle.srm_cell.specs.declared.fault.CellFault.TheVariants as fault
 use Rattle.srm_cell.specs.Views.{IsCell, IsGone, TellsExit}
 use Rattle.srm_cell.proofs.Rising.{OnStep}
@@ -108,6 +109,8 @@ gone_without : (r : Record) (x : Option Exit) → HasEnd r x → IsGone r → x 
 gone_without (Active m) x h g e = g
 gone_without (Gone f) x h g e = h e
 
--- a cell whose member is there, or has left its exit, is not told that it is gone
-pub never_spent : (p : PlainCell) → HasEnd p.holds p.exit → TellsExit p (Err fault.Spent) → ⊥
-never_spent p h t = gone_without p.holds p.exit h t.1 t.0
+-- a cell whose member is there, or has left its exit, is refused nothing but memory for its end
+pub only_memory : (p : PlainCell) (x : CellFault) → HasEnd p.holds p.exit → TellsExit p (Err x) → x ≡ fault.NoMemory
+only_memory p fault.NoMemory h t = refl
+only_memory p fault.Spent h t = absurd (gone_without p.holds p.exit h t.1 t.0)
+only_memory p fault.CountFull h t = absurd t

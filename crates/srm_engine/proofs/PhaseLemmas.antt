@@ -1,6 +1,6 @@
 -- What the phases of a run tell.
 use Rattle.std.proofs.Common.{◌≡◌, ◌≢◌, ℕ, Option, List, [], ◌∷◌, Some, None, Ok, Err, inl, inr, refl, sym}
-use Rattle.std.proofs.Common.{ap, ◌∙◌, suc, ◌+◌, length, map, slice_get, subst, arith, zero-add}
+use Rattle.std.proofs.Common.{ap, ◌∙◌, suc, ◌+◌, length, map, slice_get, subst, arith, zero-add, IsSome}
 use Rattle.srm_member.specs.declared.exit.Exit.{Exit}
 use Rattle.srm_member.specs.Record.{Record, Active, Gone}
 use Rattle.srm_cell.specs.Setting.{Setting}
@@ -10,6 +10,7 @@ use Rattle.srm_cell.specs.Cells.{PlainCell, StepOutcome, Stepped}
 use Rattle.srm_cell.specs.Views.{TellsExit, EndsWith, HasWork, IsCell}
 use Rattle.srm_model.specs.World.{World, step, after_step, exit_at, exits_of}
 use Rattle.srm_engine.specs.Faults.{step_fault_of}
+use Rattle.srm_engine.specs.declared.step_fault.StepFault.{StepFault}
 use Rattle.srm_engine.specs.Engines.{MayRefuseStep}
 use Rattle.srm_engine.specs.Outcomes.{EndAs}
 use Rattle.srm_engine.specs.Seen.{AreCellsInOrder, TellsOwnStep}
@@ -24,6 +25,12 @@ pub ended : (p : PlainCell) (x : Exit) → TellsExit p (Ok x) → x ≡ exit_at 
 ended p x (inl e) = sym (ap (exit_at p.holds) e)
 ended p x (inr e) = ends p.holds x e.1 ∙ sym (ap (exit_at p.holds) e.0)
 
+-- a cell's refusal, but where its member left, is one of a step
+pub of_a_step : (x : CellFault) → x ≢ cell.Spent → IsSome (step_fault_of x)
+of_a_step cell.NoMemory ne = refl
+of_a_step cell.CountFull ne = refl
+of_a_step cell.Spent ne = absurd (ne refl)
+
 -- a step of the run has work where the member's own step has
 work_stays : (s : Setting) (w : World) (m : ℕ) (o : StepOutcome Stepped) → HasWork o → HasWork (after_step s w m o)
 unfolding after_step
@@ -32,10 +39,10 @@ work_stays s w m o h = grind arith
 module _ {M : Type 0} where
   -- what a member's refused step tells of the step of the run
   pub refused : (f : M → Record) (s : Setting) (w : World) (m : ℕ) (ps : List PlainCell) (o : StepOutcome Stepped)
-      (x : CellFault) (cs : List (Cell M)) (ts : List (Option ℕ))
-      → x ≢ cell.Spent → TellsOwnStep f m ps o (Err x) cs ts → step s w ≡ after_step s w m o
-      → MayRefuseStep (step s w) (step_fault_of x)
-  refused f s w m ps o x cs ts ne h e = grind (arith, work_stays, after_full)
+      (x : CellFault) (y : StepFault) (cs : List (Cell M)) (ts : List (Option ℕ))
+      → step_fault_of x ≡ Some y → TellsOwnStep f m ps o (Err x) cs ts → step s w ≡ after_step s w m o
+      → MayRefuseStep (step s w) y
+  refused f s w m ps o x y cs ts is h e = grind (arith, work_stays, after_full)
 
   ended_from : (f : M → Record) (i : ℕ) (cs : List (Cell M)) (ps : List PlainCell) (xs : List Exit) → length cs
       ≡ length ps

@@ -1,6 +1,6 @@
 -- What steps, and pieces of a run, tell.
 use Rattle.std.proofs.Common.{◌≡◌, ◌∙◌, ◌⊎◌, inl, inr, ℕ, ◌<◌, ◌≤◌, ◌+◌, ◌^◌, List, [], ◌∷◌, ◌++◌, length, length-append, Err}
-use Rattle.std.proofs.Common.{refl, sym, ap, subst, append-nil, arith}
+use Rattle.std.proofs.Common.{refl, sym, ap, subst, append-nil, arith, IsSome}
 use Rattle.std.proofs.lemmas.List.Elements.{All-push}
 use Rattle.srm_net.specs.Network.{Network}
 use Rattle.srm_scenario.specs.Plain.{PlainScenario}
@@ -15,6 +15,7 @@ use Rattle.srm_engine.specs.declared.halt.Halt.{Halt}
 use Rattle.srm_engine.specs.declared.halt.Halt.TheVariants as halt
 use Rattle.srm_engine.specs.declared.engine.Engine.{Engine}
 use Rattle.srm_engine.specs.declared.stream_fault.StreamFault.{StreamFault}
+use Rattle.srm_engine.specs.declared.stream_fault.StreamFault.TheVariants.{Run, Stopped}
 use Rattle.srm_engine.specs.declared.step_fault.StepFault.{StepFault}
 use Rattle.srm_engine.specs.declared.step_fault.StepFault.TheVariants as step_fault
 use Rattle.srm_interfaces.specs.declared.sink.SinkFault.TheVariants as sink
@@ -23,10 +24,16 @@ use Rattle.srm_model.specs.World.{World, IsReached, step}
 use Rattle.srm_engine.specs.Engines.{MayRefuseStep, HasCounted, traffic_in}
 use Rattle.srm_engine.specs.Faults.{step_refused}
 use Rattle.srm_interfaces.specs.Sinks.{HandsPieces, most_rows, stage_after}
-use Rattle.srm_engine.specs.Streams.{sink_in, stream_fault_of, MayStop, MeetsRefusal, TakesTraceFront, TellsHalt}
+use Rattle.srm_engine.specs.Streams.{sink_in, stream_fault_of, run_fault_in, stopped_in, MayStop, MeetsRefusal, TakesTraceFront}
+use Rattle.srm_engine.specs.Streams.{TellsHalt}
 use Rattle.srm_engine.specs.RowRuns.{MayLackSteps, UndoneAfter}
 use Rattle.srm_engine.proofs.Opened.{totals_are}
 use Rattle.srm_engine.proofs.Stepping.{meets_full}
+
+-- where a sink's failures are as many as before, it is told why the run gave no outcome
+pub told_why : (A : Type 0) (n : ℕ) (x : StreamFault) → n ≡ n + stopped_in {A = A} (Err x) → IsSome (run_fault_in x)
+told_why A n (Run e) h = refl
+told_why A n (Stopped k) h = absurd (omega arith)
 
 -- rows that a list in memory has after few others are few enough to be counted
 pub countable : (before rows all : List Row) → all ≡ before ++ rows → length before ≤ 2 ^ 62 → length rows < 2 ^ 63

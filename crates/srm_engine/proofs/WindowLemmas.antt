@@ -1,8 +1,9 @@
 -- The windows of an engine: its jobs, what a crew did, and its rows.
 use Rattle.std.proofs.Common.{◌≡◌, ℕ, suc, ◌<◌, ◌≤◌, ◌+◌, ◌^◌, min, List, [], ◌∷◌, ◌++◌, Ok, Err, refl, sym, ap, ◌∙◌, subst, arith}
-use Rattle.std.proofs.Common.{inl, inr}
+use Rattle.std.proofs.Common.{inl, inr, ◌≢◌, Some, IsSome}
 use Rattle.std.proofs.Common.{All, IsSorted, IsPermutation, length, map, drop, slice_index, ◌*◌}
 use Rattle.std.proofs.lemmas.List.{map-append, length-map}
+use Rattle.std.proofs.lemmas.Option.{same_Some}
 use Rattle.std.proofs.lemmas.List.Sorted.{IsPermutation-refl}
 use Rattle.std.specs.List.{AllZip, range_with_len}
 use Rattle.std.specs.Global.{Vec}
@@ -25,12 +26,16 @@ use Rattle.srm_cell.specs.Crossings.{joined, packets_of, crossings}
 use Rattle.srm_cell.specs.Jobs as cell
 use Rattle.srm_cell.proofs.FitSettings.{settings_are_fit}
 use Rattle.srm_interfaces.specs.declared.fault.CrewFault.{CrewFault}
+use Rattle.srm_interfaces.specs.declared.fault.CrewFault.TheVariants as crew
 use Rattle.srm_interfaces.specs.Crews.{AreJobs, AnyEnds, AreRowsOfSome, TellsMap, Maps, HasGrown, IsPast, rows_of, counted_in}
 use Rattle.srm_engine.specs.declared.window_engine.WindowEngine.{WindowEngine}
 use Rattle.srm_engine.specs.declared.window_fault.WindowFault.{WindowFault}
 use Rattle.srm_engine.specs.declared.window_fault.WindowFault.TheVariants as window
 use Rattle.srm_engine.specs.declared.cutting.Cutting.{Cutting}
 use Rattle.srm_engine.specs.declared.width.Windows.{Windows}
+use Rattle.srm_engine.specs.declared.fault.RunFault.{RunFault}
+use Rattle.srm_engine.specs.declared.stream_fault.StreamFault.{StreamFault}
+use Rattle.srm_engine.specs.declared.stream_fault.StreamFault.TheVariants.{Run, Stopped}
 use Rattle.srm_engine.specs.declared.halt.Halt.{Halt}
 use Rattle.srm_engine.specs.declared.halt.Halt.TheVariants as halt
 use Rattle.srm_interfaces.specs.declared.sink.SinkFault.TheVariants as sink
@@ -45,10 +50,10 @@ use Rattle.srm_engine.specs.Groups.{handed_jobs, AreGrouped, all_in, jobs_with, 
 use Rattle.srm_engine.specs.declared.ends.Ends.{Ends}
 use Rattle.srm_engine.specs.Ends.{BeginsAt, MayEnd, TellsCutting, ends_rule}
 use Rattle.srm_engine.specs.Faults.{window_fault_of, run_fault_of}
-use Rattle.srm_engine.specs.Streams.{sink_in, TellsHalt, stream_fault_of}
+use Rattle.srm_engine.specs.Streams.{sink_in, TellsHalt, stream_fault_of, run_fault_in}
 use Rattle.srm_engine.specs.RowRuns.{MayLackWindow, UndoneAfter}
-use Rattle.srm_engine.specs.WindowStreams.{MeetsWindowRefusal}
-use Rattle.srm_engine.specs.Windowed.{IsCounted, MayCome, calls_for, rule_of}
+use Rattle.srm_engine.specs.WindowStreams.{MeetsWindowRefusal, TellsStreamAsked}
+use Rattle.srm_engine.specs.Windowed.{IsCounted, MayCome, TellsRunAsked, calls_for, rule_of}
 use Rattle.srm_engine.specs.WindowEngines.{ComesTo, IsUnderWay, BeginsNext, EndsNext, frame_of, setting_by, rule_by}
 use Rattle.srm_engine.proofs.CellLists.{from_seen, seen_from, few_groups}
 use Rattle.srm_engine.proofs.JobLemmas.{any_cell, are_jobs, may_advance, as_many_jobs, places_with, job_results, cuts_kept, joined_some}
@@ -88,12 +93,19 @@ pub record JobsTell {M : Type 0} (f : M → Record) (e : WindowEngine M) (seed e
       → MayCome (setting_by e seed) (rule_by e seed) e.groups.cut w window.ShareFull
   pub pending : MayCome (setting_by e seed) (rule_by e seed) e.groups.cut w window.NoMemory
 
+-- a crew's refusal, but for a member that left, is one of a window
+pub of_a_window : (x : CrewFault) → x ≢ crew.Spent → IsSome (window_fault_of x)
+of_a_window crew.NoMemory ne = refl
+of_a_window crew.ShareFull ne = refl
+of_a_window crew.CountFull ne = refl
+of_a_window crew.Spent ne = absurd (ne refl)
+
 -- what a crew's refusal tells of the window
 pub map_refused : {M : Type 0} (f : M → Record) (e : WindowEngine M) (seed end : ℕ) (w : World)
-    (js : List (Job M)) → JobsTell f e seed end w js → (x : CrewFault)
+    (js : List (Job M)) → JobsTell f e seed end w js → (x : CrewFault) (y : WindowFault) → window_fault_of x ≡ Some y
     → TellsMap f (setting_by e seed).traffic e.seat (handed_jobs 0 (jobs_of e.groups.cut end w)) (Err x)
-    → MayCome (setting_by e seed) (rule_by e seed) e.groups.cut w (window_fault_of x)
-map_refused f e seed end w js j x h = grind arith
+    → MayCome (setting_by e seed) (rule_by e seed) e.groups.cut w y
+map_refused f e seed end w js j x y is h = grind arith
 
 -- what the crew did for the window that ends so
 pub record WindowRan {M : Type 0} (f : M → Record) (e : WindowEngine M) (seed end : ℕ) (w : World)
@@ -325,6 +337,12 @@ pub as_asked : {M : Type 0} (Q : Setting → (World → ℕ) → ℕ → Type 0)
     → Q (setting_by e seed) (rule_by e seed) e.groups.cut
     → Q (setting_of p net seed) (rule_of (setting_of p net seed) net asked.width) asked.cut
 as_asked Q e p net c asked seed same told h = grind arith
+
+-- what is told of what was asked for, where it is told why the run gave no outcome
+pub asked_told : (A : Type 0) (net : Network) (asked : Windows) (x : StreamFault) (e : RunFault) → run_fault_in x ≡ Some e
+    → TellsStreamAsked {A = A} net asked (Err x) → TellsRunAsked net asked (Err e)
+asked_told A net asked (Run f) e is h = subst (λ y. TellsRunAsked net asked (Err y)) (same_Some f e is) h
+asked_told A net asked (Stopped n) e is h = cc
 
 -- when a run in windows that hands its rows on is refused
 pub halts_refuse : {C S : Type 0} (took part : S → List Row → S → Type 0) (s : Setting) (rule : World → ℕ) (n : ℕ) (old : C) (from : S)

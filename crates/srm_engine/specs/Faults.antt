@@ -1,4 +1,5 @@
 -- What refusals of cells, crews, steps and windows are to a run.
+use Rattle.std.specs.Prelude.{Option, Some, None}
 use Rattle.srm_cell.specs.declared.fault.CellFault.{CellFault}
 use Rattle.srm_cell.specs.declared.fault.CellFault.TheVariants as cell
 use Rattle.srm_interfaces.specs.declared.fault.CrewFault.{CrewFault}
@@ -12,23 +13,23 @@ use Rattle.srm_engine.specs.declared.step_fault.StepFault.TheVariants as step
 use Rattle.srm_engine.specs.declared.window_fault.WindowFault.{WindowFault}
 use Rattle.srm_engine.specs.declared.window_fault.WindowFault.TheVariants as window
 
--- the refusal of the same name. No step of a run meets an event at a member that left
-abbrev pub step_fault_of : CellFault → StepFault
-step_fault_of cell.NoMemory = step.NoMemory
-step_fault_of cell.CountFull = step.CountFull
-step_fault_of cell.Spent = step.NoMemory
+-- the refusal of the same name, if a step has one: no step of a run meets an event at a member that left
+abbrev pub step_fault_of : CellFault → Option StepFault
+step_fault_of cell.NoMemory = Some step.NoMemory
+step_fault_of cell.CountFull = Some step.CountFull
+step_fault_of cell.Spent = None
 
 -- the refusal of the same name
 abbrev pub step_refused : StepFault → RunFault
 step_refused step.NoMemory = fault.NoMemory
 step_refused step.CountFull = fault.CountFull
 
--- the refusal of the same name. No window of a run meets an event at a member that left
-abbrev pub window_fault_of : CrewFault → WindowFault
-window_fault_of crew.NoMemory = window.NoMemory
-window_fault_of crew.ShareFull = window.ShareFull
-window_fault_of crew.CountFull = window.CountFull
-window_fault_of crew.Spent = window.NoMemory
+-- the refusal of the same name, if a window has one: no window of a run meets an event at a member that left
+abbrev pub window_fault_of : CrewFault → Option WindowFault
+window_fault_of crew.NoMemory = Some window.NoMemory
+window_fault_of crew.ShareFull = Some window.ShareFull
+window_fault_of crew.CountFull = Some window.CountFull
+window_fault_of crew.Spent = None
 
 -- the refusal of the same name
 abbrev pub run_fault_of : WindowFault → RunFault

@@ -5,6 +5,7 @@ use Rattle.srm_scenario.specs.Plain.{PlainScenario}
 use Rattle.srm_member.specs.declared.row.Row.{Row}
 use Rattle.srm_member.specs.Record.{Record}
 use Rattle.srm_ledger.specs.Seats.{LedgerView, SeatView}
+use Rattle.srm_ledger.specs.Weights.{whole_weight}
 use Rattle.srm_cell.specs.Setting.{Traffic, Setting, setting_of}
 use Rattle.srm_cell.specs.Cells.{Event}
 use Rattle.srm_cell.specs.Crossings.{crossings}
@@ -57,7 +58,7 @@ PassesShare t trace js =
 -- the seat is the whole one of this ledger, and its shares are the crossings of these rows
 pub record IsCounted (t : Traffic) (l : LedgerView) (rows : List Row) (seat : SeatView) : Type 0 where
   pub ledger : seat.ledger ≡ l.name
-  pub weight : seat.weight ≡ 65536
+  pub weight : seat.weight ≡ whole_weight
   pub shares : (k : ℕ) → slice_index seat.shares k ≡ counted_in (crossings t rows) k
 
 -- ---- refusals

@@ -49,9 +49,11 @@ pub(crate) fn finish_cells<M: Participant>(
     for cell in cells {
         let exit = match cell.finish(alloc) {
             Ok(exit) => exit,
-            Err(CellFault::NoMemory) => return Err(AllocError),
-            Err(CellFault::Spent) => unreachable!(),
-            Err(CellFault::CountFull) => unreachable!(),
+            Err(fault) => {
+                // The cell has its member, or its exit.
+                prove!(fault == CellFault::NoMemory);
+                return Err(AllocError);
+            }
         };
         exits.push(exit)?;
     }

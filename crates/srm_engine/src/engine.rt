@@ -14,7 +14,7 @@ use crate::cells::{Cells, open_cells};
 use crate::halt::Halt;
 use crate::handing::hand_none;
 use crate::start::Start;
-use crate::step_fault::{StepFault, step_fault};
+use crate::step_fault::StepFault;
 use crate::stream_fault::StreamFault;
 use srm_cell::arrival::arrival;
 use srm_cell::tally::Tally;
@@ -182,11 +182,9 @@ impl<'a> Engine<'a> {
         match self.cells.step(alloc, member, until, rows) {
             Ok(true) => {}
             Ok(false) => return Ok(false),
-            Err(fault) => return Err(step_fault(fault)),
+            Err(fault) => return Err(StepFault::of(fault).unwrap()),
         }
-        let Some(row) = rows.last() else {
-            unreachable!();
-        };
+        let row = rows.last().unwrap();
         self.send(alloc, row)?;
         Ok(true)
     }

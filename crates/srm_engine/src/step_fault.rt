@@ -1,5 +1,5 @@
 //! Why a step of the sequential run is refused.
-ghost use Rattle.std.specs.Prelude.{◌≡◌, ◌≢◌};
+ghost use Rattle.std.specs.Prelude.{◌≡◌};
 ghost use Rattle.srm_engine.specs.Faults.{step_fault_of};
 
 use crate::fault::RunFault;
@@ -15,15 +15,16 @@ pub enum StepFault {
     CountFull,
 }
 
-/// What a cell's refusal is to a step, in which no cell meets an event after its member left.
-pub fn step_fault(fault: CellFault) -> StepFault
-    requires { fault ≢ CellFault.Spent }
-    ensures { result ≡ step_fault_of fault }
-{
-    match fault {
-        CellFault::NoMemory => StepFault::NoMemory,
-        CellFault::CountFull => StepFault::CountFull,
-        CellFault::Spent => unreachable!(),
+impl StepFault {
+    /// What a cell's refusal is to a step: the refusal of the same name; `None` for `Spent`, which no step of a run meets.
+    pub fn of(fault: CellFault) -> Option<StepFault>
+        ensures { result ≡ step_fault_of fault }
+    {
+        match fault {
+            CellFault::NoMemory => Some(StepFault::NoMemory),
+            CellFault::CountFull => Some(StepFault::CountFull),
+            CellFault::Spent => None,
+        }
     }
 }
 

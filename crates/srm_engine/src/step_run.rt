@@ -8,7 +8,6 @@ use crate::fault::RunFault;
 use crate::kept_rows::KeptRows;
 use crate::outcome::Outcome;
 use crate::step_stream::step_stream;
-use crate::stream_fault::StreamFault;
 use srm_member::member::Member;
 use srm_net::net::Net;
 use srm_scenario::scenario::Scenario;
@@ -38,7 +37,7 @@ pub fn step_run(
             exits,
             totals,
         }),
-        Err(StreamFault::Run { fault }) => Err(fault),
-        Err(StreamFault::Stopped { .. }) => unreachable!(),
+        // The sink has no device that fails.
+        Err(fault) => Err(fault.run_fault().unwrap()),
     }
 }

@@ -1,6 +1,6 @@
 //! Why a run that hands its rows on came to no end.
 ghost use Rattle.std.specs.Prelude.{◌≡◌};
-ghost use Rattle.srm_engine.specs.Streams.{fault_of_sink};
+ghost use Rattle.srm_engine.specs.Streams.{fault_of_sink, run_fault_in};
 
 use crate::fault::RunFault;
 use crate::halt::Halt;
@@ -22,6 +22,18 @@ pub enum StreamFault {
         /// How much it had taken by the sink in all, as the sink told.
         written: u64,
     },
+}
+
+impl StreamFault {
+    /// Why the run gave no outcome; `None` where the device under the sink failed.
+    pub fn run_fault(self) -> Option<RunFault>
+        ensures { result ≡ run_fault_in self }
+    {
+        match self {
+            StreamFault::Run { fault } => Some(fault),
+            StreamFault::Stopped { .. } => None,
+        }
+    }
 }
 
 /// What refused memory is to a run.

@@ -12,6 +12,7 @@ ghost use Rattle.srm_engine.specs.RowRuns.{LastFrom, MayLackWindow, UndoneFrom};
 ghost use Rattle.srm_engine.specs.WindowEngines.{IsUnderWay, IsAt, frame_of, OpensAt, BeginsNext, EndsNext, TellsWindow, TellsWindows};
 ghost use Rattle.srm_engine.specs.WindowEngines.{TellsCounted, TellsEnd, lists_in};
 ghost use Rattle.srm_ledger.specs.Seats.{totals_of};
+ghost use Rattle.srm_ledger.specs.Weights.{whole_weight};
 
 use crate::cells::{finish_cells, open_cells};
 use crate::cutting::Cutting;
@@ -23,7 +24,7 @@ use crate::soonest::least;
 use crate::start::Start;
 use crate::stream_fault::StreamFault;
 use crate::width::Windows;
-use crate::window_fault::{WindowFault, window_fault};
+use crate::window_fault::WindowFault;
 use srm_interfaces::crew::Crew;
 use srm_interfaces::sink::RowSink;
 use srm_ledger::ledger::{Ledger, Seat};
@@ -187,7 +188,7 @@ impl<'a, M: Participant> WindowEngine<'a, M> {
         let jobs = jobs(alloc, groups, end)?;
         let (all, seat) = match crew.map(alloc, scenario, net, &ledger, seat, jobs) {
             Ok(done) => done,
-            Err(fault) => return Err(window_fault(fault)),
+            Err(fault) => return Err(WindowFault::of(fault).unwrap()),
         };
         let (groups, lists) = apart(alloc, all)?;
         let groups = Groups { cut, groups, soon }.look_again(scenario, net, end);
@@ -274,12 +275,9 @@ impl<'a, M: Participant> WindowEngine<'a, M> {
 // What was counted with this seat, the whole one of this ledger.
 fn counted(ledger: Ledger, seat: Seat) -> Totals
     requires ledger { seat.ledger ≡ ledger.name }
-    requires whole { seat.weight ≡ 65536 }
+    requires whole { seat.weight ≡ whole_weight }
     ensures long { length result ≡ 5 * ledger.links }
     ensures totals { result ≡ totals_of seat }
 {
-    match ledger.close(seat) {
-        Ok(totals) => totals,
-        Err(_) => unreachable!(),
-    }
+    ledger.close(seat).unwrap()
 }

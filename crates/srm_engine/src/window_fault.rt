@@ -1,5 +1,5 @@
 //! Why a window is refused.
-ghost use Rattle.std.specs.Prelude.{◌≡◌, ◌≢◌};
+ghost use Rattle.std.specs.Prelude.{◌≡◌};
 ghost use Rattle.srm_engine.specs.Faults.{window_fault_of};
 
 use crate::fault::RunFault;
@@ -18,16 +18,17 @@ pub enum WindowFault {
     CountFull,
 }
 
-/// What a crew's refusal is to a window, in which no cell meets an event after its member left.
-pub fn window_fault(fault: CrewFault) -> WindowFault
-    requires { fault ≢ CrewFault.Spent }
-    ensures { result ≡ window_fault_of fault }
-{
-    match fault {
-        CrewFault::NoMemory => WindowFault::NoMemory,
-        CrewFault::ShareFull => WindowFault::ShareFull,
-        CrewFault::CountFull => WindowFault::CountFull,
-        CrewFault::Spent => unreachable!(),
+impl WindowFault {
+    /// What a crew's refusal is to a window: the refusal of the same name; `None` for `Spent`, which no window of a run meets.
+    pub fn of(fault: CrewFault) -> Option<WindowFault>
+        ensures { result ≡ window_fault_of fault }
+    {
+        match fault {
+            CrewFault::NoMemory => Some(WindowFault::NoMemory),
+            CrewFault::ShareFull => Some(WindowFault::ShareFull),
+            CrewFault::CountFull => Some(WindowFault::CountFull),
+            CrewFault::Spent => None,
+        }
     }
 }
 

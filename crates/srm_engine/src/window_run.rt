@@ -7,7 +7,6 @@ ghost use Rattle.srm_engine.specs.Windowed.{rule_of, TellsRunAsked, RunsInWindow
 use crate::fault::RunFault;
 use crate::kept_rows::KeptRows;
 use crate::outcome::Outcome;
-use crate::stream_fault::StreamFault;
 use crate::width::Windows;
 use crate::window_stream::window_stream;
 use srm_interfaces::crew::Crew;
@@ -55,7 +54,7 @@ pub fn window_run<M: Participant, C: Crew<M>>(
             exits,
             totals,
         }),
-        Err(StreamFault::Run { fault }) => Err(fault),
-        Err(StreamFault::Stopped { .. }) => unreachable!(),
+        // The sink has no device that fails.
+        Err(fault) => Err(fault.run_fault().unwrap()),
     }
 }

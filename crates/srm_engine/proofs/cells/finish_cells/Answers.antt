@@ -1,7 +1,8 @@
-use Rattle.std.proofs.Common.{◌≡◌, List, [], ◌∷◌, ◌++◌, sym, ◌∙◌, ap, subst, append_assoc, append-nil}
+use Rattle.std.proofs.Common.{◌≡◌, List, [], ◌∷◌, ◌++◌, true, true≢false, sym, ◌∙◌, ap, subst, append_assoc, append-nil}
 use Rattle.srm_member.specs.declared.exit.Exit.{Exit}
+use Rattle.srm_cell.specs.declared.fault.CellFault.TheVariants as fault
 use Rattle.srm_engine.specs.Outcomes.{EndAs}
-use Rattle.srm_engine.proofs.ExitsKept.{never_spent}
+use Rattle.srm_engine.proofs.ExitsKept.{only_memory}
 use Rattle.srm_engine.proofs.PhaseLemmas.{ended}
 use Rattle.srm_engine.proofs.SeenLemmas.{no_items}
 use Rattle.srm_engine.proofs.cells.finish_cells.Goals as goal
@@ -28,15 +29,12 @@ loop-cell-preserved g c = (
   (rw c.in-Some.ensures.steps.0 at c.loop-cell.invariant.3).1,
 )
 
-pub unreachable-requires : goal.unreachable-requires
-unreachable-requires g c =
+pub prove-unreachable-requires : goal.prove-unreachable-requires
+prove-unreachable-requires g c =
     let cell = (rw c.in-Some.ensures.steps.0 at c.loop-cell.invariant.3).0 in
-    never_spent cell.1 cell.3 (rw c.in-Err-Spent.field-0-is at c.in-Err-Spent.ensures cell.0 cell.1 cell.2)
-
-pub unreachable-requires-in-Err-CountFull : goal.unreachable-requires-in-Err-CountFull
-unreachable-requires-in-Err-CountFull g c =
-    let cell = (rw c.in-Some.ensures.steps.0 at c.loop-cell.invariant.3).0 in
-    rw c.in-Err-CountFull.field-0-is at c.in-Err-CountFull.ensures cell.0 cell.1 cell.2
+    let memory : c.in-Err.fault ≡ fault.NoMemory = only_memory cell.1 c.in-Err.fault cell.3 (c.in-Err.ensures cell.0 cell.1 cell.2) in
+    let same : c.eq.result ≡ true = rw memory at c.eq.ensures in
+    true≢false (sym same ∙ c.if-prove.true)
 
 pub returns : goal.returns
 returns g c =

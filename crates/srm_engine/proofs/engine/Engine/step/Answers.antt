@@ -1,4 +1,5 @@
 use Rattle.std.proofs.Common.{◌≡◌, ◌<◌, ◌≤◌, ◌++◌, ◌∷◌, [], List, Some, sym, ◌∙◌, ap, subst, slice_set, arith, le_refl, refl}
+use Rattle.std.proofs.Common.{option_copied}
 use Rattle.std.proofs.lemmas.Result.{err_from_is_err_and}
 use Rattle.srm_net.specs.Network.{Network}
 use Rattle.srm_member.specs.declared.row.Row.{Row}
@@ -13,7 +14,7 @@ use Rattle.srm_engine.specs.Engines.{setting_in, HasCounted}
 use Rattle.srm_model.specs.Hearing.{all_hear}
 use Rattle.srm_engine.specs.Seen.{AreSeen}
 use Rattle.srm_model.specs.Totalled.{MaySend, and_sent}
-use Rattle.srm_engine.proofs.PhaseLemmas.{refused}
+use Rattle.srm_engine.proofs.PhaseLemmas.{of_a_step, refused}
 use Rattle.srm_engine.proofs.PutLemmas.{last_read}
 use Rattle.srm_model.proofs.RunLemmas.{after_spent}
 use Rattle.srm_model.proofs.Sequential.{get_below}
@@ -82,8 +83,8 @@ returns-in-Ok-false-clause-step g c =
       put.1,
     )
 
-pub step_fault-requires : goal.step_fault-requires
-step_fault-requires g c = λ spent.
+pub unwrap-requires : goal.unwrap-requires
+unwrap-requires g c = rw c.of.ensures (of_a_step c.in-Err.fault (λ spent.
     let k = c.requires.known in
     let s = setting_in c.args.self.now k.0 in
     let fit : IsFit s = subst (λ (n : Network). IsFit (setting_of c.args.self.now.scenario.now n k.0)) (sym c.requires.network)
@@ -96,7 +97,7 @@ step_fault-requires g c = λ spent.
     (step_by s k.1 c.args.self.now.cells.times k.3.seen.times c.in-Some.time c.in-Some.member c.in-Some.ensures early p.0 p.1
     ∙ ap (λ u. after_step s k.1 c.in-Some.member (own_step u c.in-Some.member p.0)) (sym c.until-until.ensures.until)
     ∙ ap (after_step s k.1 c.in-Some.member) (told k.1.cells p.0 k.3.seen p.1)
-    ∙ after_spent s s.traffic.until (le_refl s.traffic.until) k.1 c.in-Some.member)
+    ∙ after_spent s s.traffic.until (le_refl s.traffic.until) k.1 c.in-Some.member)))
 
 pub returns-in-Err-clause-step : goal.returns-in-Err-clause-step
 returns-in-Err-clause-step g c = λ seed w h.
@@ -104,11 +105,11 @@ returns-in-Err-clause-step g c = λ seed w h.
     let early : c.in-Some.time < c.args.self.now.scenario.now.until =
     (let lt = c.if-time-until.false in let u = c.until-until.ensures.until in omega arith) in
     let p = cell_there s w c.args.self.now.cells.times h.seen.times c.in-Some.time c.in-Some.member c.in-Some.ensures early in
-    rw c.step_fault.ensures (refused (λ b. (goal.Member-dyn g (b.vtable, b.value)).plain b.value) s w c.in-Some.member w.cells
-    (own_step c.until-until.result c.in-Some.member p.0) c.in-Err.fault c.step.new.self.cells.items c.step.new.self.times
-    (step_fault-requires g c.before) (c.in-Err.ensures w.cells p.0 h.seen p.1)
+    refused (λ b. (goal.Member-dyn g (b.vtable, b.value)).plain b.value) s w c.in-Some.member w.cells
+    (own_step c.until-until.result c.in-Some.member p.0) c.in-Err.fault c.unwrap.result c.step.new.self.cells.items
+    c.step.new.self.times (sym c.of.ensures ∙ c.unwrap.ensures) (c.in-Err.ensures w.cells p.0 h.seen p.1)
     (step_by s w c.args.self.now.cells.times h.seen.times c.in-Some.time c.in-Some.member c.in-Some.ensures early p.0 p.1
-    ∙ ap (λ u. after_step s w c.in-Some.member (own_step u c.in-Some.member p.0)) (sym c.until-until.ensures.until)))
+    ∙ ap (λ u. after_step s w c.in-Some.member (own_step u c.in-Some.member p.0)) (sym c.until-until.ensures.until))
 
 pub send-requires-clause-may : goal.send-requires-clause-may
 send-requires-clause-may g c =
@@ -121,8 +122,9 @@ send-requires-clause-may g c =
     let p = cell_there s k.1 c.args.self.now.cells.times k.3.seen.times c.in-Some.time c.in-Some.member c.in-Some.ensures early in
     let put = rw c.in-Ok-true.field-0-test at c.in-Ok-true.ensures in
     let t = put.1 k.1.cells p.0 k.3.seen p.1 in
-    let same : put.0 ≡ c.in-Some-last.row.now =
-    last_read c.deref.result.now _ put.0 _ (c.deref.ensures.value ∙ put.2) c.in-Some-last.ensures.value in
+    let same : put.0 ≡ c.unwrap-row.result.now =
+    last_read c.deref.result.now _ put.0 _ (c.deref.ensures.value ∙ put.2)
+    (sym (ap option_copied c.unwrap-row.ensures) ∙ c.last.ensures.value) in
     let e = event s k.1 c.args.self.now.cells.times k.3.seen.times c.in-Some.time c.in-Some.member c.in-Some.ensures early in
     let of = member_is s k.1 c.args.self.now.cells.times k.3.seen.times c.in-Some.time c.in-Some.member c.in-Some.ensures early in
     let least = is_least s k.1 c.args.self.now.cells.times k.3.seen.times c.in-Some.time c.in-Some.member c.in-Some.ensures early in
@@ -142,8 +144,9 @@ send-requires-clause-may g c =
 pub returns-clause-step : goal.returns-clause-step
 returns-clause-step g c =
     let put = rw c.in-Ok-true.field-0-test at c.in-Ok-true.ensures in
-    let same : put.0 ≡ c.in-Some-last.row.now =
-    last_read c.deref.result.now _ put.0 _ (c.deref.ensures.value ∙ put.2) c.in-Some-last.ensures.value in (
+    let same : put.0 ≡ c.unwrap-row.result.now =
+    last_read c.deref.result.now _ put.0 _ (c.deref.ensures.value ∙ put.2)
+    (sym (ap option_copied c.unwrap-row.ensures) ∙ c.last.ensures.value) in (
       put.0,
       λ seed w h.
           let s = setting_in c.args.self.now seed in

@@ -9,7 +9,7 @@ use Rattle.std.specs.Global.{Vec}
 use Rattle.srm_engine.specs.Groups.{handed_jobs, all_in, sizes, lists_of, some_of, AreCuts, AreGrouped, AreKept}
 use Rattle.srm_engine.specs.WindowEngines.{setting_by, lists_in}
 use Rattle.srm_engine.proofs.SoonGroups.{as_many_kept}
-use Rattle.srm_engine.proofs.WindowLemmas.{jobs_tell, jobs_tell_now, mapped, ran_now, map_refused, end_is}
+use Rattle.srm_engine.proofs.WindowLemmas.{jobs_tell, jobs_tell_now, mapped, ran_now, of_a_window, map_refused, end_is}
 use Rattle.srm_engine.proofs.WindowLemmas.{heard_in_order, heard_as, after, one_more, counted_after, later}
 use Rattle.srm_engine.proofs.window_engine.WindowEngine.window.Goals as goal
 
@@ -31,20 +31,20 @@ map-requires-clause-places g c =
 pub map-requires-clause-seat : goal.map-requires-clause-seat
 map-requires-clause-seat g c = c.requires.stands.comes.counted.ledger
 
-pub window_fault-requires : goal.window_fault-requires
-window_fault-requires g c = λ spent.
+pub unwrap-requires : goal.unwrap-requires
+unwrap-requires g c = rw c.of.ensures (of_a_window c.in-Err.fault (λ spent.
     let w = c.requires.stands.world in
     let j = jobs_tell_now g.M.Participant.plain c.args.self c.requires.stands c.end-end.result
     c.end-end.ensures c.in_ok-jobs.jobs.items c.in_ok-jobs.ensures in
-    j.not_spent (rw spent at c.in-Err.ensures.done.tells (handed_jobs 0 (jobs_of c.args.self.groups.cut c.end-end.result w)) j.seen)
+    j.not_spent (rw spent at c.in-Err.ensures.done.tells (handed_jobs 0 (jobs_of c.args.self.groups.cut c.end-end.result w)) j.seen)))
 
 pub returns-in-Err-clause-window : goal.returns-in-Err-clause-window
 returns-in-Err-clause-window g c = λ seed begins w comes.
     let j = jobs_tell g.M.Participant.plain c.args.self c.requires.stands seed begins w comes
     c.end-end.result c.end-end.ensures c.in_ok-jobs.jobs.items c.in_ok-jobs.ensures in
     let told = c.in-Err.ensures.done.tells (handed_jobs 0 (jobs_of c.args.self.groups.cut c.end-end.result w)) j.seen in
-    rw c.window_fault.ensures (map_refused g.M.Participant.plain c.args.self seed c.end-end.result
-    w c.in_ok-jobs.jobs.items j c.in-Err.fault told)
+    map_refused g.M.Participant.plain c.args.self seed c.end-end.result w c.in_ok-jobs.jobs.items j c.in-Err.fault
+    c.unwrap.result (sym c.of.ensures ∙ c.unwrap.ensures) told
 
 pub look_again-groups-requires-clause-may : goal.look_again-groups-requires-clause-may
 look_again-groups-requires-clause-may g c =
