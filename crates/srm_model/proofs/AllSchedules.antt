@@ -39,9 +39,11 @@ module _ (s : Setting) (till : ℕ) where
             let f = fewer s till m d r.0 c false own r.1 in
             (f.0, subst (λ y. own_end till m f.0 y ≡ Idle) is f.2)
         | false ↦ λ mb.
-            let is : told_to s.traffic d.row.sent m c ≡ x = sym (ap (λ t. cond t d.cell (told_to s.traffic d.row.sent m c)) mb) ∙ h.2 in
-            (r.0, subst (λ y. own_end till m r.0 y ≡ Idle) is
-                (end_late s till d.row.sent (step_late s till cs safe b d e) m r.0 c false r.1))
+            let is : told_to s.traffic d.row.sent m c ≡ x = sym (ap (λ t. cond t d.cell (told_to s.traffic d.row.sent m c)) mb) ∙ h.2 in (
+              r.0,
+              subst (λ y. own_end till m r.0 y ≡ Idle) is
+                  (end_late s till d.row.sent (step_late s till cs safe b d e) m r.0 c false r.1),
+            )
       ] refl
 
   answered : (ms : List ℕ) (w : World) → Safe s till w.cells → Results w.cells → ¬ IsRefusal (scheduled s till ms w)

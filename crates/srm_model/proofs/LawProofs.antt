@@ -129,7 +129,7 @@ module _ (s : Setting) (till : ℕ) where
               rw mine (ap (λ l. d.row ∷ l) r.2 ∙ sym (rows_done till m r.0 c d own)),
               r.3 ∙ ap (λ x. Some (hear_rows s.traffic m rows x))
                   (sym (not_heard m d.row.sent (own_after till m (suc r.0) c)
-                      (subst (λ k. SentBy k d.row.sent) (sym (eqb-true _ _ mb)) is.1)
+                  (subst (λ k. SentBy k d.row.sent) (sym (eqb-true _ _ mb)) is.1)
                   ∙ after_done till m r.0 c d own)),
             )
         | false ↦ λ mb.

@@ -70,7 +70,7 @@ module _ (s : Setting) (till : ℕ) where
       ∙ ap (rows_by till m n) (told_late s.traffic till m x late c ∙ ap (outcome_map (stepped_map (told_to s.traffic x m))) e) in
       let was = λ (o : StepOutcome Stepped) (e : own_step till m c ≡ o). rows_first till m n c ∙ ap (rows_by till m n) e in
       elim (own_step till m c) as (λ o. own_step till m c ≡ o
-          → own_rows till m (suc n) (told_to s.traffic x m c) ≡ own_rows till m (suc n) c) [
+      → own_rows till m (suc n) (told_to s.traffic x m c) ≡ own_rows till m (suc n) c) [
         | Idle ↦ λ e. step Idle e ∙ sym (was Idle e)
         | Full ↦ λ e. step Full e ∙ sym (was Full e)
         | Spent ↦ λ e. step Spent e ∙ sym (was Spent e)

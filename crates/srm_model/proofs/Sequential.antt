@@ -320,12 +320,12 @@ module _ (s : Setting) (fit : IsFit s) where
       → Safe s till cs
   promise_safe cs good till promise m c g n = elim (next_event m c) as (λ o. next_event m c ≡ o
       → AllSendLate s till (own_rows till m n c)) [
-    | None ↦ λ h. idle_late till m n c h
-    | Some e ↦ λ h. elim (promise m c e g h) [
-      | inl q ↦ silent_late till m n c q
-      | inr far ↦
-          let least : Least e.key (next_event m c) = subst (Least e.key) (sym h) (from_refl key_cmp key_total e.key) in
-          own_late e.key.time till m (subst (λ k. m < k) good.members (get_below cs m c g)) far n c
-          (above_time e.key m c (above_least e.key m c (good.tidy m c g) least))
-    ]
-  ] refl
+        | None ↦ λ h. idle_late till m n c h
+        | Some e ↦ λ h. elim (promise m c e g h) [
+          | inl q ↦ silent_late till m n c q
+          | inr far ↦
+              let least : Least e.key (next_event m c) = subst (Least e.key) (sym h) (from_refl key_cmp key_total e.key) in
+              own_late e.key.time till m (subst (λ k. m < k) good.members (get_below cs m c g)) far n c
+              (above_time e.key m c (above_least e.key m c (good.tidy m c g) least))
+        ]
+      ] refl

@@ -217,9 +217,10 @@ module _ (s : Setting) (fit : IsFit s) where
   seq_after r rest good strict all = tt
   seq_after {till} r (next {cs = cs} {e = e} {d = d} h x more) good strict all =
       let a = still_after till cs e d good strict h x r.key all in
-      let f = step_facts s fit till cs e d h x in
-      (ap (key_cmp r.key) f.key ∙ a.0,
-        seq_after r more (good_step s fit till cs e d good h x) (strict_step till cs e d good strict h x) a.1)
+      let f = step_facts s fit till cs e d h x in (
+        ap (key_cmp r.key) f.key ∙ a.0,
+        seq_after r more (good_step s fit till cs e d good h x) (strict_step till cs e d good strict h x) a.1,
+      )
 
   seq_ascends : {till : ℕ} {cs ds : List PlainCell} {rows : List Row} → Seq s till cs rows ds → Good s fit cs → Strict cs
       → Ascends row_cmp rows
