@@ -100,6 +100,19 @@ const LAST_PACKET: Case = Case {
     totals: &[],
 };
 
+// The sender has no packet left, and is to send one.
+const NO_PACKET_LEFT: Case = Case {
+    example: TWO_NODES,
+    sent: 281_474_976_710_656,
+    is_over: false,
+    counted: 0,
+    splits: 0,
+    ends: [1, 5],
+    windows: &[],
+    fault: Some(CrewFault::CountFull),
+    totals: &[],
+};
+
 // Both members have ended before they join.
 const OVER: Case = Case {
     example: TWO_NODES,
@@ -127,10 +140,11 @@ const FULL_SHARE: Case = Case {
 };
 
 /// Each of these cases.
-pub(crate) static CASES: [Case; 5] = [
+pub(crate) static CASES: [Case; 6] = [
     SENDER_AND_LISTENER,
     FOUR_ROUND_A_NODE,
     LAST_PACKET,
+    NO_PACKET_LEFT,
     OVER,
     FULL_SHARE,
 ];
