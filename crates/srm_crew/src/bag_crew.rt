@@ -1,5 +1,5 @@
 //! A crew of threads of its own, which take jobs from a bag.
-ghost use Rattle.std.specs.Prelude.{◌≡◌, ◌≤◌, ◌∷◌, ◌++◌, [], ℕ, List, length, map, All, IfOk};
+ghost use Rattle.std.specs.Prelude.{◌≡◌, ◌≤◌, ◌*◌, ◌∷◌, ◌++◌, [], ℕ, List, length, map, All, Ok, IfOk};
 ghost use Rattle.std.specs.List.{range_with_len};
 ghost use Rattle.srm_net.specs.Limits.{most_nodes};
 ghost use denote.Param.Send.{IsSync};
@@ -9,10 +9,15 @@ ghost use Rattle.srm_cell.specs.Jobs.{PlainJob, MayAdvance, Advances};
 ghost use Rattle.srm_cell.specs.Hearing.{IsSent, packets_in};
 ghost use Rattle.srm_interfaces.specs.Crews.{AreJobs, Maps};
 ghost use Rattle.srm_interfaces.specs.Hearers.{GroupsMayHear, TellsHeard};
+ghost use Rattle.srm_crew.specs.Shared.{TellsAll};
 
+use crate::bag::Bag;
+use crate::counted::Counted;
 use crate::gate::{Gate, OpenGate};
 use crate::hearing::hear_groups;
-use crate::shared::by_workers;
+use crate::order::in_order;
+use crate::shared::{put_all, share_all};
+use crate::workplace::Workplace;
 use srm_cell::advance::advance;
 use srm_cell::cell::Cell;
 use srm_cell::fault::CellFault;
@@ -25,7 +30,7 @@ use srm_member::member::Member;
 use srm_net::net::Net;
 use srm_scenario::scenario::Scenario;
 use std::alloc::{AllocError, Global};
-use std::marker::Sync;
+use std::marker::{Send, Sync};
 use std::sync::Wait;
 use std::thread::Threads;
 
@@ -36,41 +41,6 @@ pub struct BagCrew<R, G> {
     rt: R,
     gate: G,
     workers: u8,
-}
-
-// Advances each job, on threads that take them from a bag.
-fn advance_in_bag<R: Threads + Wait + Sync, G: Gate + Sync>(
-    rt: &R,
-    alloc: Global,
-    workers: u8,
-    gate: &G,
-    scenario: &Scenario,
-    net: &Net,
-    ledger: &Ledger,
-    seat: Seat,
-    jobs: Vec<Job>,
-) -> Result<(Vec<Done>, Seat), CrewFault>
-    requires jobs { All (λ j. MayAdvance (λ b. (⟦<dyn Member as Member>⟧ b.vtable).plain b.value)
-        (length net.now.hosts) j) jobs.items }
-    requires many { length jobs.items ≤ most_nodes }
-    requires links { ledger.now.links ≡ length net.now.links }
-    requires seat { seat.ledger ≡ ledger.now.name }
-    ensures { Maps (λ b. (⟦<dyn Member as Member>⟧ b.vtable).plain b.value) scenario.now net.now seat
-        jobs.items result }
-{
-    by_workers(
-        rt,
-        alloc,
-        workers,
-        ledger,
-        gate,
-        move |job: Job| -> Result<Done, CellFault>
-            requires { MayAdvance (λ b. plain b) (length net.now.hosts) job }
-            ensures { Advances (λ b. plain b) scenario.entry.now net.entry.now job result }
-        { advance(alloc, scenario, net, job) },
-        seat,
-        jobs,
-    )
 }
 
 impl<R: Threads + Wait + Sync, G: Gate + Sync> BagCrew<R, G> {
@@ -103,17 +73,60 @@ impl<R: Threads + Wait + Sync, G: Gate + Sync> BagCrew<R, G> {
         ensures { Maps (λ b. (⟦<dyn Member as Member>⟧ b.vtable).plain b.value) scenario.now net.now seat
             jobs.items result }
     {
-        advance_in_bag(
-            &self.rt,
+        self.by_workers(
             alloc,
-            self.workers,
-            &self.gate,
-            scenario,
-            net,
             ledger,
+            move |job: Job| -> Result<Done, CellFault>
+                requires { MayAdvance (λ b. plain b) (length net.now.hosts) job }
+                ensures { Advances (λ b. plain b) scenario.entry.now net.entry.now job result }
+            { advance(alloc, scenario, net, job) },
             seat,
             jobs,
         )
+    }
+
+    // Works on each item, by the workers, and adds the numbers of what comes of each.
+    fn by_workers<
+        T: Send + Drop,
+        D: Counted + Send + Drop,
+        F: Fn(T) -> Result<D, CellFault> + Copy + Send + Sync,
+    >(
+        &self,
+        alloc: Global,
+        ledger: &Ledger,
+        work: F,
+        seat: Seat,
+        items: Vec<T>,
+    ) -> Result<(Vec<D>, Seat), CrewFault>
+        requires many { length items.items ≤ most_nodes }
+        requires seat { seat.ledger ≡ ledger.now.name }
+        requires ready { All (λ x. F.pre work x) items.items }
+        requires long { (x : T) (d : D) → F.pre work x → F.post work x (Ok d)
+            → length (D.numbers d) ≡ 5 * ledger.now.links }
+        ensures { TellsAll (λ x r. F.post work x r) D.numbers items.items seat result }
+    {
+        if items.is_empty() {
+            return Ok((Vec::new(alloc), seat));
+        }
+        let Ok((bag, pass)) = Bag::open(alloc, items.len()) else {
+            return Err(CrewFault::NoMemory);
+        };
+        let pass = put_all(&self.rt, &bag, pass, items);
+        let workplace = Workplace {
+            bag: &bag,
+            gate: &self.gate,
+            ledger,
+        };
+        let shared = share_all(&self.rt, alloc, self.workers, workplace, work, pass, seat);
+        let (pass, seat, results) = match shared {
+            Ok(shared) => shared,
+            Err(fault) => return Err(fault),
+        };
+        let taken = bag.empty(pass).unwrap();
+        match in_order(alloc, taken.indices.as_slice(), results) {
+            Ok(all) => Ok((all, seat)),
+            Err(AllocError) => Err(CrewFault::NoMemory),
+        }
     }
 }
 
@@ -150,17 +163,7 @@ impl<R: Threads + Wait + Sync> Crew<Box<dyn Member>> for BagCrew<R, OpenGate> {
         ensures handed { IfOk result (λ _. (ps : List PlainJob) → AreJobs (λ b. (⟦<dyn Member as Member>⟧ b.vtable).plain b.value) jobs.items ps
             → Unit {0}) }
     {
-        advance_in_bag(
-            &self.rt,
-            alloc,
-            self.workers,
-            &self.gate,
-            scenario,
-            net,
-            ledger,
-            seat,
-            jobs,
-        )
+        self.map_with_gate(alloc, scenario, net, ledger, seat, jobs)
     }
 
     fn hear(

@@ -24,5 +24,6 @@ pub mod team_crew;
 pub mod worked;
 mod worker;
 mod workers;
+mod workplace;
 
 pub use srm_interfaces::{crew, fault};

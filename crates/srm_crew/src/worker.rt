@@ -4,10 +4,10 @@ ghost use Rattle.srm_crew.specs.Indices.{EachOnce};
 ghost use Rattle.srm_crew.specs.Shared.{TellsItem, TellsWork};
 
 use crate::add::add_crossings;
-use crate::bag::Bag;
 use crate::counted::Counted;
 use crate::gate::Gate;
 use crate::pass::Pass;
+use crate::workplace::Workplace;
 use srm_cell::fault::CellFault;
 use srm_interfaces::fault::CrewFault;
 use srm_ledger::ledger::{Ledger, Seat};
@@ -43,22 +43,21 @@ pub(crate) fn work_alone<
     F: Fn(T) -> Result<D, CellFault> + Copy,
 >(
     rt: &R,
-    bag: &Bag<T>,
-    ledger: &Ledger,
-    gate: &G,
+    workplace: Workplace<T, G>,
     work: F,
     mut pass: Pass<T>,
     mut seat: Seat,
     mut results: Vec<D>,
 ) -> Result<(Pass<T>, Seat, Vec<D>), CrewFault>
-    requires bag { pass.bag ≡ bag.now.name }
-    requires seat { seat.ledger ≡ ledger.now.name }
+    requires bag { pass.bag ≡ workplace.bag.now.name }
+    requires seat { seat.ledger ≡ workplace.ledger.now.name }
     requires ready { All (λ x. F.pre work x) pass.put }
     requires long { (x : T) (d : D) → F.pre work x → F.post work x (Ok d)
-        → length (D.numbers d) ≡ 5 * ledger.now.links }
+        → length (D.numbers d) ≡ 5 * workplace.ledger.now.links }
     ensures work { TellsWork (λ x r. F.post work x r) D.numbers pass seat results.items result }
     ensures whole { IfOk result (λ v. v.0.weight ≡ 65536 → EachOnce v.0.taken (length v.0.put)) }
 {
+    let Workplace { bag, gate, ledger } = workplace;
     for _ in rt.forever() {
         let Some(item) = bag.take(rt, &mut pass) else {
             return Ok((pass, seat, results));

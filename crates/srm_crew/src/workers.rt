@@ -12,6 +12,7 @@ use crate::counted::Counted;
 use crate::gate::Gate;
 use crate::pass::Pass;
 use crate::worker::work_alone;
+use crate::workplace::Workplace;
 use srm_cell::fault::CellFault;
 use srm_interfaces::fault::CrewFault;
 use srm_ledger::ledger as ledgers;
@@ -92,27 +93,31 @@ pub(crate) fn share_out<
     rt: &R,
     alloc: Global,
     workers: u8,
-    bag: &Bag<T>,
-    ledger: &Ledger,
-    gate: &G,
+    workplace: Workplace<T, G>,
     work: F,
     pass: Pass<T>,
     seat: Seat,
 ) -> Result<(Pass<T>, Seat, Vec<D>), CrewFault>
-    requires bag { (pass.bag ≡ bag.now.name) × (pass.taken ≡ []) }
-    requires seat { seat.ledger ≡ ledger.now.name }
+    requires bag { (pass.bag ≡ workplace.bag.now.name) × (pass.taken ≡ []) }
+    requires seat { seat.ledger ≡ workplace.ledger.now.name }
     requires ready { All (λ x. F.pre work x) pass.put }
     requires long { (x : T) (d : D) → F.pre work x → F.post work x (Ok d)
-        → length (D.numbers d) ≡ 5 * ledger.now.links }
+        → length (D.numbers d) ≡ 5 * workplace.ledger.now.links }
     ensures { TellsWork (λ x r. F.post work x r) D.numbers pass seat [] result }
 {
     if workers <= 1 {
-        return work_alone(rt, bag, ledger, gate, work, pass, seat, Vec::new(alloc));
+        return work_alone(rt, workplace, work, pass, seat, Vec::new(alloc));
     }
-    let ((mine, seat), (theirs, other)) = match halves(alloc, bag, ledger, pass, seat) {
+    let ((mine, seat), (theirs, other)) = match halves(
+        alloc,
+        workplace.bag,
+        workplace.ledger,
+        pass,
+        seat,
+    ) {
         Ok(halves) => halves,
         Err((pass, seat, SplitFault::TooManySeats)) => {
-            return work_alone(rt, bag, ledger, gate, work, pass, seat, Vec::new(alloc));
+            return work_alone(rt, workplace, work, pass, seat, Vec::new(alloc));
         }
         Err((_, _, SplitFault::NoMemory)) => return Err(CrewFault::NoMemory),
     };
@@ -121,19 +126,19 @@ pub(crate) fn share_out<
     let (second, first) = join(
         rt,
         move || -> Result<(Pass<T>, Seat, Vec<D>), CrewFault>
-            requires { IsSync R.row × IsSync G.row × IsSend F.row × IsSync F.row × (theirs.bag ≡ bag.now.name)
-                × (theirs.taken ≡ []) × (other.ledger ≡ ledger.now.name) × All (λ x. F.pre work x) theirs.put
+            requires { IsSync R.row × IsSync G.row × IsSend F.row × IsSync F.row × (theirs.bag ≡ workplace.bag.now.name)
+                × (theirs.taken ≡ []) × (other.ledger ≡ workplace.ledger.now.name) × All (λ x. F.pre work x) theirs.put
                 × ((x : T) (d : D) → F.pre work x → F.post work x (Ok d)
-                → length (D.numbers d) ≡ 5 * ledger.now.links) }
+                → length (D.numbers d) ≡ 5 * workplace.ledger.now.links) }
             ensures { TellsWork (λ x r. F.post work x r) D.numbers theirs other [] result }
-        { share_out(rt, alloc, less, bag, ledger, gate, work, theirs, other) },
+        { share_out(rt, alloc, less, workplace, work, theirs, other) },
         move || -> Result<(Pass<T>, Seat, Vec<D>), CrewFault>
-            requires { IsSync R.row × IsSync G.row × IsSend F.row × IsSync F.row × (mine.bag ≡ bag.now.name)
-                × (mine.taken ≡ []) × (seat.ledger ≡ ledger.now.name) × All (λ x. F.pre work x) mine.put
+            requires { IsSync R.row × IsSync G.row × IsSend F.row × IsSync F.row × (mine.bag ≡ workplace.bag.now.name)
+                × (mine.taken ≡ []) × (seat.ledger ≡ workplace.ledger.now.name) × All (λ x. F.pre work x) mine.put
                 × ((x : T) (d : D) → F.pre work x → F.post work x (Ok d)
-                → length (D.numbers d) ≡ 5 * ledger.now.links) }
+                → length (D.numbers d) ≡ 5 * workplace.ledger.now.links) }
             ensures { TellsWork (λ x r. F.post work x r) D.numbers mine seat [] result }
-        { share_out(rt, alloc, more, bag, ledger, gate, work, mine, seat) },
+        { share_out(rt, alloc, more, workplace, work, mine, seat) },
     );
-    gather(bag, ledger, first, second)
+    gather(workplace.bag, workplace.ledger, first, second)
 }

@@ -1,5 +1,11 @@
+use Rattle.std.proofs.Common.{refl}
 use Rattle.srm_crew.proofs.WorkedLemmas.{tells_same, halves_told}
 use Rattle.srm_crew.proofs.workers.+fn-share_out-join+arg2+fn-share_out-join+arg3+share_out.Goals as goal
+
+pub returns-then-workers-le1 : goal.returns-then-workers-le1
+returns-then-workers-le1 g t c =
+    tells_same (λ x r. goal.F-post g c.args.work x r) g.D.Counted.numbers c.args.pass c.args.pass c.args.seat c.args.seat
+    c.new.result.items c.work_alone.result refl refl c.new.ensures.items c.work_alone.ensures.work
 
 pub returns-in-Err-default-default-TooManySeats : goal.returns-in-Err-default-default-TooManySeats
 returns-in-Err-default-default-TooManySeats g t c =

@@ -1,6 +1,6 @@
 use Rattle.std.proofs.Common.{length, sym}
 use Rattle.srm_crew.proofs.JobsShared.{done_long, shared_maps}
-use Rattle.srm_crew.proofs.bag_crew.advance_in_bag.Goals as goal
+use Rattle.srm_crew.proofs.bag_crew.BagCrew.map_with_gate.Goals as goal
 
 pub by_workers-requires-clause-long : goal.by_workers-requires-clause-long
 by_workers-requires-clause-long g c κs within = λ job done may came.

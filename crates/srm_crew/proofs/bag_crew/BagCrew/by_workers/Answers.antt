@@ -1,7 +1,7 @@
 use Rattle.std.proofs.Common.{◌∙◌}
 use Rattle.srm_crew.proofs.WorkedLemmas.{stops_of}
 use Rattle.srm_crew.proofs.Ordering.{all_told, all_indexed, emptied}
-use Rattle.srm_crew.proofs.shared.by_workers.Goals as goal
+use Rattle.srm_crew.proofs.bag_crew.BagCrew.by_workers.Goals as goal
 
 pub returns-in-Err : goal.returns-in-Err
 returns-in-Err g c =
