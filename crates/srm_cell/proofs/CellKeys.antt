@@ -4,6 +4,8 @@ use Rattle.std.specs.FinMap.Entries.{is_sorted, below_all}
 use Rattle.srm_net.specs.declared.key.Key.{Key}
 use Rattle.srm_net.specs.declared.packet.Name.{Name}
 use Rattle.srm_net.specs.Keys.{key_cmp}
+use Rattle.srm_net.specs.declared.rank.Rank.{Rank}
+use Rattle.srm_net.specs.declared.rank.Rank.TheVariants.{Request, Repair}
 use Rattle.srm_net.specs.Names.{name_cmp}
 use Rattle.srm_net.specs.Orders.{Ascends}
 use Rattle.srm_net.proofs.Basics.{T_first, T_second, T_less}
@@ -19,7 +21,8 @@ use Rattle.srm_cell.specs.declared.flight.Flight.{Flight}
 use Rattle.srm_cell.specs.Flights.{flight_cmp}
 use Rattle.srm_cell.specs.Setting.{HasOwnRanks}
 use Rattle.srm_cell.specs.Cells.{PlainCell, arrival_key, mark_key, timer_key, pending_keys, DiffersFrom, AllDiffer}
-use Rattle.srm_cell.proofs.Clear.{Differs, differ_rank, timer_differs, IsDistinct, flights_differ, marks_differ, marks_apart, due_ranks}
+use Rattle.srm_cell.proofs.Clear.{Differs, differ_rank, timer_differs, IsDistinct, flights_differ, marks_differ, marks_apart}
+use Rattle.srm_cell.proofs.Clear.{not_of_mark, due_ranks}
 use Rattle.srm_cell.proofs.Clear.{dues_apart}
 
 key_self : (k : Key) → key_cmp k k ≡ Equal
@@ -50,7 +53,7 @@ all_marks_differ m (k ∷ ks) h = (from_all (mark_key m k) (mark_key m) ks (mark
 
 -- ---- timers
 
-module _ {V : Type 0} (expiry : V → ℕ) (m rank : ℕ) where
+module _ {V : Type 0} (expiry : V → ℕ) (m : ℕ) (rank : Rank) where
   abbrev due : (Name × V) → Due
   due e = record { time = expiry e.1; rank = rank; name = e.0 }
 
@@ -78,13 +81,14 @@ map_both t f g (x ∷ xs) ys = ap (λ l. t (f x) ∷ l) (map_both t f g xs ys)
 memory_differs : (m : ℕ) (state : MemberState) → T (is_sorted name_cmp state.missing) → T (is_sorted name_cmp state.repairs)
     → AllDiffer (map (timer_key m) (timers (Active state)))
 memory_differs m state h g =
-    rw (map_both (timer_key m) (due (λ (v : Missing). v.expiry) m 2) (due (λ (v : Repairing). v.expiry) m 3) state.missing state.repairs)
-    (all_differ_append _ _ (dues_differ (λ (v : Missing). v.expiry) m 2 state.missing h)
-    (dues_differ (λ (v : Repairing). v.expiry) m 3 state.repairs g)
-    (AllIn-map (λ x. DiffersFrom x (map (λ e. timer_key m (due (λ (v : Repairing). v.expiry) m 3 e)) state.repairs)) _ state.missing
-    (AllIn-each _ (λ e. from_all (timer_key m (due (λ (v : Missing). v.expiry) m 2 e)) _ state.repairs
-    (AllIn-each _ (λ x. differ_rank (timer_key m (due (λ (v : Missing). v.expiry) m 2 e))
-    (timer_key m (due (λ (v : Repairing). v.expiry) m 3 x)) (λ q. let r : ◌≡◌ {A = ℕ} 2 3 = q in omega arith)) state.repairs))
+    rw (map_both (timer_key m) (due (λ (v : Missing). v.expiry) m Request) (due (λ (v : Repairing). v.expiry) m Repair)
+    state.missing state.repairs)
+    (all_differ_append _ _ (dues_differ (λ (v : Missing). v.expiry) m Request state.missing h)
+    (dues_differ (λ (v : Repairing). v.expiry) m Repair state.repairs g)
+    (AllIn-map (λ x. DiffersFrom x (map (λ e. timer_key m (due (λ (v : Repairing). v.expiry) m Repair e)) state.repairs)) _ state.missing
+    (AllIn-each _ (λ e. from_all (timer_key m (due (λ (v : Missing). v.expiry) m Request e)) _ state.repairs
+    (AllIn-each _ (λ x. differ_rank (timer_key m (due (λ (v : Missing). v.expiry) m Request e))
+    (timer_key m (due (λ (v : Repairing). v.expiry) m Repair x)) (λ q. cc)) state.repairs))
     state.missing)))
 
 timers_differ : (m : ℕ) (r : Record) → SoundRecord r → AllDiffer (map (timer_key m) (timers r))
@@ -97,8 +101,7 @@ marks_and_timers m r [] h = tt
 marks_and_timers m r (k ∷ ks) h =
     let own = h.0 in (
       from_all (mark_key m k) (timer_key m) (timers r) (dues_apart m (mark_key m k) (timers r)
-          (λ e. let q : k.rank ≡ 2 = e in elim own [ inl z ↦ omega arith | inr z ↦ omega arith ])
-          (λ e. let q : k.rank ≡ 3 = e in elim own [ inl z ↦ omega arith | inr z ↦ omega arith ]) (due_ranks r)),
+          (not_of_mark k.rank Request own refl) (not_of_mark k.rank Repair own refl) (due_ranks r)),
       marks_and_timers m r ks h.1,
     )
 
@@ -112,7 +115,6 @@ cell_keys_differ m c d s =
     (mark_key m) c.script (marks_and_timers m c.holds c.script d.ranks)))
     (AllIn-map (λ x. DiffersFrom x (map (mark_key m) c.script ++ map (timer_key m) (timers c.holds))) (arrival_key m) c.inbox
     (AllIn-each _ (λ f. differs_append (arrival_key m f) (map (mark_key m) c.script) (map (timer_key m) (timers c.holds))
-    (from_all (arrival_key m f) (mark_key m) c.script (marks_apart m (arrival_key m f) c.script d.ranks (omega arith) (omega arith)))
+    (from_all (arrival_key m f) (mark_key m) c.script (marks_apart m (arrival_key m f) c.script d.ranks refl))
     (from_all (arrival_key m f) (timer_key m) (timers c.holds)
-    (dues_apart m (arrival_key m f) (timers c.holds) (λ e. let q : ◌≡◌ {A = ℕ} 1 2 = e in omega arith)
-    (λ e. let q : ◌≡◌ {A = ℕ} 1 3 = e in omega arith) (due_ranks c.holds)))) c.inbox))
+    (dues_apart m (arrival_key m f) (timers c.holds) (λ e. cc) (λ e. cc) (due_ranks c.holds)))) c.inbox))

@@ -3,11 +3,11 @@ use Rattle.std.proofs.Common.{◌≡◌, ℕ, ◌≤◌, Bool, true, false, cond
 use Rattle.std.proofs.Common.{Equal, Greater, ltb-true, lt-ltb, nat_lt, Option, Some, None, option_map}
 use Rattle.std.specs.Ordering.{ordering_reverse}
 use Rattle.srm_cell.specs.Cells.{Done, Event, Full, Idle, PlainCell, Spent, StepOutcome, Stepped, before, by_key, earlier, first_arrival}
-use Rattle.srm_cell.specs.Cells.{first_mark, handle, hear_at, next_event, next_timer, own_step, step_at, timer_event}
+use Rattle.srm_cell.specs.Cells.{first_mark, handle, hear_at, next_event, next_timer, own_step, step_at, timer_event, timer_key}
 use Rattle.srm_cell.specs.Flights.{flight_cmp}
 use Rattle.srm_cell.specs.declared.flight.Flight.{Flight}
 use Rattle.srm_member.proofs.OrderLemmas.{head_le}
-use Rattle.srm_member.specs.Record.{Record, earliest, earlier_timer, timers}
+use Rattle.srm_member.specs.Record.{Record, by_order, due_cmp, earliest, earlier_timer, timers}
 use Rattle.srm_member.specs.declared.cause.Cause.{Cause}
 use Rattle.srm_member.specs.declared.due.Due.{Due}
 use Rattle.srm_net.specs.Keys.{key_cmp}
@@ -15,6 +15,7 @@ use Rattle.srm_net.specs.Orders.{place}
 use Rattle.srm_net.specs.declared.key.Key.{Key}
 use Rattle.srm_net.specs.declared.packet.Packet.{Packet}
 use Rattle.srm_scenario.specs.declared.mark.Mark.{Mark}
+use Rattle.srm_net.proofs.Basics.{nat_cmp_self}
 use Rattle.srm_net.proofs.TotalOrders.{key_total}
 
 -- ---- the earliest event before an end
@@ -77,9 +78,20 @@ abbrev pub first_timer : ℕ → PlainCell → List Due → Option Event
 first_timer m c [] = None
 first_timer m c (d ∷ ds) = earlier (Some (timer_event m c d)) (first_timer m c ds)
 
+timer_keys : (m : ℕ) (d e : Due) → key_cmp (timer_key m d) (timer_key m e) ≡ due_cmp d e
+timer_keys m d e = let s = nat_cmp_self m in simp s
+
+sooner_by : (m : ℕ) (c : PlainCell) (r : Ordering) (d e : Due) → next_timer m c (Some (by_order r d e))
+    ≡ Some (by_key r (timer_event m c d) (timer_event m c e))
+sooner_by m c Less d e = refl
+sooner_by m c Equal d e = refl
+sooner_by m c Greater d e = refl
+
 sooner_timer : (m : ℕ) (c : PlainCell) (d : Due) (o : Option Due) → next_timer m c (Some (earlier_timer d o))
     ≡ earlier (Some (timer_event m c d)) (next_timer m c o)
-sooner_timer m c d o = grind arith
+sooner_timer m c d None = refl
+sooner_timer m c d (Some e) =
+    sooner_by m c (due_cmp d e) d e ∙ ap (λ r. Some (by_key r (timer_event m c d) (timer_event m c e))) (sym (timer_keys m d e))
 
 first_timer_is : (m : ℕ) (c : PlainCell) (ds : List Due) → next_timer m c (earliest ds) ≡ first_timer m c ds
 first_timer_is m c [] = refl

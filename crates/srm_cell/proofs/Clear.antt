@@ -34,11 +34,14 @@ use Rattle.srm_net.specs.declared.key.Key.{Key}
 use Rattle.srm_net.specs.declared.packet.Body.{Body}
 use Rattle.srm_net.specs.declared.packet.Name.{Name}
 use Rattle.srm_net.specs.declared.packet.Packet.{Packet}
+use Rattle.srm_net.specs.declared.rank.Rank.{Rank}
+use Rattle.srm_net.specs.declared.rank.Rank.TheVariants.{Arrival, Request, Repair}
 use Rattle.srm_scenario.specs.Plain.{mark_cmp}
+use Rattle.srm_scenario.specs.Scripts.{is_mark_rank}
 use Rattle.srm_scenario.specs.declared.mark.Mark.{Mark}
 use Rattle.srm_net.specs.Limits.{most_sent}
 use Rattle.srm_net.proofs.Basics.{same_numbers, T_first, T_second, T_less, nth_number}
-use Rattle.srm_net.proofs.TotalOrders.{key_total, name_total}
+use Rattle.srm_net.proofs.TotalOrders.{key_total, name_total, one_rank}
 
 -- ---- keys that differ
 
@@ -58,7 +61,7 @@ differ_member k l ne e = ne (ap (nth_number 1) (same_keys k l e))
 
 pub differ_rank : (k l : Key) → k.rank ≢ l.rank → Differs k l
 unfolding nth_number
-differ_rank k l ne e = ne (ap (nth_number 2) (same_keys k l e))
+differ_rank k l ne e = ne (one_rank k.rank l.rank (ap (nth_number 2) (same_keys k l e)))
 
 pub later_differs : (k l : Key) → k.time < l.time → Differs k l
 later_differs k l lt = differ_time k l (λ e. omega arith)
@@ -72,7 +75,7 @@ then_after k l h ne = elim (key_cmp k l) as (λ r. key_cmp k l ≡ r → key_cmp
 ] refl
 
 -- timers of two names at one tick and of one rank have different keys
-pub timer_differs : (m rank t : ℕ) (n k : Name) (u : ℕ) → (name_cmp n k ≡ Equal → u ≢ t)
+pub timer_differs : (m : ℕ) (rank : Rank) (t : ℕ) (n k : Name) (u : ℕ) → (name_cmp n k ≡ Equal → u ≢ t)
     → Differs (timer_key m (record { time = t; rank = rank; name = n })) (timer_key m (record { time = u; rank = rank; name = k }))
 unfolding nth_number
 timer_differs m rank t n k u apart e = grind arith
@@ -112,17 +115,17 @@ module _ {V : Type 0} (p : V → Type 0) where
 
 module _ (m t : ℕ) (state : MemberState) (sound : IsSound state) (n : Name) where
   abbrev AskKey : Key
-  AskKey = timer_key m (record { time = t; rank = 2; name = n })
+  AskKey = timer_key m (record { time = t; rank = Request; name = n })
 
   abbrev AnswerKey : Key
-  AnswerKey = timer_key m (record { time = t; rank = 3; name = n })
+  AnswerKey = timer_key m (record { time = t; rank = Repair; name = n })
 
   abbrev ClearOf : Key → MemberState → Type 0
   ClearOf k r = AllIn (λ d. Differs k (timer_key m d)) (timers_of r)
 
-  clear_of : (k : Key) (r : MemberState) → AllIn (λ e. Differs k (timer_key m (record { time = e.1.expiry; rank = 2; name = e.0 })))
+  clear_of : (k : Key) (r : MemberState) → AllIn (λ e. Differs k (timer_key m (record { time = e.1.expiry; rank = Request; name = e.0 })))
       r.missing
-      → AllIn (λ e. Differs k (timer_key m (record { time = e.1.expiry; rank = 3; name = e.0 }))) r.repairs → ClearOf k r
+      → AllIn (λ e. Differs k (timer_key m (record { time = e.1.expiry; rank = Repair; name = e.0 }))) r.repairs → ClearOf k r
   clear_of k r h g = AllIn-append (λ d. Differs k (timer_key m d)) _ _ (AllIn-map (λ d. Differs k (timer_key m d)) _ r.missing h)
       (AllIn-map (λ d. Differs k (timer_key m d)) _ r.repairs g)
 
@@ -136,24 +139,24 @@ module _ (m t : ℕ) (state : MemberState) (sound : IsSound state) (n : Name) wh
       let v : Missing = record { detected = x.detected; expiry = t + len; backoffs = min (x.backoffs + 1) 10; ignore = t + len / 2 } in
       clear_of AskKey (back_off t n x (with_request_first x state))
       (AllIn-weaker (Clear (λ (y : Missing). y.expiry ≢ t) n)
-      (λ e. Differs AskKey (timer_key m (record { time = e.1.expiry; rank = 2; name = e.0 })))
-      (λ e c. timer_differs m 2 t n e.0 e.1.expiry c) (put name_cmp n v state.missing)
+      (λ e. Differs AskKey (timer_key m (record { time = e.1.expiry; rank = Request; name = e.0 })))
+      (λ e c. timer_differs m Request t n e.0 e.1.expiry c) (put name_cmp n v state.missing)
       (put_clear (λ (y : Missing). y.expiry ≢ t) n v state.missing sound.asks (λ q. omega arith)))
-      (AllIn-each (λ e. Differs AskKey (timer_key m (record { time = e.1.expiry; rank = 3; name = e.0 })))
-      (λ e. differ_rank AskKey (timer_key m (record { time = e.1.expiry; rank = 3; name = e.0 }))
-      (λ q. let r : ◌≡◌ {A = ℕ} 2 3 = q in omega arith)) state.repairs)
+      (AllIn-each (λ e. Differs AskKey (timer_key m (record { time = e.1.expiry; rank = Repair; name = e.0 })))
+      (λ e. differ_rank AskKey (timer_key m (record { time = e.1.expiry; rank = Repair; name = e.0 }))
+      (λ q. cc)) state.repairs)
 
   answered_clear : (w : Repairing) → In (n, w) state.repairs → (o : Option Repairing) → find name_cmp n state.repairs ≡ o
       → ClearOf AnswerKey (expire_repair_by_entry t n state o).state
   answered_clear w h None e = absurd (found (λ (x : Repairing). true) n w state.repairs h e)
   answered_clear w h (Some x) e =
       clear_of AnswerKey (with_rest t n state.fixed.member (with_repair_first t x state))
-      (AllIn-each (λ e. Differs AnswerKey (timer_key m (record { time = e.1.expiry; rank = 2; name = e.0 })))
-      (λ e. differ_rank AnswerKey (timer_key m (record { time = e.1.expiry; rank = 2; name = e.0 }))
-      (λ q. let r : ◌≡◌ {A = ℕ} 3 2 = q in omega arith)) state.missing)
+      (AllIn-each (λ e. Differs AnswerKey (timer_key m (record { time = e.1.expiry; rank = Request; name = e.0 })))
+      (λ e. differ_rank AnswerKey (timer_key m (record { time = e.1.expiry; rank = Request; name = e.0 }))
+      (λ q. cc)) state.missing)
       (AllIn-weaker (Clear (λ (y : Repairing). y.expiry ≢ t) n)
-      (λ e. Differs AnswerKey (timer_key m (record { time = e.1.expiry; rank = 3; name = e.0 })))
-      (λ e c. timer_differs m 3 t n e.0 e.1.expiry c) (without n state.repairs)
+      (λ e. Differs AnswerKey (timer_key m (record { time = e.1.expiry; rank = Repair; name = e.0 })))
+      (λ e c. timer_differs m Repair t n e.0 e.1.expiry c) (without n state.repairs)
       (without_clear (λ (y : Repairing). y.expiry ≢ t) n state.repairs))
 
   pub asks_clear : (w : Missing) → In (n, w) state.missing → ClearOf AskKey (react state t (Ask n)).state
@@ -198,29 +201,35 @@ marks_differ m k [] h = tt
 marks_differ m k (l ∷ ls) h = ((λ e. let x : Less ≡ Equal = sym h.0 ∙ sym (mark_keys m k l) ∙ e in cc), marks_differ m k ls h.1)
 
 -- marks have other ranks than arrivals and timers
-pub marks_apart : (m : ℕ) (k : Key) (ks : List Mark) → HasOwnRanks ks → 0 < k.rank → k.rank ≤ 3 → AllIn (λ l. Differs k (mark_key m l)) ks
-marks_apart m k [] h low high = tt
-marks_apart m k (l ∷ ls) h low high = (
-  differ_rank k (mark_key m l)
-      (λ e. elim h.0 [ inl z ↦ (let q : k.rank ≡ l.rank = e in omega arith) | inr z ↦ (let q : k.rank ≡ l.rank = e in omega arith) ]),
-  marks_apart m k ls h.1 low high,
+pub not_of_mark : (r q : Rank) → is_mark_rank r ≡ true → is_mark_rank q ≡ false → r ≢ q
+not_of_mark r q own other e = true≢false (sym own ∙ ap is_mark_rank e ∙ other)
+
+pub marks_apart : (m : ℕ) (k : Key) (ks : List Mark) → HasOwnRanks ks → is_mark_rank k.rank ≡ false
+    → AllIn (λ l. Differs k (mark_key m l)) ks
+marks_apart m k [] h other = tt
+marks_apart m k (l ∷ ls) h other = (
+  differ_rank k (mark_key m l) (λ e. not_of_mark l.rank k.rank h.0 other (sym e)),
+  marks_apart m k ls h.1 other,
 )
 
--- a cell's timers have ranks 2 and 3
-pub due_ranks : (holds : Record) → AllIn (λ (d : Due). (d.rank ≡ 2) ⊎ (d.rank ≡ 3)) (timers holds)
-due_ranks (Active m) = AllIn-append (λ (d : Due). (d.rank ≡ 2) ⊎ (d.rank ≡ 3)) _ _
-    (AllIn-map (λ (d : Due). (d.rank ≡ 2) ⊎ (d.rank ≡ 3)) _ m.missing (AllIn-each _ (λ e. inl refl) m.missing))
-    (AllIn-map (λ (d : Due). (d.rank ≡ 2) ⊎ (d.rank ≡ 3)) _ m.repairs (AllIn-each _ (λ e. inr refl) m.repairs))
+-- a cell's timers are request timers and repair timers
+abbrev pub IsOfTimer : Due → Type 0
+IsOfTimer d = (d.rank ≡ Request) ⊎ (d.rank ≡ Repair)
+
+pub due_ranks : (holds : Record) → AllIn IsOfTimer (timers holds)
+due_ranks (Active m) = AllIn-append IsOfTimer _ _
+    (AllIn-map IsOfTimer _ m.missing (AllIn-each _ (λ e. inl refl) m.missing))
+    (AllIn-map IsOfTimer _ m.repairs (AllIn-each _ (λ e. inr refl) m.repairs))
 due_ranks (Gone f) = tt
 
-pub dues_apart : (m : ℕ) (k : Key) (ds : List Due) → k.rank ≢ 2 → k.rank ≢ 3 → AllIn (λ (d : Due). (d.rank ≡ 2) ⊎ (d.rank ≡ 3)) ds
+pub dues_apart : (m : ℕ) (k : Key) (ds : List Due) → k.rank ≢ Request → k.rank ≢ Repair → AllIn IsOfTimer ds
     → AllIn (λ d. Differs k (timer_key m d)) ds
-dues_apart m k ds two three h = AllIn-weaker (λ (d : Due). (d.rank ≡ 2) ⊎ (d.rank ≡ 3)) (λ d. Differs k (timer_key m d))
-    (λ d r. differ_rank k (timer_key m d) (λ e. elim r [ inl q ↦ two (e ∙ q) | inr q ↦ three (e ∙ q) ])) ds h
+dues_apart m k ds ask answer h = AllIn-weaker IsOfTimer (λ d. Differs k (timer_key m d))
+    (λ d r. differ_rank k (timer_key m d) (λ e. elim r [ inl q ↦ ask (e ∙ q) | inr q ↦ answer (e ∙ q) ])) ds h
 
-rank_in : (d : Due) (ds : List Due) → AllIn (λ (d : Due). (d.rank ≡ 2) ⊎ (d.rank ≡ 3)) ds → In d ds → (d.rank ≡ 2) ⊎ (d.rank ≡ 3)
+rank_in : (d : Due) (ds : List Due) → AllIn IsOfTimer ds → In d ds → IsOfTimer d
 rank_in d [] h g = absurd g
-rank_in d (x ∷ ds) h (inl e) = subst (λ (d : Due). (d.rank ≡ 2) ⊎ (d.rank ≡ 3)) e h.0
+rank_in d (x ∷ ds) h (inl e) = subst IsOfTimer e h.0
 rank_in d (x ∷ ds) h (inr g) = rank_in d ds h.1 g
 
 arrival_besides : (m : ℕ) (c : PlainCell) (fs : List Flight) → IsDistinct c → Ascends flight_cmp fs
@@ -228,8 +237,8 @@ arrival_besides : (m : ℕ) (c : PlainCell) (fs : List Flight) → IsDistinct c 
 arrival_besides m c [] t a = tt
 arrival_besides m c (f ∷ fs) t a = inl (record {
   flights = flights_differ m f fs a.0;
-  marks = marks_apart m (arrival_key m f) c.script t.ranks (omega arith) (omega arith);
-  dues = dues_apart m (arrival_key m f) (timers c.holds) (λ e. let q : 1 ≡ 2 = e in omega arith) (λ e. let q : 1 ≡ 3 = e in omega arith)
+  marks = marks_apart m (arrival_key m f) c.script t.ranks refl;
+  dues = dues_apart m (arrival_key m f) (timers c.holds) (λ e. cc) (λ e. cc)
       (due_ranks c.holds);
 })
 
@@ -240,12 +249,10 @@ mark_besides m c (k ∷ ks) t a r =
     let own = r.0 in
     inl (record {
       flights = AllIn-each (λ f. Differs (mark_key m k) (arrival_key m f))
-          (λ f. differ_rank (mark_key m k) (arrival_key m f)
-          (λ e. let q : k.rank ≡ 1 = e in elim own [ inl z ↦ omega arith | inr z ↦ omega arith ])) c.inbox;
+          (λ f. differ_rank (mark_key m k) (arrival_key m f) (not_of_mark k.rank Arrival own refl)) c.inbox;
       marks = marks_differ m k ks a.0;
       dues = dues_apart m (mark_key m k) (timers c.holds)
-          (λ e. let q : k.rank ≡ 2 = e in elim own [ inl z ↦ omega arith | inr z ↦ omega arith ])
-          (λ e. let q : k.rank ≡ 3 = e in elim own [ inl z ↦ omega arith | inr z ↦ omega arith ]) (due_ranks c.holds);
+          (not_of_mark k.rank Request own refl) (not_of_mark k.rank Repair own refl) (due_ranks c.holds);
     })
 
 timer_besides : (m : ℕ) (c : PlainCell) (ds : List Due) → IsDistinct c → ((d : Due) → In d ds → In d (timers c.holds))
@@ -258,9 +265,11 @@ timer_besides m c (d ∷ ds) t h =
       refl,
       AllIn-each (λ f. Differs (timer_key m d) (arrival_key m f))
           (λ f. differ_rank (timer_key m d) (arrival_key m f)
-          (λ e. let q : d.rank ≡ 1 = e in elim rank [ inl z ↦ omega arith | inr z ↦ omega arith ])) c.inbox,
-      marks_apart m (timer_key m d) c.script t.ranks (elim rank [ inl z ↦ omega arith | inr z ↦ omega arith ])
-          (elim rank [ inl z ↦ omega arith | inr z ↦ omega arith ]),
+          (λ e. elim rank [
+            | inl z ↦ (let q : Request ≡ Arrival = sym z ∙ e in cc)
+            | inr z ↦ (let q : Repair ≡ Arrival = sym z ∙ e in cc)
+          ])) c.inbox,
+      marks_apart m (timer_key m d) c.script t.ranks (elim rank [ inl z ↦ ap is_mark_rank z | inr z ↦ ap is_mark_rank z ]),
       (d, h d (inl refl), refl, refl),
     ))
     (timer_besides m c ds t (λ x g. h x (inr g)))
@@ -288,26 +297,27 @@ clear_sending m k e r (Some body) f l d = clear_by m k (nat_lt e.rest.sent most_
 
 clear_cause : (m : ℕ) (e : Event) (state : MemberState) → IsSound state → (d : Due) → In d (timers_of state) → e.key ≡ timer_key m d
     → AllIn (λ d. Differs e.key (timer_key m d)) (timers_of (react state e.key.time (cause_of_timer d.rank d.name)).state)
-clear_cause m e state sound d h q = elim (in_append d (map (λ e. record { time = e.1.expiry; rank = 2; name = e.0 }) state.missing) _ h) [
-  | inl g ↦
-      let r = in_map (λ (e : Name × Missing). record { time = e.1.expiry; rank = 2; name = e.0 }) d state.missing g in
-      let is : e.key ≡ timer_key m (record { time = r.0.1.expiry; rank = 2; name = r.0.0 }) = q ∙ ap (timer_key m) (sym r.2) in
-      let now : e.key ≡ timer_key m (record { time = e.key.time; rank = 2; name = r.0.0 }) = is
-      ∙ ap (λ t. timer_key m (record { time = t; rank = 2; name = r.0.0 })) (sym (ap (λ (k : Key). k.time) is)) in
-      subst (λ (d : Due). AllIn (λ x. Differs e.key (timer_key m x))
-      (timers_of (react state e.key.time (cause_of_timer d.rank d.name)).state)) r.2
-      (subst (λ k. AllIn (λ x. Differs k (timer_key m x)) (timers_of (react state e.key.time (Ask r.0.0)).state)) (sym now)
-      (asks_clear m e.key.time state sound r.0.0 r.0.1 r.1))
-  | inr g ↦
-      let r = in_map (λ (e : Name × Repairing). record { time = e.1.expiry; rank = 3; name = e.0 }) d state.repairs g in
-      let is : e.key ≡ timer_key m (record { time = r.0.1.expiry; rank = 3; name = r.0.0 }) = q ∙ ap (timer_key m) (sym r.2) in
-      let now : e.key ≡ timer_key m (record { time = e.key.time; rank = 3; name = r.0.0 }) = is
-      ∙ ap (λ t. timer_key m (record { time = t; rank = 3; name = r.0.0 })) (sym (ap (λ (k : Key). k.time) is)) in
-      subst (λ (d : Due). AllIn (λ x. Differs e.key (timer_key m x))
-      (timers_of (react state e.key.time (cause_of_timer d.rank d.name)).state)) r.2
-      (subst (λ k. AllIn (λ x. Differs k (timer_key m x)) (timers_of (react state e.key.time (Answer r.0.0)).state)) (sym now)
-      (answers_clear m e.key.time state sound r.0.0 r.0.1 r.1))
-]
+clear_cause m e state sound d h q =
+    elim (in_append d (map (λ e. record { time = e.1.expiry; rank = Request; name = e.0 }) state.missing) _ h) [
+      | inl g ↦
+          let r = in_map (λ (e : Name × Missing). record { time = e.1.expiry; rank = Request; name = e.0 }) d state.missing g in
+          let is : e.key ≡ timer_key m (record { time = r.0.1.expiry; rank = Request; name = r.0.0 }) = q ∙ ap (timer_key m) (sym r.2) in
+          let now : e.key ≡ timer_key m (record { time = e.key.time; rank = Request; name = r.0.0 }) = is
+          ∙ ap (λ t. timer_key m (record { time = t; rank = Request; name = r.0.0 })) (sym (ap (λ (k : Key). k.time) is)) in
+          subst (λ (d : Due). AllIn (λ x. Differs e.key (timer_key m x))
+          (timers_of (react state e.key.time (cause_of_timer d.rank d.name)).state)) r.2
+          (subst (λ k. AllIn (λ x. Differs k (timer_key m x)) (timers_of (react state e.key.time (Ask r.0.0)).state)) (sym now)
+          (asks_clear m e.key.time state sound r.0.0 r.0.1 r.1))
+      | inr g ↦
+          let r = in_map (λ (e : Name × Repairing). record { time = e.1.expiry; rank = Repair; name = e.0 }) d state.repairs g in
+          let is : e.key ≡ timer_key m (record { time = r.0.1.expiry; rank = Repair; name = r.0.0 }) = q ∙ ap (timer_key m) (sym r.2) in
+          let now : e.key ≡ timer_key m (record { time = e.key.time; rank = Repair; name = r.0.0 }) = is
+          ∙ ap (λ t. timer_key m (record { time = t; rank = Repair; name = r.0.0 })) (sym (ap (λ (k : Key). k.time) is)) in
+          subst (λ (d : Due). AllIn (λ x. Differs e.key (timer_key m x))
+          (timers_of (react state e.key.time (cause_of_timer d.rank d.name)).state)) r.2
+          (subst (λ k. AllIn (λ x. Differs k (timer_key m x)) (timers_of (react state e.key.time (Answer r.0.0)).state)) (sym now)
+          (answers_clear m e.key.time state sound r.0.0 r.0.1 r.1))
+    ]
 
 clear_handle : (m : ℕ) (e : Event) (holds : Record) (cause : Option Cause) → AllIn (λ f. Differs e.key (arrival_key m f)) e.rest.inbox
     → AllIn (λ l. Differs e.key (mark_key m l)) e.rest.script

@@ -17,6 +17,7 @@ use Rattle.srm_member.specs.declared.cause.Cause.{Cause}
 use Rattle.srm_member.specs.declared.due.Due.{Due}
 use Rattle.srm_net.specs.declared.key.Key.{Key}
 use Rattle.srm_net.specs.declared.packet.Name.{Name}
+use Rattle.srm_net.specs.declared.rank.Rank.TheVariants.{Request, Repair}
 use Rattle.srm_scenario.specs.declared.mark.Mark.{Mark}
 
 -- ---- what the next event takes from a cell
@@ -73,12 +74,12 @@ fewer_after : (t : ℕ) (holds : Record) (cause : Option Cause) → SoundRecord 
     ≡ Some (cause_of_timer d.rank d.name) → after_react t holds cause < timers_at t holds
 fewer_after t (Gone f) cause s d h e q = absurd h
 fewer_after t (Active m) cause s d h e q = subst (λ k. after_react t (Active m) k < timers_at t (Active m)) (sym q)
-    (elim (in_append d (map (λ e. record { time = e.1.expiry; rank = 2; name = e.0 }) m.missing) _ h) as
+    (elim (in_append d (map (λ e. record { time = e.1.expiry; rank = Request; name = e.0 }) m.missing) _ h) as
     (λ x. timers_at t (Active (react m t (cause_of_timer d.rank d.name)).state) < timers_at t (Active m)) [
-      | inl g ↦ let r = in_map (λ (e : Name × Missing). record { time = e.1.expiry; rank = 2; name = e.0 }) d m.missing g in
+      | inl g ↦ let r = in_map (λ (e : Name × Missing). record { time = e.1.expiry; rank = Request; name = e.0 }) d m.missing g in
           subst (λ (d : Due). timers_at t (Active (react m t (cause_of_timer d.rank d.name)).state) < timers_at t (Active m)) r.2
           (fewer_asks t m s r.0.0 r.0.1 r.1 (eq-eqb _ _ (ap (λ (d : Due). d.time) r.2 ∙ e)))
-      | inr g ↦ let r = in_map (λ (e : Name × Repairing). record { time = e.1.expiry; rank = 3; name = e.0 }) d m.repairs g in
+      | inr g ↦ let r = in_map (λ (e : Name × Repairing). record { time = e.1.expiry; rank = Repair; name = e.0 }) d m.repairs g in
           subst (λ (d : Due). timers_at t (Active (react m t (cause_of_timer d.rank d.name)).state) < timers_at t (Active m)) r.2
           (fewer_answers t m s r.0.0 r.0.1 r.1 (eq-eqb _ _ (ap (λ (d : Due). d.time) r.2 ∙ e)))
     ])

@@ -3,6 +3,8 @@ use Rattle.std.proofs.Common.{◌≡◌, ℕ, ◌<◌, List, [], ◌∷◌, refl
 use Rattle.std.proofs.Common.{unwrap_or, length, slice_get, Less}
 use Rattle.std.proofs.lemmas.List.{length-map}
 use Rattle.std.proofs.lemmas.Option.{slice_get-get_or}
+use Rattle.srm_net.specs.declared.rank.Rank.TheVariants.{Leave}
+use Rattle.srm_net.specs.Keys.{rank_number}
 use Rattle.srm_net.specs.Orders.{Ascends, AllAfter}
 use Rattle.srm_net.proofs.PathLaws.{distance_apart}
 use Rattle.srm_scenario.specs.declared.mark.Mark.{Mark}
@@ -19,7 +21,7 @@ use Rattle.srm_cell.specs.Laws.{SettingsAreFit}
 
 module _ (until : ℕ) (k : MemberSpec) where
   -- a mark without a cause is a leave
-  leave_rank : (x : Mark) → IsMark until k x → cause_of_mark x ≡ None → x.rank ≡ 6
+  leave_rank : (x : Mark) → IsMark until k x → cause_of_mark x ≡ None → x.rank ≡ Leave
   leave_rank x h none = grind arith
 
   ranks_of : (xs : List Mark) → AllIn (IsMark until k) xs → HasOwnRanks xs
@@ -27,17 +29,19 @@ module _ (until : ℕ) (k : MemberSpec) where
   ranks_of (x ∷ xs) h = (h.0.rank, ranks_of xs h.1)
 
   -- no mark of the member comes after its leave
-  after_leave : (x y : Mark) → IsMark until k x → IsMark until k y → x.rank ≡ 6 → mark_cmp x y ≡ Less → ⊥
-  after_leave x y h g six less = grind arith
+  after_leave : (x y : Mark) → IsMark until k x → IsMark until k y → x.rank ≡ Leave → mark_cmp x y ≡ Less → ⊥
+  unfolding rank_number
+  after_leave x y h g leave less = grind arith
 
-  nothing_after : (x : Mark) (ys : List Mark) → IsMark until k x → AllIn (IsMark until k) ys → x.rank ≡ 6 → AllAfter mark_cmp x ys → ys ≡ []
-  nothing_after x [] h g six after = refl
-  nothing_after x (y ∷ ys) h g six after = absurd (after_leave x y h g.0 six after.0)
+  nothing_after : (x : Mark) (ys : List Mark) → IsMark until k x → AllIn (IsMark until k) ys → x.rank ≡ Leave → AllAfter mark_cmp x ys
+      → ys ≡ []
+  nothing_after x [] h g leave after = refl
+  nothing_after x (y ∷ ys) h g leave after = absurd (after_leave x y h g.0 leave after.0)
 
   ends_of : (xs : List Mark) → AllIn (IsMark until k) xs → Ascends mark_cmp xs → EndsAtLeave k.leave xs
   ends_of [] h a = tt
   ends_of (x ∷ xs) h a = (
-    λ none. let six = leave_rank x h.0 none in ((h.0.leave six).0, nothing_after x xs h.0 h.1 six a.0),
+    λ none. let leave = leave_rank x h.0 none in ((h.0.leave leave).0, nothing_after x xs h.0 h.1 leave a.0),
     ends_of xs h.1 a.1,
   )
 

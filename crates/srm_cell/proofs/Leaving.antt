@@ -3,7 +3,9 @@ use Rattle.std.proofs.Common.{◌≡◌, ◌≢◌, ℕ, zero, suc, ◌<◌, ◌
 use Rattle.std.proofs.Common.{inl, inr, arith, Option, Some, None, leb-true}
 use Rattle.srm_net.specs.declared.packet.Packet.{Packet}
 use Rattle.srm_net.specs.declared.packet.Body.{Body}
-use Rattle.srm_net.specs.Keys.{key_cmp}
+use Rattle.srm_net.specs.Keys.{rank_number, key_cmp}
+use Rattle.srm_scenario.specs.Scripts.{is_mark_rank}
+use Rattle.srm_net.specs.declared.rank.Rank.TheVariants.{Leave}
 use Rattle.srm_scenario.specs.declared.mark.Mark.{Mark}
 use Rattle.srm_member.specs.declared.cause.Cause.{Cause}
 use Rattle.srm_member.specs.declared.due.Due.{Due}
@@ -97,18 +99,20 @@ timer_leaves m c (d ∷ ds) = earlier_on (LeaveOf m c) (Some _) (first_timer m c
 next_leaves : (m : ℕ) (c : PlainCell) → OnEvent (LeaveOf m c) (next_event m c)
 next_leaves m c = grind (arith, next_event_is, earlier_on, arrival_leaves, mark_leaves, timer_leaves)
 
--- a leave's rank is above that of an arrival
-leave_rank : (k : Mark) → (k.rank ≡ 0) ⊎ (3 < k.rank) → cause_of_mark k ≡ None → 3 < k.rank
-leave_rank k h1 none = grind arith
+-- a mark without a cause is a leave
+leave_rank : (k : Mark) → is_mark_rank k.rank ≡ true → cause_of_mark k ≡ None → k.rank ≡ Leave
+leave_rank k own none = grind arith
 
 -- an arrival at the tick of a leave, or before it, comes before the leave
-arrival_first : (m : ℕ) (k : Mark) (f : Flight) → 3 < k.rank → f.arrival ≤ k.at → NotBefore (mark_key m k) (arrival_key m f) → ⊥
-arrival_first m k f high le h = grind arith
+arrival_first : (m : ℕ) (k : Mark) (f : Flight) → k.rank ≡ Leave → f.arrival ≤ k.at → NotBefore (mark_key m k) (arrival_key m f) → ⊥
+unfolding rank_number
+arrival_first m k f is le h = grind arith
 
-no_flight : (leave m : ℕ) (k : Mark) (fs : List Flight) → 3 < k.rank → leave ≡ k.at → AllIn (λ f. is_up_to f.arrival (Some leave) ≡ true) fs
+no_flight : (leave m : ℕ) (k : Mark) (fs : List Flight) → k.rank ≡ Leave → leave ≡ k.at
+    → AllIn (λ f. is_up_to f.arrival (Some leave) ≡ true) fs
     → AllIn (λ f. NotBefore (mark_key m k) (arrival_key m f)) fs → fs ≡ []
-no_flight leave m k [] high e up from = refl
-no_flight leave m k (f ∷ fs) high e up from = absurd (arrival_first m k f high (let le = leb-true _ _ up.0 in omega arith) from.0)
+no_flight leave m k [] is e up from = refl
+no_flight leave m k (f ∷ fs) is e up from = absurd (arrival_first m k f is (let le = leb-true _ _ up.0 in omega arith) from.0)
 
 -- ---- cells stay so
 

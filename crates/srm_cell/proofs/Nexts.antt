@@ -6,6 +6,7 @@ use Rattle.std.specs.Ordering.{is_gt}
 use Rattle.srm_net.specs.Keys.{key_cmp}
 use Rattle.srm_net.specs.declared.key.Key.{Key}
 use Rattle.srm_net.specs.declared.packet.PacketId.{PacketId}
+use Rattle.srm_net.specs.declared.rank.Rank.TheVariants.{Arrival}
 use Rattle.srm_scenario.specs.declared.mark.Mark.{Mark}
 use Rattle.srm_member.specs.declared.due.Due.{Due}
 use Rattle.srm_member.specs.Record.{Record, due_of}
@@ -22,22 +23,22 @@ Known k o q = (e : Event) × (o ≡ Some e) × (k ≡ e.key) × (q ≡ Some e)
 
 pub arrival_known : (m n : ℕ) (p : PlainCell) (fs : List Flight) (t : ℕ) (id : PacketId) → n ≡ m → p.inbox ≡ fs
     → ◌≡◌ {A = Option (ℕ × PacketId)} (Some (t, id)) (option_map (λ (f : Flight). (f.arrival, f.packet.id)) (slice_get fs 0))
-    → Known (record { time = t; member = n; rank = 1; a = id.sender; b = 0; c = id.count }) (first_arrival m p p.inbox)
+    → Known (record { time = t; member = n; rank = Arrival; a = id.sender; b = 0; c = id.count }) (first_arrival m p p.inbox)
     (first_arrival m p p.inbox)
 arrival_known m n p fs t id number inbox h = subst
-    (λ xs. Known (record { time = t; member = n; rank = 1; a = id.sender; b = 0; c = id.count }) (first_arrival m p xs)
+    (λ xs. Known (record { time = t; member = n; rank = Arrival; a = id.sender; b = 0; c = id.count }) (first_arrival m p xs)
     (first_arrival m p xs)) (sym inbox) (by fs h)
   where
     by : (fs : List Flight) → ◌≡◌ {A = Option (ℕ × PacketId)} (Some (t, id))
         (option_map (λ (f : Flight). (f.arrival, f.packet.id)) (slice_get fs 0))
-        → Known (record { time = t; member = n; rank = 1; a = id.sender; b = 0; c = id.count }) (first_arrival m p fs)
+        → Known (record { time = t; member = n; rank = Arrival; a = id.sender; b = 0; c = id.count }) (first_arrival m p fs)
         (first_arrival m p fs)
     by [] h = cc
     by (f ∷ fs) h =
         let pair : ◌≡◌ {A = ℕ × PacketId} (t, id) (f.arrival, f.packet.id) = cc in
         let time : t ≡ f.arrival = ap (λ (x : ℕ × PacketId). x.0) pair in
         let same : id ≡ f.packet.id = ap (λ (x : ℕ × PacketId). x.1) pair in
-        (_, refl, (λ i. record { time = time i; member = number i; rank = 1; a = (same i).sender; b = 0; c = (same i).count }), refl)
+        (_, refl, (λ i. record { time = time i; member = number i; rank = Arrival; a = (same i).sender; b = 0; c = (same i).count }), refl)
 
 pub mark_known : (m n : ℕ) (p : PlainCell) (ks rest : List Mark) (k : Mark) → n ≡ m → p.script ≡ ks → ks ≡ k ∷ rest
     → Known (record { time = k.at; member = n; rank = k.rank; a = 0; b = 0; c = k.place }) (first_mark m p p.script)

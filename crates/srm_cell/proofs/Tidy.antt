@@ -17,10 +17,11 @@ use Rattle.srm_member.proofs.OrderLemmas.{rises_place}
 use Rattle.srm_member.specs.Record.{Record, timers}
 use Rattle.srm_member.specs.declared.cause.Cause.{Cause}
 use Rattle.srm_member.specs.declared.due.Due.{Due}
-use Rattle.srm_net.specs.Keys.{key_cmp}
+use Rattle.srm_net.specs.Keys.{rank_number, key_cmp}
 use Rattle.srm_net.specs.Orders.{NoneBelow, Rises}
 use Rattle.srm_net.specs.declared.key.Key.{Key}
 use Rattle.srm_net.specs.declared.packet.Packet.{Packet}
+use Rattle.srm_net.specs.declared.rank.Rank.TheVariants.{Arrival}
 use Rattle.srm_scenario.specs.Plain.{mark_cmp}
 use Rattle.srm_scenario.specs.declared.mark.Mark.{Mark}
 use Rattle.srm_net.proofs.Basics.{nat_cmp_self}
@@ -29,7 +30,7 @@ use Rattle.srm_net.proofs.TotalOrders.{key_total}
 -- ---- keys of flights and marks of one member
 
 pub flight_keys : (m : ℕ) (f g : Flight) → key_cmp (arrival_key m f) (arrival_key m g) ≡ flight_cmp f g
-flight_keys m f g = let e = nat_cmp_self m in simp e
+flight_keys m f g = let e = nat_cmp_self m in let r = nat_cmp_self (rank_number Arrival) in simp (e, r)
 
 pub mark_keys : (m : ℕ) (k l : Mark) → key_cmp (mark_key m k) (mark_key m l) ≡ mark_cmp k l
 mark_keys m k l = let e = nat_cmp_self m in simp e

@@ -7,6 +7,8 @@ use Rattle.srm_net.specs.declared.key.Key.{Key}
 use Rattle.srm_net.specs.declared.packet.Name.{Name}
 use Rattle.srm_net.specs.declared.packet.Body.{Body}
 use Rattle.srm_net.specs.declared.packet.Body.TheVariants.{Drawop, Request, Repair, Session}
+use Rattle.srm_net.specs.declared.rank.Rank.{Rank}
+use Rattle.srm_net.specs.declared.rank.Rank.TheVariants as rank
 use Rattle.srm_net.specs.declared.packet.Packet.{Packet}
 use Rattle.srm_net.specs.Keys.{key_cmp}
 use Rattle.srm_net.specs.Orders.{place}
@@ -81,7 +83,7 @@ earlier (Some d) (Some e) = Some (by_key (key_cmp d.key e.key) d e)
 -- the key of an arrival
 abbrev pub arrival_key : ℕ → Flight → Key
 arrival_key m f =
-    record { time = f.arrival; member = m; rank = 1; a = f.packet.id.sender; b = 0; c = f.packet.id.count }
+    record { time = f.arrival; member = m; rank = rank.Arrival; a = f.packet.id.sender; b = 0; c = f.packet.id.count }
 
 -- the key of a mark
 abbrev pub mark_key : ℕ → Mark → Key
@@ -124,9 +126,10 @@ first_mark m c (k ∷ ks) = Some (record {
   rest = record c { script = ks };
 })
 
--- a request timer has rank 2, and a repair timer rank 3
-abbrev pub cause_of_timer : ℕ → Name → Cause
-cause_of_timer rank n = if rank == 2 then Ask n else Answer n
+-- a request timer asks for its name, and a repair timer answers
+abbrev pub cause_of_timer : Rank → Name → Cause
+cause_of_timer rank.Request n = Ask n
+cause_of_timer _ n = Answer n
 
 -- a timer of the record
 abbrev pub timer_event : ℕ → PlainCell → Due → Event

@@ -2,6 +2,7 @@
 use Rattle.std.specs.Prelude.{◌≡◌, ℕ, Option, Some, None, if◌then◌else◌}
 use Rattle.std.specs.Ordering.{is_gt}
 use Rattle.srm_net.specs.declared.packet.PacketId.{PacketId}
+use Rattle.srm_net.specs.declared.rank.Rank.TheVariants as rank
 use Rattle.srm_net.specs.Keys.{key_cmp}
 use Rattle.srm_member.specs.Record.{due_of}
 use Rattle.srm_cell.specs.declared.pending.Source.{Source}
@@ -23,7 +24,7 @@ Stands m c (Some p) o = (e : Event) × (o ≡ Some e) × (p.key ≡ e.key) × (f
 -- a packet on its way to member m, as it is pending
 abbrev pub arriving : ℕ → ℕ → PacketId → Pending
 arriving m time id = record {
-  key = record { time = time; member = m; rank = 1; a = id.sender; b = 0; c = id.count };
+  key = record { time = time; member = m; rank = rank.Arrival; a = id.sender; b = 0; c = id.count };
   source = Inbox;
 }
 

@@ -1,7 +1,9 @@
 -- What the model needs of a scenario, its network and a seed.
-use Rattle.std.specs.Prelude.{◌≡◌, ◌≢◌, ◌⊎◌, ℕ, ◌+◌, ◌<◌, Bool, not, ◌&&◌, List, [], ◌∷◌, length}
+use Rattle.std.specs.Prelude.{◌≡◌, ◌≢◌, ℕ, ◌+◌, ◌<◌, Bool, true, not, ◌&&◌, List, [], ◌∷◌, length}
 use Rattle.std.specs.Prelude.{Option, Some, None, unwrap_or, slice_get, nat_lt, ◌==◌, if◌then◌else◌}
 use Rattle.srm_net.specs.declared.packet.Packet.{Packet}
+use Rattle.srm_net.specs.declared.rank.Rank.{Rank}
+use Rattle.srm_net.specs.declared.rank.Rank.TheVariants as rank
 use Rattle.srm_net.specs.declared.role.Role.TheVariants.{Receiver}
 use Rattle.srm_net.specs.Orders.{Ascends}
 use Rattle.srm_net.specs.Network.{Network}
@@ -11,6 +13,7 @@ pub use Rattle.srm_net.specs.Paths.{half_rounds_from}
 use Rattle.srm_scenario.specs.declared.mark.Mark.{Mark}
 use Rattle.srm_scenario.specs.declared.parts.MemberSpec.{MemberSpec}
 use Rattle.srm_scenario.specs.Plain.{PlainScenario, mark_cmp, script_of}
+use Rattle.srm_scenario.specs.Scripts.{is_mark_rank}
 use Rattle.srm_scenario.specs.Presence.{is_present}
 use Rattle.srm_member.specs.declared.cause.Cause.{Cause}
 use Rattle.srm_member.specs.declared.cause.Cause.TheVariants.{Join, Draw, Report}
@@ -103,20 +106,23 @@ arrival_of t p m =
 
 -- ---- marks
 
--- what a mark of a script is to a member: a join, a draw, a report, or, where there is no cause, its leave
+-- what a mark of this rank is to a member: a join, a draw, a report, or, where there is no cause, its leave
+abbrev pub cause_by_rank : Rank → Mark → Option Cause
+cause_by_rank rank.Join k = Some Join
+cause_by_rank rank.Draw k = Some (Draw k.page k.ink)
+cause_by_rank rank.Report k = Some Report
+cause_by_rank _ k = None
+
+-- what a mark of a script is to a member
 abbrev pub cause_of_mark : Mark → Option Cause
-cause_of_mark k =
-    if k.rank == 0 then Some Join
-    else if k.rank == 4 then Some (Draw k.page k.ink)
-    else if k.rank == 5 then Some Report
-    else None
+cause_of_mark k = cause_by_rank k.rank k
 
 -- ---- fit settings
 
--- the ranks of joins, and of draws, reports and leaves
+-- each mark's rank is one of marks: that of a join, of a draw, of a report or of a leave
 abbrev pub HasOwnRanks : List Mark → Type 0
 HasOwnRanks [] = Unit {0}
-HasOwnRanks (k ∷ ks) = ((k.rank ≡ 0) ⊎ (3 < k.rank)) × HasOwnRanks ks
+HasOwnRanks (k ∷ ks) = (is_mark_rank k.rank ≡ true) × HasOwnRanks ks
 
 -- a leave is at the time at which the member leaves, and no mark comes after it
 abbrev pub EndsAtLeave : Option ℕ → List Mark → Type 0

@@ -6,7 +6,7 @@ ghost use Rattle.srm_cell.specs.Pending as pending;
 
 use srm_net::key::Key;
 use srm_net::packet::PacketId;
-use srm_net::rank;
+use srm_net::rank::Rank;
 use std::cmp::Ordering;
 
 /// Where a cell has an event.
@@ -38,7 +38,7 @@ impl Pending {
             key: Key {
                 time,
                 member,
-                rank: rank::ARRIVAL,
+                rank: Rank::Arrival,
                 a: id.sender,
                 b: 0,
                 c: id.count,

@@ -7,7 +7,7 @@ use srm_member::cause::Cause;
 use srm_member::due::Due;
 use srm_member::row::{About, Word};
 use srm_net::packet::Body;
-use srm_net::rank;
+use srm_net::rank::Rank;
 use srm_scenario::mark::Mark;
 
 // The kind of an event that has a cause.
@@ -49,13 +49,13 @@ pub(crate) fn cause_at(mark: Mark) -> Option<Cause>
     ensures { result ≡ cause_of_mark mark }
 {
     match mark.rank {
-        rank::JOIN => Some(Cause::Join),
-        rank::DRAW => Some(Cause::Draw {
+        Rank::Join => Some(Cause::Join),
+        Rank::Draw => Some(Cause::Draw {
             page: mark.page,
             ink: mark.ink,
         }),
-        rank::REPORT => Some(Cause::Report),
-        _ => None,
+        Rank::Report => Some(Cause::Report),
+        Rank::Leave | Rank::Arrival | Rank::Request | Rank::Repair => None,
     }
 }
 
@@ -63,9 +63,8 @@ pub(crate) fn cause_at(mark: Mark) -> Option<Cause>
 pub(crate) fn expiry(due: Due) -> Cause
     ensures { result ≡ cause_of_timer due.rank due.name }
 {
-    if due.rank == rank::REQUEST {
-        Cause::Ask { name: due.name }
-    } else {
-        Cause::Answer { name: due.name }
+    match due.rank {
+        Rank::Request => Cause::Ask { name: due.name },
+        _ => Cause::Answer { name: due.name },
     }
 }

@@ -1,7 +1,7 @@
 //! What no clause says of cells: when a box is dropped, and that the calls answer with ample memory.
 ghost use Rattle.std.specs.Prelude.{◌≡◌, ◌<◌, [], IfOk};
 ghost use Rattle.srm_net.specs.Orders.{Rises};
-ghost use Rattle.srm_net.specs.declared.rank.TheConstants.{REPORT, LEAVE};
+ghost use Rattle.srm_net.specs.declared.rank.Rank.TheVariants.{Report, Leave};
 ghost use Rattle.srm_scenario.specs.Plain.{mark_cmp};
 ghost use Rattle.srm_cell.specs.Probes.{probe_record, reporter_record};
 
@@ -15,7 +15,7 @@ use srm_member::member::Member;
 use srm_member::react::React;
 use srm_member::told::Told;
 use srm_net::packet::{Body, Name, Packet, PacketId};
-use srm_net::rank;
+use srm_net::rank::Rank;
 use srm_net::sequence::Sequence;
 use srm_scenario::mark::Mark;
 use std::alloc::{AllocError, Global};
@@ -75,11 +75,11 @@ impl Member for Probe {
 }
 
 const fn leave(at: u64) -> Mark
-    ensures { result ≡ record { at = at; rank = LEAVE; place = 0; page = 0; ink = 0 } }
+    ensures { result ≡ record { at = at; rank = Leave; place = 0; page = 0; ink = 0 } }
 {
     Mark {
         at,
-        rank: rank::LEAVE,
+        rank: Rank::Leave,
         place: 0,
         page: 0,
         ink: 0,
@@ -87,11 +87,11 @@ const fn leave(at: u64) -> Mark
 }
 
 const fn report(at: u64) -> Mark
-    ensures { result ≡ record { at = at; rank = REPORT; place = 0; page = 0; ink = 0 } }
+    ensures { result ≡ record { at = at; rank = Report; place = 0; page = 0; ink = 0 } }
 {
     Mark {
         at,
-        rank: rank::REPORT,
+        rank: Rank::Report,
         place: 0,
         page: 0,
         ink: 0,

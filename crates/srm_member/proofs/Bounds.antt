@@ -6,6 +6,7 @@ use Rattle.srm_net.specs.declared.packet.Name.{Name}
 use Rattle.srm_net.specs.declared.packet.PageId.{PageId}
 use Rattle.srm_net.specs.declared.packet.Heard.{Heard}
 use Rattle.srm_net.specs.declared.packet.Body.{Body}
+use Rattle.srm_net.specs.declared.rank.Rank.TheVariants.{Request, Repair}
 use Rattle.srm_net.specs.Names.{page_of, name_in, name_cmp}
 use Rattle.srm_member.specs.declared.cause.Cause.{Cause}
 use Rattle.srm_member.specs.declared.fixed.Fixed.{Fixed}
@@ -119,10 +120,10 @@ module _ (f : Fixed) (A : List (Name × Missing) → Type 0) (B : List (Name × 
 
 module _ (Q : Due → Type 0) (at : ℕ) (later : (d : Due) → at < d.time → Q d) where
   abbrev IsAsk : (Name × Missing) → Type 0
-  IsAsk e = Q (record { time = e.1.expiry; rank = 2; name = e.0 })
+  IsAsk e = Q (record { time = e.1.expiry; rank = Request; name = e.0 })
 
   abbrev IsAnswer : (Name × Repairing) → Type 0
-  IsAnswer e = Q (record { time = e.1.expiry; rank = 3; name = e.0 })
+  IsAnswer e = Q (record { time = e.1.expiry; rank = Repair; name = e.0 })
 
   put_ask_in : (n : Name) (v : Missing) (es : List (Name × Missing)) → at < v.expiry → AllIn IsAsk es → AllIn IsAsk (put name_cmp n v es)
   put_ask_in n v es lt h = AllIn-put IsAsk name_cmp n v es (λ x. later _ lt) h
@@ -137,6 +138,7 @@ module _ (Q : Due → Type 0) (at : ℕ) (later : (d : Due) → at < d.time → 
       (λ n es g. AllIn-filter IsAnswer _ es g) m cause (record {
         same = refl;
         asks = AllIn-unmap Q _ m.missing (AllIn-first Q _ _ h);
-        answers = AllIn-unmap Q _ m.repairs (AllIn-second Q (map (λ e. record { time = e.1.expiry; rank = 2; name = e.0 }) m.missing) _ h);
+        answers = AllIn-unmap Q _ m.repairs
+            (AllIn-second Q (map (λ e. record { time = e.1.expiry; rank = Request; name = e.0 }) m.missing) _ h);
       }) in
       AllIn-append Q _ _ (AllIn-map Q _ _ k.asks) (AllIn-map Q _ _ k.answers)

@@ -14,6 +14,7 @@ use Rattle.std.specs.declared.cmp.Ordering.{Ordering}
 use Rattle.std.specs.declared.cmp.Ordering.TheVariants.{Equal}
 use Rattle.srm_net.specs.declared.packet.Name.{Name}
 use Rattle.srm_net.specs.Names.{name_cmp}
+use Rattle.srm_net.proofs.TotalOrders.{ranks_compared}
 use Rattle.srm_member.specs.declared.due.Due.{Due}
 use Rattle.srm_member.specs.Record.{due_cmp}
 use Rattle.srm_net.specs.contracts.packet.NameOrd.TheImpl as name_order
@@ -27,7 +28,8 @@ names_compared i a b = ap (λ o. ordering_then (nat_cmp a.source b.source) (orde
     (sym (then_equal (nat_cmp a.number b.number))) i
 
 pub dues_compared : due_order.cmp-value.it ≡ due_cmp
-dues_compared i a b = ordering_then (nat_cmp a.time b.time) (ordering_then (nat_cmp a.rank b.rank) (names_compared i a.name b.name))
+dues_compared i a b =
+    ordering_then (nat_cmp a.time b.time) (ordering_then (ranks_compared a.rank b.rank i) (names_compared i a.name b.name))
 
 pub name_find : {V : Type 0} (n : Name) (es : List (Name × V)) → find name_cmp n es ≡ lookup (is_at (name_order.cmp-value.it n)) es
 name_find n es = ap (λ R. find R n es) (sym names_compared) ∙ maps.find-lookup name_order.cmp-value.it n es

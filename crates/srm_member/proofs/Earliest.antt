@@ -1,5 +1,5 @@
 -- The first timer of an index is the earliest of the tables.
-use Rattle.std.proofs.Common.{◌≡◌, ℕ, eqb, Bool, true, false, cond, ◌&&◌, ◌||◌, T, List, [], ◌∷◌, ◌++◌, map, Option, Some, None, refl, sym}
+use Rattle.std.proofs.Common.{◌≡◌, ℕ, Bool, true, false, cond, ◌&&◌, ◌||◌, T, List, [], ◌∷◌, ◌++◌, map, Option, Some, None, refl, sym}
 use Rattle.std.proofs.Common.{ap, ◌∙◌, subst, arith, ◌==◌}
 use Rattle.std.specs.Option.{option_map}
 use Rattle.std.specs.declared.cmp.Ordering.{Ordering}
@@ -9,6 +9,9 @@ use Rattle.std.specs.FinMap.Entries.{find, is_sorted, below_all}
 use Rattle.std.proofs.lemmas.Bool.Decides.{nat_tests}
 use Rattle.std.proofs.lemmas.Bool.{or_right}
 use Rattle.srm_net.specs.declared.packet.Name.{Name}
+use Rattle.srm_net.specs.declared.rank.Rank.{Rank}
+use Rattle.srm_net.specs.declared.rank.Rank.TheVariants.{Request, Repair}
+use Rattle.srm_net.specs.Keys.{rank_number}
 use Rattle.srm_net.specs.Names.{name_cmp}
 use Rattle.srm_net.proofs.Basics.{T_first, T_second, is_Equal}
 use Rattle.srm_net.proofs.TotalOrders.{tied_names}
@@ -16,7 +19,7 @@ use Rattle.srm_member.specs.declared.due.Due.{Due}
 use Rattle.srm_member.specs.Record.{Missing, Repairing, due_cmp, by_order, earlier_timer, earliest}
 use Rattle.srm_member.specs.Pending.{has, RisesByName, IsFirst, IsIndexed, pending_timers, request_timer, repair_timer}
 use Rattle.srm_member.specs.Pending.{expiry_of, is_at_time}
-use Rattle.srm_member.proofs.Indexes.{due_total, due_same, same, due_eq, due_itself}
+use Rattle.srm_member.proofs.Indexes.{due_total, due_same, same, same_rank, due_eq, due_itself}
 
 -- ---- the earliest of a list is its first
 
@@ -124,32 +127,34 @@ at_time-cond : {V : Type 0} (f : V → ℕ) (t : ℕ) (c : Bool) (v : V) (o : Op
 at_time-cond f t true v o = refl
 at_time-cond f t false v o = refl
 
-has-map : {V : Type 0} (f : V → ℕ) (r : ℕ) (d : Due) (es : List (Name × V)) → RisesByName es
+has-map : {V : Type 0} (f : V → ℕ) (r : Rank) (d : Due) (es : List (Name × V)) → RisesByName es
     → has (map (λ e. record { time = f e.1; rank = r; name = e.0 }) es) d
-    ≡ ((r == d.rank) && is_at_time d.time (option_map f (find name_cmp d.name es)))
-has-map f r d [] h = elim (r == d.rank) as (λ b. false ≡ (b && false)) [ true ↦ refl | false ↦ refl ]
+    ≡ (same_rank r d.rank && is_at_time d.time (option_map f (find name_cmp d.name es)))
+has-map f r d [] h = elim (same_rank r d.rank) as (λ b. false ≡ (b && false)) [ true ↦ refl | false ↦ refl ]
 has-map {V = V} f r d (e ∷ es) h =
     let rest : Bool = is_at_time d.time (option_map f (find name_cmp d.name es)) in
     let c : Bool = same d.name e.0 in
     ap (λ b. b || has (map (λ (e : Name × V). record { time = f e.1; rank = r; name = e.0 }) es) d)
     (due_eq d (record { time = f e.1; rank = r; name = e.0 }))
-    ∙ ap (λ b. ((d.time == f e.1) && ((d.rank == r) && c)) || b) (has-map f r d es (T_second (below_all name_cmp e.0 es) _ h))
-    ∙ ap (λ b. ((d.time == f e.1) && (b && c)) || ((r == d.rank) && rest)) (eqb-swap d.rank r)
-    ∙ at_entry (d.time == f e.1) (f e.1 == d.time) (r == d.rank) c true rest
+    ∙ ap (λ b. ((d.time == f e.1) && (same_rank d.rank r && c)) || b) (has-map f r d es (T_second (below_all name_cmp e.0 es) _ h))
+    ∙ ap (λ b. ((d.time == f e.1) && (b && c)) || (same_rank r d.rank && rest)) (eqb-swap (rank_number d.rank) (rank_number r))
+    ∙ at_entry (d.time == f e.1) (f e.1 == d.time) (same_rank r d.rank) c true rest
     (λ t. ap (λ o. is_at_time d.time (option_map f o)) (not_found d.name e es h t)) (eqb-swap d.time (f e.1))
-    ∙ ap (λ b. (r == d.rank) && b) (sym (at_time-cond f d.time c e.1 (find name_cmp d.name es)))
+    ∙ ap (λ b. same_rank r d.rank && b) (sym (at_time-cond f d.time c e.1 (find name_cmp d.name es)))
 
-by_rank : (k t : ℕ) (x y : Option ℕ) → (((2 == k) && is_at_time t x) || ((3 == k) && is_at_time t y))
-    ≡ is_at_time t (cond (eqb 2 k) x (cond (eqb 3 k) y None))
-by_rank k t x y = grind arith
+by_rank : (ms : List (Name × Missing)) (rs : List (Name × Repairing)) (k : Rank) (t : ℕ) (n : Name)
+    → ((same_rank Request k && is_at_time t (expiry_of ms rs Request n)) || (same_rank Repair k && is_at_time t (expiry_of ms rs Repair n)))
+    ≡ is_at_time t (expiry_of ms rs k n)
+unfolding rank_number
+by_rank ms rs k t n = grind arith
 
 has-timers : (ms : List (Name × Missing)) (rs : List (Name × Repairing)) → RisesByName ms → RisesByName rs
     → (d : Due) → has (pending_timers ms rs) d
     ≡ is_at_time d.time (expiry_of ms rs d.rank d.name)
 has-timers ms rs g h d =
     has-append (map (λ (e : Name × Missing). request_timer e.0 e.1) ms) (map (λ (e : Name × Repairing). repair_timer e.0 e.1) rs) d
-    ∙ (λ i. has-map (λ (e : Missing). e.expiry) 2 d ms g i || has-map (λ (e : Repairing). e.expiry) 3 d rs h i)
-    ∙ by_rank d.rank d.time _ _
+    ∙ (λ i. has-map (λ (e : Missing). e.expiry) Request d ms g i || has-map (λ (e : Repairing). e.expiry) Repair d rs h i)
+    ∙ by_rank ms rs d.rank d.time d.name
 
 pub index_first : (index : List Due) (ms : List (Name × Missing)) (rs : List (Name × Repairing)) (r : Option Due) → IsIndexed index ms rs
     → IsFirst index r → r ≡ earliest (pending_timers ms rs)

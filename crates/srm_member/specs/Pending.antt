@@ -1,34 +1,35 @@
 -- A member's timers, and an index of them by time.
-use Rattle.std.specs.Prelude.{◌≡◌, ℕ, Bool, true, false, List, [], map, ◌++◌, Option, Some, None, ◌==◌, if◌then◌else◌}
+use Rattle.std.specs.Prelude.{◌≡◌, ℕ, Bool, true, false, List, [], map, ◌++◌, Option, Some, None, ◌==◌}
 use Rattle.std.specs.Prelude.{T}
 use Rattle.std.specs.List.{list_any}
 use Rattle.std.specs.Option.{option_map}
 use Rattle.std.specs.Ordering.{eq_by_cmp, is_gt}
 use Rattle.std.specs.FinMap.Entries.{find, is_sorted}
 use Rattle.srm_net.specs.declared.packet.Name.{Name}
+use Rattle.srm_net.specs.declared.rank.Rank.{Rank}
+use Rattle.srm_net.specs.declared.rank.Rank.TheVariants.{Request, Repair}
 use Rattle.srm_net.specs.Names.{name_cmp}
 use Rattle.srm_member.specs.declared.due.Due.{Due}
 use Rattle.srm_member.specs.Record.{Missing, Repairing, due_cmp}
 
 -- the request timer of a missing name
 abbrev pub request_timer : Name → Missing → Due
-request_timer n e = record { time = e.expiry; rank = 2; name = n }
+request_timer n e = record { time = e.expiry; rank = Request; name = n }
 
 -- the repair timer of a name
 abbrev pub repair_timer : Name → Repairing → Due
-repair_timer n e = record { time = e.expiry; rank = 3; name = n }
+repair_timer n e = record { time = e.expiry; rank = Repair; name = n }
 
 abbrev pub pending_timers : List (Name × Missing) → List (Name × Repairing) → List Due
 pending_timers missing repairs =
-    map (λ e. record { time = e.1.expiry; rank = 2; name = e.0 }) missing
-    ++ map (λ e. record { time = e.1.expiry; rank = 3; name = e.0 }) repairs
+    map (λ e. record { time = e.1.expiry; rank = Request; name = e.0 }) missing
+    ++ map (λ e. record { time = e.1.expiry; rank = Repair; name = e.0 }) repairs
 
 -- when the timer of this rank and name expires, if it is pending
-abbrev pub expiry_of : List (Name × Missing) → List (Name × Repairing) → ℕ → Name → Option ℕ
-expiry_of missing repairs rank n =
-    if 2 == rank then option_map (λ (e : Missing). e.expiry) (find name_cmp n missing)
-    else if 3 == rank then option_map (λ (e : Repairing). e.expiry) (find name_cmp n repairs)
-    else None
+abbrev pub expiry_of : List (Name × Missing) → List (Name × Repairing) → Rank → Name → Option ℕ
+expiry_of missing repairs Request n = option_map (λ (e : Missing). e.expiry) (find name_cmp n missing)
+expiry_of missing repairs Repair n = option_map (λ (e : Repairing). e.expiry) (find name_cmp n repairs)
+expiry_of missing repairs _ n = None
 
 -- whether a timer that expires at this time, if it is pending, is one of this time
 abbrev pub is_at_time : ℕ → Option ℕ → Bool

@@ -8,6 +8,8 @@ use Rattle.rand_pcg.specs.Lcg.{Lcg, started, increment_of}
 use Rattle.rand_pcg.specs.Pcg.{multiplier_64}
 use Rattle.srm_net.specs.declared.packet.Name.{Name}
 use Rattle.srm_net.specs.declared.packet.PageId.{PageId}
+use Rattle.srm_net.specs.declared.rank.Rank.TheVariants.{Request, Repair}
+use Rattle.srm_net.specs.Keys.{rank_number}
 use Rattle.srm_member.specs.declared.fixed.Fixed.{Fixed}
 use Rattle.srm_member.specs.declared.due.Due.{Due}
 use Rattle.srm_member.specs.declared.exit.Exit.{Exit}
@@ -68,8 +70,8 @@ fixed_part (Gone f) = f
 -- the request timers and the repair timers of what a member knows
 abbrev pub timers_of : MemberState → List Due
 timers_of m =
-    map (λ e. record { time = e.1.expiry; rank = 2; name = e.0 }) m.missing
-    ++ map (λ e. record { time = e.1.expiry; rank = 3; name = e.0 }) m.repairs
+    map (λ e. record { time = e.1.expiry; rank = Request; name = e.0 }) m.missing
+    ++ map (λ e. record { time = e.1.expiry; rank = Repair; name = e.0 }) m.repairs
 
 -- the timers of a record: none where it is gone
 abbrev pub timers : Record → List Due
@@ -78,7 +80,7 @@ timers (Gone f) = []
 
 -- timers are compared by time, rank and name
 abbrev pub numbers_of_due : Due → List ℕ
-numbers_of_due d = d.time ∷ d.rank ∷ d.name.source ∷ d.name.page ∷ d.name.number ∷ []
+numbers_of_due d = d.time ∷ rank_number d.rank ∷ d.name.source ∷ d.name.page ∷ d.name.number ∷ []
 
 -- number by number
 abbrev pub due_cmp : Due → Due → Ordering

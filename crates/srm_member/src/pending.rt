@@ -11,7 +11,7 @@ use crate::entries::{Missing, Repairing};
 use crate::index::Index;
 use crate::named::Named;
 use srm_net::packet::Name;
-use srm_net::rank;
+use srm_net::rank::Rank;
 use srm_net::sequence::Sequence;
 use std::alloc::{AllocError, Global};
 use std::marker::Model;
@@ -136,7 +136,7 @@ fn request_due(name: Name, missing: Missing) -> Due
 {
     Due {
         time: missing.expiry,
-        rank: rank::REQUEST,
+        rank: Rank::Request,
         name,
     }
 }
@@ -146,7 +146,7 @@ fn repair_due(name: Name, repair: Repairing) -> Due
 {
     Due {
         time: repair.expiry,
-        rank: rank::REPAIR,
+        rank: Rank::Repair,
         name,
     }
 }

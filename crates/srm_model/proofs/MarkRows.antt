@@ -7,6 +7,9 @@ use Rattle.std.proofs.lemmas.List.Elements.{Contains-append_left, Contains-appen
 use Rattle.srm_net.specs.Keys.{key_cmp}
 use Rattle.srm_net.specs.declared.key.Key.{Key}
 use Rattle.srm_net.specs.Orders.{AllAfter, Ascends}
+use Rattle.srm_net.specs.declared.rank.Rank.{Rank}
+use Rattle.srm_net.specs.declared.rank.Rank.TheVariants as rank
+use Rattle.srm_scenario.specs.Scripts.{is_mark_rank}
 use Rattle.srm_scenario.specs.declared.mark.Mark.{Mark}
 use Rattle.srm_member.specs.declared.cause.Cause.{Cause}
 use Rattle.srm_member.specs.declared.cause.Cause.TheVariants.{Join, Arrival}
@@ -58,9 +61,9 @@ ascends_first (x ∷ xs) ys h = (after_first xs h.0, ascends_first xs ys h.1)
 
 -- of member j: a join is at the time of its join, and a leave at that of its leave
 pub record IsOwnMark (t : Traffic) (j : ℕ) (k : Mark) : Type 0 where
-  pub join : k.rank ≡ 0 → (k.at ≡ t.join j) × (k.place ≡ 0)
-  pub leave : k.rank ≡ 6 → (t.leave j ≡ Some k.at) × (k.place ≡ 0)
-  pub ranks : k.rank ≢ 0 → k.rank ≢ 4 → k.rank ≢ 5 → k.rank ≡ 6
+  pub join : k.rank ≡ rank.Join → (k.at ≡ t.join j) × (k.place ≡ 0)
+  pub leave : k.rank ≡ rank.Leave → (t.leave j ≡ Some k.at) × (k.place ≡ 0)
+  pub own : is_mark_rank k.rank ≡ true
 
 -- ---- events
 
@@ -100,13 +103,13 @@ script_after e d h = subst (OnStep (SameScript e)) h (script_handle e e.rest.hol
 
 -- ---- rows
 
-abbrev pub own_key : ℕ → ℕ → ℕ → Key
-own_key at m rank = record { time = at; member = m; rank = rank; a = 0; b = 0; c = 0 }
+abbrev pub own_key : ℕ → ℕ → Rank → Key
+own_key at m r = record { time = at; member = m; rank = r; a = 0; b = 0; c = 0 }
 
 -- a row of a join or of a leave has the key of that mark
 pub record RowMarks (t : Traffic) (r : Row) : Type 0 where
-  pub join : r.cause ≡ word.Join → r.key ≡ own_key (t.join r.key.member) r.key.member 0
-  pub leave : r.cause ≡ word.Leave → (at : ℕ) × (t.leave r.key.member ≡ Some at) × (r.key ≡ own_key at r.key.member 6)
+  pub join : r.cause ≡ word.Join → r.key ≡ own_key (t.join r.key.member) r.key.member rank.Join
+  pub leave : r.cause ≡ word.Leave → (at : ℕ) × (t.leave r.key.member ≡ Some at) × (r.key ≡ own_key at r.key.member rank.Leave)
 
 module _ (t : Traffic) (m : ℕ) (e : Event) (d : Stepped) (does : Does e d) where
   pub row_marks : MarksOf (IsOwnMark t m) m e → RowMarks t d.row
@@ -133,7 +136,7 @@ module _ (t : Traffic) (rows : List Row) (rise : Ascends row_cmp rows) (marks : 
   joins_once before after r e cause h =
       let mine = (here before after r e).join cause in
       let other = (earlier_row before after h.0 r e h.1).join h.3 in
-      let same = ap (λ m. own_key (t.join m) m 0) h.2 in
+      let same = ap (λ m. own_key (t.join m) m rank.Join) h.2 in
       keys_differ before after h.0 r (split_order before after r e) h.1 (other ∙ same ∙ sym mine)
 
   pub leaves_once : IsOnce word.Leave rows
@@ -141,5 +144,6 @@ module _ (t : Traffic) (rows : List Row) (rise : Ascends row_cmp rows) (marks : 
       let mine = (here before after r e).leave cause in
       let other = (earlier_row before after h.0 r e h.1).leave h.3 in
       let times : other.0 ≡ mine.0 = same_times other.0 mine.0 (t.leave r.key.member) (ap t.leave (sym h.2) ∙ other.1) mine.1 in
-      let same : own_key other.0 h.0.key.member 6 ≡ own_key mine.0 r.key.member 6 = λ i. own_key (times i) (h.2 i) 6 in
+      let same : own_key other.0 h.0.key.member rank.Leave ≡ own_key mine.0 r.key.member rank.Leave =
+      λ i. own_key (times i) (h.2 i) rank.Leave in
       keys_differ before after h.0 r (split_order before after r e) h.1 (other.2 ∙ same ∙ sym mine.2)

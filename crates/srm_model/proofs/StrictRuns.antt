@@ -6,7 +6,7 @@ use Rattle.std.specs.Ordering.{ordering_reverse}
 use Rattle.std.specs.Cmp.{IsTotalOrder}
 use Rattle.std.proofs.lemmas.Option.{same_Some}
 use Rattle.srm_cell.proofs.CellSteps.{SentBy, flight_total}
-use Rattle.srm_cell.proofs.Clear.{Besides, CountAfter, Differs, IsDistinct, IsTail, RestOf, StepOf, clear_step, ranks_tail}
+use Rattle.srm_cell.proofs.Clear.{Besides, CountAfter, Differs, IsDistinct, IsTail, RestOf, StepOf, clear_step, differ_member, ranks_tail}
 use Rattle.srm_cell.proofs.Clear.{later_differs, next_besides, next_rest, step_is_of, then_after, all_tail}
 use Rattle.srm_cell.proofs.Rising.{Above, IsAbove, OnEvent, OnStep, before_on, next_above, step_above}
 use Rattle.srm_cell.specs.Cells.{arrival_key, mark_key, timer_key, Done, Event, PlainCell, StepOutcome, Stepped, before, hear, hear_at}
@@ -175,7 +175,11 @@ module _ (s : Setting) (fit : IsFit s) where
     After k l = key_cmp k l ≡ Less
 
     other_member : (k : Key) (j : ℕ) (c : PlainCell) → k.member ≢ j → Above (Differs k) j c
-    other_member k j c ne = grind (arith, AllIn-each)
+    other_member k j c ne = record {
+      flights = AllIn-each (λ f. Differs k (arrival_key j f)) (λ f. differ_member k (arrival_key j f) ne) c.inbox;
+      marks = AllIn-each (λ l. Differs k (mark_key j l)) (λ l. differ_member k (mark_key j l) ne) c.script;
+      dues = AllIn-each (λ d. Differs k (timer_key j d)) (λ d. differ_member k (timer_key j d) ne) (timers c.holds);
+    }
 
     both : (k : Key) (j : ℕ) (c : PlainCell) → Above (NotBefore k) j c → Above (Differs k) j c → Above (After k) j c
     both k j c a b = record {

@@ -1,6 +1,8 @@
 -- A worked run: two members, one of which loses a packet of the other.
 use Rattle.std.specs.Prelude.{ℕ, ◌+◌, ◌-◌, not, ◌&&◌, List, [], ◌∷◌, map, None, ◌==◌, if◌then◌else◌}
 use Rattle.srm_net.specs.declared.packet.Name.{Name}
+use Rattle.srm_net.specs.declared.rank.Rank.{Rank}
+use Rattle.srm_net.specs.declared.rank.Rank.TheVariants.{Join, Draw}
 use Rattle.srm_net.specs.declared.role.Role.TheVariants.{Sender, Receiver}
 use Rattle.srm_scenario.specs.declared.mark.Mark.{Mark}
 use Rattle.srm_member.specs.declared.backoff.BackoffFactor.TheVariants.{Two}
@@ -11,7 +13,7 @@ use Rattle.srm_model.specs.World.{last_world, opening, exits_of}
 use Rattle.srm_model.specs.Handed.{handing_count}
 
 -- a mark of a script
-abbrev pub mark : ℕ → ℕ → ℕ → ℕ → Mark
+abbrev pub mark : ℕ → Rank → ℕ → ℕ → Mark
 mark at rank place ink = record { at = at; rank = rank; place = place; page = 0; ink = ink }
 
 -- two members, one tick apart. Member 0 draws with ink 7 at 0 and with ink 8 at 10, and its first packet is dropped.
@@ -42,7 +44,7 @@ one_loss until = record {
     seed = 42;
     stream = m + 1;
   };
-  script = λ m. if m == 0 then mark 0 0 0 0 ∷ mark 0 4 0 7 ∷ mark 10 4 1 8 ∷ [] else mark 0 0 0 0 ∷ [];
+  script = λ m. if m == 0 then mark 0 Join 0 0 ∷ mark 0 Draw 0 7 ∷ mark 10 Draw 1 8 ∷ [] else mark 0 Join 0 0 ∷ [];
 }
 
 -- how often the whole run hands each of these packets, of a sender and a count, to a member

@@ -1,22 +1,20 @@
-//! The ranks of events of one member and tick, in the order in which it handles them.
+//! The ranks of events of one member and tick.
 
-/// Of a join.
-pub const JOIN: u8 = 0;
-
-/// Of an arrival of a packet.
-pub const ARRIVAL: u8 = 1;
-
-/// Of a request timer that expires.
-pub const REQUEST: u8 = 2;
-
-/// Of a repair timer that expires.
-pub const REPAIR: u8 = 3;
-
-/// Of a draw.
-pub const DRAW: u8 = 4;
-
-/// Of a report.
-pub const REPORT: u8 = 5;
-
-/// Of a leave.
-pub const LEAVE: u8 = 6;
+/// The rank of an event's kind: a member handles its events of one tick in the order in which the ranks stand here.
+#[derive(Clone, Copy, Debug, PartialEq, Eq, PartialOrd, Ord)]
+pub enum Rank {
+    /// Of a join.
+    Join,
+    /// Of an arrival of a packet.
+    Arrival,
+    /// Of a request timer that expires.
+    Request,
+    /// Of a repair timer that expires.
+    Repair,
+    /// Of a draw.
+    Draw,
+    /// Of a report.
+    Report,
+    /// Of a leave.
+    Leave,
+}

@@ -4,7 +4,7 @@ use srm_member::row::{About, Row, Word};
 use srm_member::told::Told;
 use srm_net::key::Key;
 use srm_net::packet::{Body, Name, Packet, PacketId};
-use srm_net::rank;
+use srm_net::rank::Rank;
 use srm_net::sequence::Sequence;
 use srm_report::fault::ReportFault;
 use srm_report::outlet::WriteOutlet;
@@ -103,7 +103,7 @@ pub(crate) fn row_of(
     let key = Key {
         time,
         member,
-        rank: rank::JOIN,
+        rank: Rank::Join,
         a: 0,
         b: 0,
         c: 0,

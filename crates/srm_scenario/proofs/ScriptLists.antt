@@ -6,6 +6,7 @@ use Rattle.std.proofs.lemmas.List.FromFn.{get_or-map-range_with_len, length-map-
 use Rattle.std.proofs.lemmas.List.Elements.{All-weaker}
 use Rattle.std.proofs.lemmas.Option.{slice_get_within}
 use Rattle.std.specs.List.{range_with_len}
+use Rattle.srm_net.specs.declared.rank.Rank.TheVariants.{Report}
 use Rattle.srm_net.specs.Orders.{ordered, Rises}
 use Rattle.srm_scenario.specs.declared.mark.Mark.{Mark}
 use Rattle.srm_scenario.specs.declared.parts.MemberSpec.{MemberSpec}
@@ -70,7 +71,7 @@ pub draw_begins : (ds : List DrawSpec) (i : ℕ) (d : DrawSpec) → i < length d
 draw_begins ds i d lt = grind (arith, drop_more)
 
 pub report_begins : (rs : List SessionSpec) (i : ℕ) (r : SessionSpec) → i < length rs
-    → BeginsWith (get_or rs i r).member (plain_mark (get_or rs i r).at 5 i) (λ m. report_marks m i (drop i rs))
+    → BeginsWith (get_or rs i r).member (plain_mark (get_or rs i r).at Report i) (λ m. report_marks m i (drop i rs))
     (λ m. report_marks m (i + 1) (drop (i + 1) rs))
 report_begins rs i r lt = grind (arith, drop_more)
 

@@ -6,6 +6,9 @@ use Rattle.std.specs.Cmp.Lexicographic.{slice_cmp}
 use Rattle.srm_net.specs.declared.link.LinkSpec.{LinkSpec}
 use Rattle.srm_net.specs.declared.link.DropSpec.{DropSpec}
 use Rattle.srm_net.specs.declared.link.OutageSpec.{OutageSpec}
+use Rattle.srm_net.specs.declared.rank.Rank.{Rank}
+use Rattle.srm_net.specs.declared.rank.Rank.TheVariants.{Join, Draw, Report, Leave}
+use Rattle.srm_net.specs.Keys.{rank_number}
 use Rattle.srm_net.specs.DropSets.{ordered_once}
 use Rattle.srm_net.specs.Orders.{ordered}
 use Rattle.srm_net.specs.Network.{Network}
@@ -45,10 +48,10 @@ network_of s = record { nodes = s.nodes; links = s.links; hosts = map (λ m. m.n
 
 -- marks are compared by time, rank and place
 abbrev pub mark_cmp : Mark → Mark → Ordering
-mark_cmp k l = slice_cmp nat_cmp (k.at ∷ k.rank ∷ k.place ∷ []) (l.at ∷ l.rank ∷ l.place ∷ [])
+mark_cmp k l = slice_cmp nat_cmp (k.at ∷ rank_number k.rank ∷ k.place ∷ []) (l.at ∷ rank_number l.rank ∷ l.place ∷ [])
 
 -- a mark that draws nothing
-abbrev pub plain_mark : ℕ → ℕ → ℕ → Mark
+abbrev pub plain_mark : ℕ → Rank → ℕ → Mark
 plain_mark at rank place = record { at = at; rank = rank; place = place; page = 0; ink = 0 }
 
 -- member m's marks among these draws, the first of which is the scenario's draw i
@@ -56,24 +59,24 @@ abbrev pub draw_marks : ℕ → ℕ → List DrawSpec → List Mark
 draw_marks m i [] = []
 draw_marks m i (d ∷ ds) =
     if d.member == m
-    then record { at = d.at; rank = 4; place = i; page = d.page; ink = d.ink } ∷ draw_marks m (i + 1) ds
+    then record { at = d.at; rank = Draw; place = i; page = d.page; ink = d.ink } ∷ draw_marks m (i + 1) ds
     else draw_marks m (i + 1) ds
 
 -- member m's marks among these sessions, the first of which is the scenario's session i
 abbrev pub report_marks : ℕ → ℕ → List SessionSpec → List Mark
 report_marks m i [] = []
 report_marks m i (r ∷ rs) =
-    if r.member == m then plain_mark r.at 5 i ∷ report_marks m (i + 1) rs else report_marks m (i + 1) rs
+    if r.member == m then plain_mark r.at Report i ∷ report_marks m (i + 1) rs else report_marks m (i + 1) rs
 
 -- the mark of a leave, if there is one
 abbrev pub leave_marks : Option ℕ → List Mark
 leave_marks None = []
-leave_marks (Some at) = plain_mark at 6 0 ∷ []
+leave_marks (Some at) = plain_mark at Leave 0 ∷ []
 
 -- the marks of a member, without their order
 abbrev pub marks_of : PlainScenario → ℕ → Option MemberSpec → List Mark
 marks_of s m None = []
-marks_of s m (Some k) = plain_mark k.join 0 0 ∷ draw_marks m 0 s.draws ++ report_marks m 0 s.sessions
+marks_of s m (Some k) = plain_mark k.join Join 0 ∷ draw_marks m 0 s.draws ++ report_marks m 0 s.sessions
     ++ leave_marks k.leave
 
 -- member m's script: its join, draws, reports and leave, in the order of their keys

@@ -1,6 +1,7 @@
 -- The scripts of all members, and the lists of marks of which they are made.
 use Rattle.std.specs.Prelude.{ℕ, ◌+◌, List, [], ◌∷◌, ◌++◌, map, length}
 use Rattle.std.specs.List.{range_with_len}
+use Rattle.srm_net.specs.declared.rank.Rank.TheVariants.{Join}
 use Rattle.srm_net.specs.Orders.{ordered}
 use Rattle.srm_scenario.specs.declared.mark.Mark.{Mark}
 use Rattle.srm_scenario.specs.declared.parts.MemberSpec.{MemberSpec}
@@ -12,7 +13,7 @@ scripts_of s = map (script_of s) (range_with_len 0 (length s.members))
 
 -- a list for each member, with its join alone
 abbrev pub joins_of : List MemberSpec → List (List Mark)
-joins_of members = map (λ k. plain_mark k.join 0 0 ∷ []) members
+joins_of members = map (λ k. plain_mark k.join Join 0 ∷ []) members
 
 -- to the list of each member, from member m on, is added what `more` gives of the member's number
 abbrev pub with_each : (ℕ → List Mark) → ℕ → List (List Mark) → List (List Mark)

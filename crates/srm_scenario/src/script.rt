@@ -2,15 +2,16 @@
 ghost use Rattle.std.specs.Prelude.{◌≡◌, ◌++◌, ◌∷◌, [], length, ◌≤◌, ◌<◌, IfOk};
 ghost use Rattle.srm_net.specs.Limits.{most_listed};
 ghost use Rattle.srm_net.specs.Orders.{ordered};
+ghost use Rattle.srm_net.specs.declared.rank.Rank.TheVariants.{Join, Draw, Report};
 ghost use Rattle.srm_scenario.specs.Plain.{mark_cmp, plain_mark, draw_marks, report_marks, leave_marks};
 
 use crate::mark::Mark;
 use crate::parts::{DrawSpec, SessionSpec};
-use srm_net::rank;
+use srm_net::rank::Rank;
 use std::alloc::{AllocError, Global};
 
 /// A mark that draws nothing.
-fn plain_mark(at: u64, rank: u8, place: u16) -> Mark
+fn plain_mark(at: u64, rank: Rank, place: u16) -> Mark
     ensures { result ≡ plain_mark at rank place }
 {
     Mark {
@@ -24,11 +25,11 @@ fn plain_mark(at: u64, rank: u8, place: u16) -> Mark
 
 /// The mark of a draw, the scenario's draw `place`.
 pub(crate) fn draw_mark(place: u16, draw: &DrawSpec) -> Mark
-    ensures { result ≡ record { at = draw.now.at; rank = 4; place = place; page = draw.now.page; ink = draw.now.ink } }
+    ensures { result ≡ record { at = draw.now.at; rank = Draw; place = place; page = draw.now.page; ink = draw.now.ink } }
 {
     Mark {
         at: draw.at,
-        rank: rank::DRAW,
+        rank: Rank::Draw,
         place,
         page: draw.page,
         ink: draw.ink,
@@ -37,9 +38,9 @@ pub(crate) fn draw_mark(place: u16, draw: &DrawSpec) -> Mark
 
 /// The mark of a session message, the scenario's session `place`.
 pub(crate) fn report_mark(place: u16, session: &SessionSpec) -> Mark
-    ensures { result ≡ plain_mark session.now.at 5 place }
+    ensures { result ≡ plain_mark session.now.at Report place }
 {
-    plain_mark(session.at, rank::REPORT, place)
+    plain_mark(session.at, Rank::Report, place)
 }
 
 /// Appends the marks of a member's draws.
@@ -85,10 +86,10 @@ pub(crate) fn sort_marks(marks: &mut Vec<Mark>) -> Result<(), AllocError>
 
 /// The marks of a member of which only its join is known yet.
 pub(crate) fn joined(alloc: Global, at: u64) -> Result<Vec<Mark>, AllocError>
-    ensures { IfOk result (λ marks. marks.items ≡ plain_mark at 0 0 ∷ []) }
+    ensures { IfOk result (λ marks. marks.items ≡ plain_mark at Join 0 ∷ []) }
 {
     let mut marks = Vec::new(alloc);
-    marks.push(plain_mark(at, rank::JOIN, 0))?;
+    marks.push(plain_mark(at, Rank::Join, 0))?;
     Ok(marks)
 }
 
@@ -97,7 +98,7 @@ pub(crate) fn close(marks: &mut Vec<Mark>, leave: Option<u64>) -> Result<(), All
     ensures { IfOk result (λ _. marks.new.items ≡ ordered mark_cmp (marks.old.items ++ leave_marks leave)) }
 {
     if let Some(at) = leave {
-        marks.push(plain_mark(at, rank::LEAVE, 0))?;
+        marks.push(plain_mark(at, Rank::Leave, 0))?;
     }
     sort_marks(marks)
 }
@@ -114,7 +115,7 @@ pub(crate) fn script_of(
     requires draws { length draws.now ≤ most_listed }
     requires sessions { length sessions.now ≤ most_listed }
     ensures { IfOk result (λ marks. marks.items ≡ ordered mark_cmp
-        (plain_mark join 0 0 ∷ draw_marks m 0 draws.now ++ report_marks m 0 sessions.now ++ leave_marks leave)) }
+        (plain_mark join Join 0 ∷ draw_marks m 0 draws.now ++ report_marks m 0 sessions.now ++ leave_marks leave)) }
 {
     let mut marks = joined(alloc, join)?;
     push_draws(&mut marks, m, draws)?;

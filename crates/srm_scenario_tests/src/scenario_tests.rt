@@ -2,7 +2,7 @@
 //! each range and each two neighbours in their order, stand in tests/refusals.txt: the built program is run on them.
 use crate::networks::{links_between, packet, ticks_between};
 use srm_net::link::LinkSpec;
-use srm_net::rank;
+use srm_net::rank::Rank;
 use srm_net::role::Role;
 use srm_scenario::fault::{Part, ScenarioFault};
 use srm_scenario::feed::ReadFeed;
@@ -161,7 +161,7 @@ fn network_of_a_scenario(rt: HostRuntime) -> Result<(), Fail> {
     Ok(())
 }
 
-const fn mark(at: u64, rank: u8, place: u16, page: u16, ink: u32) -> Mark {
+const fn mark(at: u64, rank: Rank, place: u16, page: u16, ink: u32) -> Mark {
     Mark {
         at,
         rank,
@@ -174,11 +174,11 @@ const fn mark(at: u64, rank: u8, place: u16, page: u16, ink: u32) -> Mark {
 // The join at tick 0 where none is given, the leave at 60, and draws and session messages by time, rank and place.
 fn script_of_the_sender() -> [Mark; 5] {
     [
-        mark(0, rank::JOIN, 0, 0, 0),
-        mark(3, rank::DRAW, 1, 6, 8),
-        mark(3, rank::REPORT, 0, 0, 0),
-        mark(9, rank::DRAW, 0, 5, 7),
-        mark(60, rank::LEAVE, 0, 0, 0),
+        mark(0, Rank::Join, 0, 0, 0),
+        mark(3, Rank::Draw, 1, 6, 8),
+        mark(3, Rank::Report, 0, 0, 0),
+        mark(9, Rank::Draw, 0, 5, 7),
+        mark(60, Rank::Leave, 0, 0, 0),
     ]
 }
 
@@ -202,13 +202,13 @@ fn each_member_has_its_own_script(rt: HostRuntime) -> Result<(), Fail> {
     assert_eq!(rt; scripts.len(), 3);
     assert_eq!(rt; scripts[0].as_slice(), script_of_the_sender().as_slice());
     let late = [
-        mark(20, rank::JOIN, 0, 0, 0),
-        mark(70, rank::REPORT, 1, 0, 0),
+        mark(20, Rank::Join, 0, 0, 0),
+        mark(70, Rank::Report, 1, 0, 0),
     ];
     assert_eq!(rt; scripts[1].as_slice(), late.as_slice());
     assert_eq!(rt;
         scripts[2].as_slice(),
-        [mark(0, rank::JOIN, 0, 0, 0)].as_slice()
+        [mark(0, Rank::Join, 0, 0, 0)].as_slice()
     );
     Ok(())
 }

@@ -6,7 +6,7 @@ use crate::stories::story::Story;
 use srm_member::due::Due;
 use srm_member::told::Told;
 use srm_net::packet::{Heard, Name};
-use srm_net::rank;
+use srm_net::rank::Rank;
 
 const PAGE_0_NUMBER_1: Name = Name {
     source: 0,
@@ -101,7 +101,7 @@ pub const LATE: Story = Story {
             sent: None,
             due: Some(Due {
                 time: 73,
-                rank: rank::REQUEST,
+                rank: Rank::Request,
                 name: PAGE_1_NUMBER_0,
             }),
         },
@@ -119,7 +119,7 @@ pub const LATE: Story = Story {
             sent: None,
             due: Some(Due {
                 time: 73,
-                rank: rank::REQUEST,
+                rank: Rank::Request,
                 name: PAGE_1_NUMBER_0,
             }),
         },
@@ -148,7 +148,7 @@ pub const LATE: Story = Story {
             sent: None,
             due: Some(Due {
                 time: 73,
-                rank: rank::REQUEST,
+                rank: Rank::Request,
                 name: PAGE_1_NUMBER_0,
             }),
         },
@@ -166,7 +166,7 @@ pub const LATE: Story = Story {
             sent: None,
             due: Some(Due {
                 time: 80,
-                rank: rank::REQUEST,
+                rank: Rank::Request,
                 name: PAGE_1_NUMBER_2,
             }),
         },
@@ -183,7 +183,7 @@ pub const LATE: Story = Story {
             sent: None,
             due: Some(Due {
                 time: 80,
-                rank: rank::REQUEST,
+                rank: Rank::Request,
                 name: PAGE_1_NUMBER_2,
             }),
         },
@@ -201,7 +201,7 @@ pub const LATE: Story = Story {
             sent: None,
             due: Some(Due {
                 time: 80,
-                rank: rank::REQUEST,
+                rank: Rank::Request,
                 name: PAGE_1_NUMBER_2,
             }),
         },

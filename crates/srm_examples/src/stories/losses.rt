@@ -6,7 +6,7 @@ use crate::stories::story::Story;
 use srm_member::due::Due;
 use srm_member::told::Told;
 use srm_net::packet::Name;
-use srm_net::rank;
+use srm_net::rank::Rank;
 
 const FIRST: Name = Name {
     source: 0,
@@ -42,7 +42,7 @@ pub const DRAWN: Story = Story {
             sent: None,
             due: Some(Due {
                 time: 143,
-                rank: rank::REQUEST,
+                rank: Rank::Request,
                 name: FIRST,
             }),
         },
@@ -55,7 +55,7 @@ pub const DRAWN: Story = Story {
             sent: Some(Carried::Request { name: FIRST }),
             due: Some(Due {
                 time: 202,
-                rank: rank::REQUEST,
+                rank: Rank::Request,
                 name: FIRST,
             }),
         },
@@ -83,7 +83,7 @@ pub const BACKING_OFF: Story = Story {
             sent: None,
             due: Some(Due {
                 time: 120,
-                rank: rank::REQUEST,
+                rank: Rank::Request,
                 name: FIRST,
             }),
         },
@@ -96,7 +96,7 @@ pub const BACKING_OFF: Story = Story {
             sent: Some(Carried::Request { name: FIRST }),
             due: Some(Due {
                 time: 140,
-                rank: rank::REQUEST,
+                rank: Rank::Request,
                 name: FIRST,
             }),
         },
@@ -112,7 +112,7 @@ pub const BACKING_OFF: Story = Story {
             sent: None,
             due: Some(Due {
                 time: 170,
-                rank: rank::REQUEST,
+                rank: Rank::Request,
                 name: FIRST,
             }),
         },
@@ -127,7 +127,7 @@ pub const BACKING_OFF: Story = Story {
             sent: None,
             due: Some(Due {
                 time: 170,
-                rank: rank::REQUEST,
+                rank: Rank::Request,
                 name: FIRST,
             }),
         },

@@ -6,7 +6,7 @@ use crate::stories::story::Story;
 use srm_member::due::Due;
 use srm_member::told::Told;
 use srm_net::packet::{Heard, Name};
-use srm_net::rank;
+use srm_net::rank::Rank;
 
 const PAGE_0_NUMBER_0: Name = Name {
     source: 0,
@@ -80,7 +80,7 @@ pub const RECEIVER: Story = Story {
             sent: None,
             due: Some(Due {
                 time: 36,
-                rank: rank::REQUEST,
+                rank: Rank::Request,
                 name: PAGE_0_NUMBER_1,
             }),
         },
@@ -97,7 +97,7 @@ pub const RECEIVER: Story = Story {
             }),
             due: Some(Due {
                 time: 66,
-                rank: rank::REQUEST,
+                rank: Rank::Request,
                 name: PAGE_0_NUMBER_1,
             }),
         },
@@ -157,7 +157,7 @@ pub const RECEIVER: Story = Story {
             sent: None,
             due: Some(Due {
                 time: 60,
-                rank: rank::REPAIR,
+                rank: Rank::Repair,
                 name: PAGE_0_NUMBER_1,
             }),
         },
@@ -226,7 +226,7 @@ pub const RECEIVER: Story = Story {
             sent: None,
             due: Some(Due {
                 time: 85,
-                rank: rank::REQUEST,
+                rank: Rank::Request,
                 name: PAGE_0_NUMBER_3,
             }),
         },
@@ -244,7 +244,7 @@ pub const RECEIVER: Story = Story {
             sent: None,
             due: Some(Due {
                 time: 85,
-                rank: rank::REQUEST,
+                rank: Rank::Request,
                 name: PAGE_0_NUMBER_3,
             }),
         },
@@ -263,7 +263,7 @@ pub const RECEIVER: Story = Story {
             sent: None,
             due: Some(Due {
                 time: 116,
-                rank: rank::REQUEST,
+                rank: Rank::Request,
                 name: PAGE_0_NUMBER_4,
             }),
         },

@@ -6,7 +6,7 @@ use crate::stories::story::Story;
 use srm_member::due::Due;
 use srm_member::told::Told;
 use srm_net::packet::{Heard, Name};
-use srm_net::rank;
+use srm_net::rank::Rank;
 
 const PAGE_3_NUMBER_0: Name = Name {
     source: 0,
@@ -82,7 +82,7 @@ pub const SENDER: Story = Story {
             sent: None,
             due: Some(Due {
                 time: 25,
-                rank: rank::REPAIR,
+                rank: Rank::Repair,
                 name: PAGE_3_NUMBER_0,
             }),
         },
@@ -100,7 +100,7 @@ pub const SENDER: Story = Story {
             sent: None,
             due: Some(Due {
                 time: 25,
-                rank: rank::REPAIR,
+                rank: Rank::Repair,
                 name: PAGE_3_NUMBER_0,
             }),
         },
@@ -145,7 +145,7 @@ pub const SENDER: Story = Story {
             sent: None,
             due: Some(Due {
                 time: 50,
-                rank: rank::REPAIR,
+                rank: Rank::Repair,
                 name: PAGE_3_NUMBER_0,
             }),
         },
@@ -160,7 +160,7 @@ pub const SENDER: Story = Story {
             sent: None,
             due: Some(Due {
                 time: 50,
-                rank: rank::REPAIR,
+                rank: Rank::Repair,
                 name: PAGE_3_NUMBER_0,
             }),
         },
@@ -174,7 +174,7 @@ pub const SENDER: Story = Story {
             sent: None,
             due: Some(Due {
                 time: 50,
-                rank: rank::REPAIR,
+                rank: Rank::Repair,
                 name: PAGE_3_NUMBER_0,
             }),
         },
@@ -193,7 +193,7 @@ pub const SENDER: Story = Story {
             sent: None,
             due: Some(Due {
                 time: 50,
-                rank: rank::REPAIR,
+                rank: Rank::Repair,
                 name: PAGE_3_NUMBER_0,
             }),
         },
@@ -237,7 +237,7 @@ pub const SENDER: Story = Story {
             sent: None,
             due: Some(Due {
                 time: 78,
-                rank: rank::REPAIR,
+                rank: Rank::Repair,
                 name: PAGE_3_NUMBER_1,
             }),
         },

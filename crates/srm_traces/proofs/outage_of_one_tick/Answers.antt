@@ -1,4 +1,5 @@
 use Rattle.std.proofs.Common.{refl}
+use Rattle.srm_net.specs.Keys.{rank_number}
 use Rattle.srm_net.specs.Paths.{route_within, route, distance, reaches, crosses, drops_at}
 use Rattle.srm_scenario.specs.Plain.{script_of}
 use Rattle.srm_member.specs.React.{react, draw_operation, expire_repair, expire_request, hear_session, after_entry, hear_request, hear_data}
@@ -12,17 +13,17 @@ use Rattle.srm_traces.proofs.outage_of_one_tick.Goals as goal
 pub returns-clause-trace : goal.returns-clause-trace
 unfolding run opening opening_cells step_to step_of least_event after_step cells_after own_step handle next_event hear react draw_operation
     expire_repair expire_request hear_session after_entry hear_request hear_data lose_below lose_from script_of route_within route distance
-    reaches crosses drops_at crossings last_world world_at_end whole_trace whole_totals
+    reaches crosses drops_at crossings last_world world_at_end whole_trace whole_totals rank_number
 returns-clause-trace c = refl
 
 pub returns-clause-totals : goal.returns-clause-totals
 unfolding run opening opening_cells step_to step_of least_event after_step cells_after own_step handle next_event hear react draw_operation
     expire_repair expire_request hear_session after_entry hear_request hear_data lose_below lose_from script_of route_within route distance
-    reaches crosses drops_at crossings last_world world_at_end whole_trace whole_totals
+    reaches crosses drops_at crossings last_world world_at_end whole_trace whole_totals rank_number
 returns-clause-totals c = refl
 
 pub returns-clause-whole : goal.returns-clause-whole
 unfolding run opening opening_cells step_to step_of least_event after_step cells_after own_step handle next_event hear react draw_operation
     expire_repair expire_request hear_session after_entry hear_request hear_data lose_below lose_from script_of route_within route distance
-    reaches crosses drops_at crossings last_world world_at_end whole_trace whole_totals
+    reaches crosses drops_at crossings last_world world_at_end whole_trace whole_totals rank_number
 returns-clause-whole c = refl

@@ -1,4 +1,5 @@
 use Rattle.std.proofs.Common.{refl}
+use Rattle.srm_net.specs.Keys.{rank_number}
 use Rattle.srm_member.specs.React.{react, draw_operation, expire_repair, expire_request, hear_session, after_entry, hear_request, hear_data}
 use Rattle.srm_member.specs.React.{lose_below, lose_from}
 use Rattle.srm_cell.specs.Cells.{own_step, handle, next_event, hear}
@@ -8,10 +9,10 @@ use Rattle.srm_model.proofs.laws_of_names.a_loss_is_repaired.Goals as goal
 
 pub returns-clause-handed : goal.returns-clause-handed
 unfolding last_world handings ends run opening opening_cells step_to step_of least_event after_step cells_after own_step handle next_event
-    hear react draw_operation expire_repair expire_request hear_session after_entry hear_request hear_data lose_below lose_from
+    hear react draw_operation expire_repair expire_request hear_session after_entry hear_request hear_data lose_below lose_from rank_number
 returns-clause-handed c = refl
 
 pub returns-clause-ends : goal.returns-clause-ends
 unfolding last_world handings ends run opening opening_cells step_to step_of least_event after_step cells_after own_step handle next_event
-    hear react draw_operation expire_repair expire_request hear_session after_entry hear_request hear_data lose_below lose_from
+    hear react draw_operation expire_repair expire_request hear_session after_entry hear_request hear_data lose_below lose_from rank_number
 returns-clause-ends c = refl
