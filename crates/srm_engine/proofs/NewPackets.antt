@@ -15,7 +15,8 @@ use Rattle.srm_member.proofs.AllIn.{AllIn}
 use Rattle.srm_model.specs.World.{least_event}
 use Rattle.srm_model.specs.Hearing.{IsUnheard}
 use Rattle.srm_model.proofs.Sequential.{Good, step_facts, get_below}
-use Rattle.srm_model.proofs.StrictRuns.{Strict, sent_of, sent_here}
+use Rattle.srm_model.proofs.HandedOnce.{sent_of}
+use Rattle.srm_model.proofs.StrictRuns.{Strict, sent_here}
 use Rattle.srm_net.proofs.Lists.{get_set_same, get_set_other}
 use Rattle.std.proofs.lemmas.Option.{same_Some}
 
