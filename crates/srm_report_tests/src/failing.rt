@@ -19,7 +19,7 @@ pub struct Failing {
 
 impl RowSink for Failing {
     ghost use Rattle.srm_engine.specs.Kept.{Keeps, KeepsFront};
-    ghost use Rattle.srm_engine.specs.KeptLaws.{keeps_none, keeps_more, front_none, front_more, front_longer};
+    ghost use Rattle.srm_engine.specs.KeptLaws.{keeps_none, keeps_more, front_kept_none, front_kept_more, front_kept_longer};
     ghost use Rattle.srm_report_tests.specs.Failing.{kept_by};
 
     ghost stage = { λ s. s.stage };
@@ -46,11 +46,11 @@ impl RowSink for Failing {
 
     ghost took_more = { λ a b c. keeps_more (kept_by a) (kept_by b) (kept_by c) };
 
-    ghost part_none = { λ a. front_none (kept_by a) };
+    ghost part_none = { λ a. front_kept_none (kept_by a) };
 
-    ghost part_more = { λ a b c. front_more (kept_by a) (kept_by b) (kept_by c) };
+    ghost part_more = { λ a b c. front_kept_more (kept_by a) (kept_by b) (kept_by c) };
 
-    ghost part_longer = { λ a b. front_longer (kept_by a) (kept_by b) };
+    ghost part_longer = { λ a b. front_kept_longer (kept_by a) (kept_by b) };
 
     fn rows(&mut self, _alloc: Global, rows: Vec<Row>) -> Result<(), SinkFault> {
         if self.calls_left == 0 {
