@@ -137,10 +137,6 @@ class Gate(unittest.TestCase):
         for proved, want in (("", ["low"]), ("low", ["low", "long"]), ("low long", ["low", "long"]), ("low long short", names)):
             self.assertEqual(gate.ready(DIAMOND, names, set(proved.split())), want)
 
-    def test_edits_of_the_last_crates_are_tried_in_parts(self) -> None:
-        self.assertEqual([gate.parts_of(it, 5, 3) for it in range(1, 6)], [1, 1, 3, 3, 3])
-        self.assertEqual([gate.parts_of(it, 2, 1) for it in (1, 2)], [1, 1])
-
     def test_edits_have_one_processor_fewer_until_the_proofs_have_ended(self) -> None:
         both, have_ended, begun = threading.Barrier(2, timeout=60), threading.Event(), threading.Semaphore(0)
 

@@ -14,7 +14,7 @@ call in place of `rt`.
 `rt ci` begins a proof only where the most memory that it may take is free, so that a long one may wait for others, and
 processors stand idle. Where 5 GB are free for each processor, RT_JOBS is set to the number of processors, if the environment
 has none: so many proofs are then run side by side. Edits are tried of one crate fewer at a time until `rt ci` has ended, and of
-as many after that. Those of the crates that are begun last, as many as are tried side by side, are tried in parts.
+as many after that. Those of the crate that is begun last are tried in parts, side by side.
 """
 import argparse
 import functools
@@ -144,12 +144,6 @@ def ready(crates: Mapping[str, Crate], names: Iterable[str], proved: set[str]) -
     return [it for it in names if proved.issuperset(below(crates, it))]
 
 
-def parts_of(crate: int, crates: int, at_once: int) -> int:
-    """In how many parts the edits of a crate are tried: those of the last crates that are begun in as many as run side by side, since
-    a long one would else run on alone. `crate` counts from 1."""
-    return at_once if crates - crate < at_once else 1
-
-
 def gate(tree: pathlib.Path, log: Log) -> tuple[int, int]:
     """Proves the copy of the repository and tries the edits, and gives how many crates and edits passed and failed."""
     began = time.monotonic()
@@ -174,7 +168,7 @@ def gate(tree: pathlib.Path, log: Log) -> tuple[int, int]:
             proved.update(those)
             for it in ready(crates, left, proved):
                 if it not in begun:
-                    parts = parts_of(len(begun) + 1, len(left), at_once)
+                    parts = at_once if len(begun) + 1 == len(left) else 1
                     begun[it] = [pool.submit(try_part, it, part, parts) for part in range(parts)]
 
         begin()
