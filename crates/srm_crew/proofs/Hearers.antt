@@ -24,7 +24,7 @@ use Rattle.srm_crew.specs.declared.worked.Worked.TheVariants.{Advanced, Heard}
 use Rattle.srm_interfaces.specs.Crews.{AdvanceEach}
 use Rattle.srm_interfaces.specs.Hearers.{GroupsMayHear, GroupsHear}
 use Rattle.srm_crew.specs.Pieces.{MayWork, ComesOfPiece, IsJobsOf, AreHearersOf, IsAdvanced, IsAdvancedAs, IsHeard, HeardTogether}
-use Rattle.srm_interfaces.proofs.Zips.{zip_append}
+use Rattle.srm_net.proofs.Basics.{zip_append}
 use Rattle.srm_interfaces.proofs.InPieces.{all_in}
 use Rattle.srm_crew.proofs.JobPieces.{all_in_more}
 

@@ -18,7 +18,7 @@ use Rattle.srm_cell.specs.Jobs.{PlainJob, IsDone}
 use Rattle.srm_interfaces.specs.Crews.{AreJobs, AnyEnds, AdvanceEach, TellsEach}
 use Rattle.srm_crew.specs.Teams.{PutTogether}
 use Rattle.srm_interfaces.proofs.InPieces.{all_in}
-use Rattle.srm_interfaces.proofs.Zips.{zip_append}
+use Rattle.srm_net.proofs.Basics.{zip_append}
 
 any_first : (o : StepOutcome Stepped) (ps qs : List PlainJob) → AnyEnds o ps → AnyEnds o (ps ++ qs)
 any_first o [] qs h = absurd h

@@ -1,9 +1,9 @@
 -- What workers did, put together: one item more, more work with the same pass, and the work of two.
 use Rattle.std.proofs.Common.{◌≡◌, ℕ, ◌+◌, List, [], ◌∷◌, ◌++◌, length, Some, All, Result, Ok}
 use Rattle.std.proofs.Common.{Err, refl, sym, ap, ◌∙◌, subst, arith, append_assoc, append-nil}
-use Rattle.std.specs.List.{AllZip}
 use Rattle.std.proofs.lemmas.Option.{get_or_from_slice_get, slice_get_within}
 use Rattle.std.specs.Global.{Vec}
+use Rattle.srm_net.proofs.Basics.{zip_append}
 use Rattle.srm_ledger.specs.Seats.{SeatView, half_with_shares, both_seats}
 use Rattle.srm_ledger.specs.Seats as seats
 use Rattle.srm_ledger.proofs.Zips.{added_at}
@@ -15,13 +15,6 @@ use Rattle.srm_interfaces.specs.declared.fault.CrewFault.TheVariants as fault
 use Rattle.srm_crew.specs.Indices.{EachAtMostOnce}
 use Rattle.srm_crew.specs.Passes.{PassView, half_with_list, half_without_list, both_passes, TellsTake}
 use Rattle.srm_crew.specs.Shared.{HoldsAt, sum_of, ComeOf, Stops, Worked, TellsWork, TellsItem, TellsBoth}
-
-pub zip_append : {A B : Type 0} (R : A → B → Type 0) (xs us : List A) (ys vs : List B) → AllZip R xs ys → AllZip R us vs
-    → AllZip R (xs ++ us) (ys ++ vs)
-zip_append R [] us [] vs z w = w
-zip_append R [] us (y ∷ ys) vs z w = absurd z
-zip_append R (x ∷ xs) us [] vs z w = absurd z
-zip_append R (x ∷ xs) us (y ∷ ys) vs z w = (z.0, zip_append R xs us ys vs z.1 w)
 
 pub sum_of-append : {D : Type 0} (numbers : D → List ℕ) (k : ℕ) (xs ys : List D) → sum_of numbers k (xs ++ ys)
     ≡ sum_of numbers k xs + sum_of numbers k ys
@@ -65,7 +58,7 @@ module _ {T D : Type 0} (R : T → Result D CellFault → Type 0) (numbers : D �
         a.indices ++ h.0,
         a.more ++ h.1,
         subst (λ l. EachAtMostOnce l (length P.put)) all (subst (λ l. EachAtMostOnce (p.taken ++ h.0) (length l)) put h.2),
-        zip_append (λ p d. HoldsAt (λ x. R x (Ok d)) P.put p) a.indices h.0 a.more h.1 a.come (subst (λ l. ComeOf R l h.0 h.1) put h.3),
+        zip_append (λ p d. HoldsAt (λ x. R x (Ok d)) P.put p) a.indices a.more h.0 h.1 a.come (subst (λ l. ComeOf R l h.0 h.1) put h.3),
         (
           h.4.0,
           (let x = a.grown.shares h.4.0 in let y = h.4.1 in let e = sum_of-append numbers h.4.0 a.more h.1 in
@@ -131,7 +124,7 @@ module _ {T D : Type 0} (R : T → Result D CellFault → Type 0) (numbers : D �
         x.more ++ y.more,
         subst (λ l. EachAtMostOnce l (length P.put)) all
             (subst (λ (l : List T). EachAtMostOnce (a.0.taken ++ b.0.taken) (length l)) (ap (λ p. p.put) x.taken) h.0),
-        zip_append (λ p d. HoldsAt (λ x. R x (Ok d)) P.put p) x.indices y.indices x.more y.more x.come y.come,
+        zip_append (λ p d. HoldsAt (λ x. R x (Ok d)) P.put p) x.indices x.more y.indices y.more x.come y.come,
         (
           h.1.0,
           (let o = h.1.1 in

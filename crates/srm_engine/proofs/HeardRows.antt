@@ -22,7 +22,7 @@ use Rattle.srm_model.specs.WindowRuns.{each_hears, AreNewInTurn}
 use Rattle.srm_model.proofs.WindowRows.{packets_are_heard_in_turn, length-each_hears, get_heard}
 use Rattle.srm_interfaces.specs.Hearers.{GroupsMayHear, GroupsHear}
 use Rattle.srm_interfaces.proofs.InPieces.{all_each}
-use Rattle.srm_interfaces.proofs.Zips.{zip_append}
+use Rattle.srm_net.proofs.Basics.{zip_append}
 use Rattle.srm_engine.specs.Seen.{AreCellsInOrder}
 use Rattle.srm_engine.specs.Groups.{all_in, sizes}
 use Rattle.srm_engine.specs.SentRows.{MayBeSent}

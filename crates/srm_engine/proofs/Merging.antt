@@ -1,15 +1,9 @@
 -- Rows of lists, brought into order.
 use Rattle.std.proofs.Common.{◌≡◌, ◌∙◌, ◌<◌, ◌≤◌, ◌+◌, ◌++◌, ◌↔◌, Bool, true, false, not, IsTrue, ℕ, List, [], ◌∷◌}
-use Rattle.std.proofs.Common.{Option, Some, None, Ordering, Equal, All, IsSorted, is_lt, IsPermutation, length, drop}
+use Rattle.std.proofs.Common.{Option, Some, None, Ordering, All, IsSorted, is_lt, IsPermutation, length, drop}
 use Rattle.std.proofs.Common.{get_or, slice_index_or, slice_get, slice_set, zero, suc, append-nil, append_assoc, subst, sym, ap, map}
 use Rattle.std.proofs.Common.{refl, arith}
-use Rattle.std.specs.Ordering.{is_some_and, nat_cmp, ordering_then, partial_lt, partial_ordering_then}
 use Rattle.srm_net.specs.contracts.key.KeyOrd.TheImpl as key_order
-use Rattle.srm_net.specs.contracts.key.KeyPartialOrd.TheImpl as key_partial
-use Rattle.srm_net.specs.contracts.rank.RankPartialOrd.TheImpl as rank_partial
-use Rattle.srm_net.specs.declared.key.Key.{Key}
-use Rattle.srm_net.specs.declared.rank.Rank.{Rank}
-use Rattle.srm_net.specs.Keys.{rank_number, key_cmp}
 use Rattle.srm_net.proofs.TotalOrders.{keys_compared}
 use Rattle.std.specs.Option.{unwrap_or, option_to_list}
 use Rattle.std.specs.List.{IsAllAdjacentAnswer}
@@ -45,27 +39,7 @@ adjacent (row ∷ rows) false h = (
       cc,
 )
 
--- ---- the derived tests of keys
-
-ranks_partly : (r q : Rank) → rank_partial.partial_cmp-value.it r q ≡ Some (nat_cmp (rank_number r) (rank_number q))
-unfolding rank_number
-ranks_partly r q = grind arith
-
-some_then : (a b c d e f : Ordering)
-    → partial_ordering_then (Some a) (partial_ordering_then (Some b) (partial_ordering_then (Some c)
-    (partial_ordering_then (Some d) (partial_ordering_then (Some e) (Some f)))))
-    ≡ Some (ordering_then a (ordering_then b (ordering_then c (ordering_then d (ordering_then e (ordering_then f Equal))))))
-some_then a b c d e f = grind arith
-
--- `<` at keys says which is the lesser
-pub lesser_key : (k l : Key) → partial_lt key_partial.partial_cmp-value.it k l ≡ is_lt (key_cmp k l)
-lesser_key k l =
-    ap (λ o. is_some_and is_lt (partial_ordering_then (Some (nat_cmp k.time l.time))
-    (partial_ordering_then (Some (nat_cmp k.member l.member)) (partial_ordering_then o
-    (partial_ordering_then (Some (nat_cmp k.a l.a)) (partial_ordering_then (Some (nat_cmp k.b l.b)) (Some (nat_cmp k.c l.c))))))))
-    (ranks_partly k.rank l.rank)
-    ∙ ap (is_some_and is_lt) (some_then (nat_cmp k.time l.time) (nat_cmp k.member l.member)
-    (nat_cmp (rank_number k.rank) (rank_number l.rank)) (nat_cmp k.a l.a) (nat_cmp k.b l.b) (nat_cmp k.c l.c))
+-- ---- sorted rows
 
 -- rows in the derived order of their keys are in the order of rows
 pub sorted_by_keys : (rows : List Row) → IsSorted (λ (x y : Row). key_order.ghosts.cmp x.key y.key) rows → IsSorted row_cmp rows

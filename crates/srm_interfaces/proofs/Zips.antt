@@ -10,13 +10,6 @@ module _ {A B : Type 0} (R : A → B → Type 0) where
   zip_push (a ∷ xs) [] x y z r = absurd z
   zip_push (a ∷ xs) (b ∷ ys) x y z r = (z.0, zip_push xs ys x y z.1 r)
 
-  pub zip_append : (xs : List A) (ys : List B) (vs : List A) (ws : List B) → AllZip R xs ys → AllZip R vs ws
-      → AllZip R (xs ++ vs) (ys ++ ws)
-  zip_append [] [] vs ws z w = w
-  zip_append [] (y ∷ ys) vs ws z w = absurd z
-  zip_append (x ∷ xs) [] vs ws z w = absurd z
-  zip_append (x ∷ xs) (y ∷ ys) vs ws z w = (z.0, zip_append xs ys vs ws z.1 w)
-
   -- these came of the items so far, and so many are left
   pub record ZipSoFar (whole left : List A) (done : List B) : Type 0 where
     pub front : List A

@@ -1,10 +1,11 @@
--- Lemmas that several crates use: of tests, comparisons, lists of numbers, and lists that are kept in order.
+-- Lemmas that several crates use: of tests, comparisons, lists of numbers, two lists item by item, and lists that are kept
+-- in order.
 use Rattle.std.proofs.Common.{◌≡◌, ℕ, zero, suc, ◌+◌, Bool, true, false, cond, ◌&&◌, ◌||◌, T, List, [], ◌∷◌, ◌++◌, refl, sym, arith}
 use Rattle.std.proofs.Common.{Ordering, Less, Equal, is_lt, nat_cmp}
 use Rattle.std.specs.Cmp.{IsTotalOrder}
 use Rattle.std.specs.FinMap.{slice_cmp-IsAntisymmetric, nat_cmp-IsAntisymmetric}
 use Rattle.std.specs.Cmp.Lexicographic.{slice_cmp}
-use Rattle.std.specs.List.{count_by}
+use Rattle.std.specs.List.{count_by, AllZip}
 use Rattle.std.specs.Ordering.{is_eq, ordering_then}
 use Rattle.std.proofs.lemmas.Cmp.{nat_cmp_total, tied_itself}
 use Rattle.std.proofs.lemmas.List.Sums.{sum_by-append}
@@ -65,6 +66,15 @@ unfoldable pub nth_number : ℕ → List ℕ → ℕ
 nth_number n [] = 0
 nth_number zero (x ∷ xs) = x
 nth_number (suc n) (x ∷ xs) = nth_number n xs
+
+-- ---- two lists, item by item
+
+pub zip_append : {A B : Type 0} (R : A → B → Type 0) (xs : List A) (ys : List B) (vs : List A) (ws : List B) → AllZip R xs ys
+    → AllZip R vs ws → AllZip R (xs ++ vs) (ys ++ ws)
+zip_append R [] [] vs ws z w = w
+zip_append R [] (y ∷ ys) vs ws z w = absurd z
+zip_append R (x ∷ xs) [] vs ws z w = absurd z
+zip_append R (x ∷ xs) (y ∷ ys) vs ws z w = (z.0, zip_append R xs ys vs ws z.1 w)
 
 -- ---- lists that ascend
 
