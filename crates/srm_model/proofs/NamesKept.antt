@@ -29,7 +29,8 @@ use Rattle.srm_cell.specs.Cells.{PlainCell, opening_cell, hear_at, hear, Event, 
 use Rattle.srm_cell.specs.OwnRuns.{told_to}
 use Rattle.srm_model.specs.World.{World, cells_after, opening, opening_cells, IsReached, exit_at}
 use Rattle.srm_model.specs.Handed.{SentIn}
-use Rattle.srm_model.specs.HeldNames.{Draws, Drew, Carries, TellsOfName, ToldOf, Got, Lost, Lacks, EndsHolding, ExitsAreWhatRowsSay}
+use Rattle.srm_member.specs.Orderly.{LostIn}
+use Rattle.srm_model.specs.HeldNames.{Draws, Drew, Carries, TellsOfName, ToldOf, Got, Lacks, EndsHolding, ExitsAreWhatRowsSay}
 use Rattle.srm_model.specs.HeldNames.{RequestsAreForLosses, RepairsAreOfHeld}
 use Rattle.srm_model.proofs.OneStep.{Takes, Sends, Answers, Leaves, Steps, StepFacts, each_after, run_keeps}
 use Rattle.srm_model.proofs.TraceRows.{contains_none, contains_last, contains_cases, sent_more, sent_cases, IsSplit, no_split, split_cases}
@@ -53,7 +54,7 @@ pub record Knows (rows : List Row) (j : ℕ) (m : MemberState) : Type 0 where
   pub member : m.fixed.member ≡ j
   pub keeps : Keeps rows j m.held m.missing
   pub drew : (n : Name) (ink : ℕ) → Drew j n ink rows → Below n m
-  pub lost : (n : Name) → Lost j n rows → Below n m
+  pub lost : (n : Name) → LostIn j n rows → Below n m
   pub fixed : (n : Name) → ToldOf Fixed j n rows → Below n m
   pub plans : (n : Name) → Has n m.repairs → Has n m.held
 
@@ -169,16 +170,16 @@ module _ (s : Setting) (fit : IsFit s) where
                 inr (subst (TellsOfName t j n trace) (sym c) tells)
           ]
 
-      lost_more : (j : ℕ) (n : Name) → Lost j n trace → Lost j n rows
+      lost_more : (j : ℕ) (n : Name) → LostIn j n trace → LostIn j n rows
       lost_more j n h = (h.0, Contains-append_left trace (d.row ∷ []) h.0 h.1, h.2, h.3)
 
       abbrev LosesNow : ℕ → Name → Type 0
       LosesNow j n = (d.row.key.member ≡ j) × Contains d.row.lost n
 
-      lost_now : (j : ℕ) (n : Name) → LosesNow j n → Lost j n rows
+      lost_now : (j : ℕ) (n : Name) → LosesNow j n → LostIn j n rows
       lost_now j n h = (d.row, contains_last trace d.row, h.0, h.1)
 
-      lost_cases : (j : ℕ) (n : Name) → Lost j n rows → Lost j n trace ⊎ LosesNow j n
+      lost_cases : (j : ℕ) (n : Name) → LostIn j n rows → LostIn j n trace ⊎ LosesNow j n
       lost_cases j n h = elim (contains_cases trace d.row h.0 h.1) [
         | inl c ↦ inl (h.0, c, h.2, h.3)
         | inr c ↦ inr (subst (λ (r : Row). (r.key.member ≡ j) × Contains r.lost n) (sym c) (h.2, h.3))
@@ -342,19 +343,19 @@ module _ (s : Setting) (fit : IsFit s) where
 
         -- what the growth from the state before says of losses
         module _ (mid : MemberState) (grows : Grows r.answer.lost state mid) where
-          lost_by : (n : Name) → Has n mid.missing → Lost m n rows × ¬ ToldOf Fixed m n trace
+          lost_by : (n : Name) → Has n mid.missing → LostIn m n rows × ¬ ToldOf Fixed m n trace
           lost_by n h = elim (grows.lacks n h) [
             | inl g ↦ (let l = k.keeps.lacks n g in (lost_more m n l.0, l.1))
             | inr g ↦ (lost_now m n (lost_here n g), (λ f. grows.new n g (k.fixed n f)))
           ]
 
-          missing_by : (n : Name) → Lost m n rows → ¬ ToldOf Fixed m n trace → Has n mid.missing
+          missing_by : (n : Name) → LostIn m n rows → ¬ ToldOf Fixed m n trace → Has n mid.missing
           missing_by n h none = elim (lost_cases m n h) [
             | inl g ↦ grows.still n (k.keeps.lost n (g, none))
             | inr g ↦ grows.lacking n (loses n g)
           ]
 
-          heard_by : (n : Name) → Lost m n rows → Below n mid
+          heard_by : (n : Name) → LostIn m n rows → Below n mid
           heard_by n h = elim (lost_cases m n h) [ inl g ↦ grows.below n (k.lost n g) | inr g ↦ grows.heard n (loses n g) ]
 
         -- ---- nothing new is held

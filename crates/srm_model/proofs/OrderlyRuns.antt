@@ -34,7 +34,7 @@ use Rattle.srm_cell.proofs.FitSettings.{settings_are_fit}
 use Rattle.srm_cell.proofs.Rising.{OnEvent, before_on}
 use Rattle.srm_model.specs.World.{World, cells_after, opening, opening_cells, run, row_cmp, IsReached}
 use Rattle.srm_model.specs.Handed.{SentIn}
-use Rattle.srm_model.specs.HeldNames.{Drew, Carries, ToldOf, Lost, Lacks}
+use Rattle.srm_model.specs.HeldNames.{Drew, Carries, ToldOf, Lacks}
 use Rattle.srm_model.specs.Tables.{TracesAreOrderly}
 use Rattle.srm_model.proofs.HandedOnce as handing
 use Rattle.srm_model.proofs.HandedOnce.{all_contained}
@@ -146,7 +146,7 @@ module _ (s : Setting) (fit : IsFit s) (own : (j : ℕ) → j < s.traffic.member
       pages : RecordOf d.cell.holds
       lost : OfMembers members d.row.lost
       apart : Apart d.row.lost
-      new : (n : Name) → Contains d.row.lost n → ¬ Lost m n trace
+      new : (n : Name) → Contains d.row.lost n → ¬ LostIn m n trace
       fixed : d.row.told ≡ Fixed → (n : Name) × (brought d.row.about ≡ Some n) × Lacks m n trace
       session : (p : Packet) → d.row.sent ≡ Some p → SessionOf members (Some p.body)
 

@@ -13,6 +13,7 @@ use Rattle.srm_member.specs.declared.row.Word.TheVariants as word
 use Rattle.srm_member.specs.declared.row.About.TheVariants.{Of, Named}
 use Rattle.srm_member.specs.declared.row.Row.{Row}
 use Rattle.srm_member.specs.declared.exit.Exit.{Exit}
+use Rattle.srm_member.specs.Orderly.{LostIn}
 use Rattle.srm_cell.specs.Setting.{Setting, IsFit}
 use Rattle.srm_model.specs.World.{World, IsReached, exits_of}
 use Rattle.srm_model.specs.Handed.{SentIn}
@@ -54,13 +55,9 @@ ToldOf told m n rows = (r : Row) × Contains rows r × TellsOfName told m n rows
 abbrev pub Got : ℕ → Name → List Row → Type 0
 Got m n rows = ((ink : ℕ) × Drew m n ink rows) ⊎ (ToldOf Fresh m n rows ⊎ ToldOf Fixed m n rows)
 
--- member m lost n in one of the rows
-abbrev pub Lost : ℕ → Name → List Row → Type 0
-Lost m n rows = (r : Row) × Contains rows r × (r.key.member ≡ m) × Contains r.lost n
-
 -- member m lost n, and did not fix it
 abbrev pub Lacks : ℕ → Name → List Row → Type 0
-Lacks m n rows = Lost m n rows × ¬ ToldOf Fixed m n rows
+Lacks m n rows = LostIn m n rows × ¬ ToldOf Fixed m n rows
 
 -- one just where the other
 abbrev pub Exactly : Type 0 → Type 0 → Type 0
