@@ -1,5 +1,5 @@
 -- Cells in groups: each seen as the cell of its member.
-use Rattle.std.proofs.Common.{◌≡◌, ℕ, zero, suc, ◌+◌, ◌*◌, ◌/◌, ◌%◌, ◌<◌, ◌≤◌, ◌⊎◌, inl, inr, List, [], ◌∷◌, ◌++◌, length, take, drop, Some}
+use Rattle.std.proofs.Common.{◌≡◌, ℕ, zero, suc, ◌+◌, ◌*◌, ◌/◌, ◌%◌, ◌<◌, ◌≤◌, ◌⊎◌, inl, inr, List, [], ◌∷◌, ◌++◌, length, Some}
 use Rattle.std.proofs.Common.{refl, sym, ap, ◌∙◌, subst, arith, slice_get, slice_set, get_or, add-zero, zero-add, length-append, append-nil}
 use Rattle.std.proofs.Common.{append_assoc}
 use Rattle.std.proofs.Math.Nat.{suc-mul}
@@ -12,14 +12,15 @@ use Rattle.srm_cell.specs.Cells.{PlainCell}
 use Rattle.srm_cell.specs.Views.{IsCell}
 use Rattle.srm_cell.specs.Jobs as cell
 use Rattle.srm_engine.specs.Seen.{AreCellsInOrder}
-use Rattle.srm_engine.specs.Groups.{numbered, AreCuts, AreFull, sizes, all_in}
+use Rattle.srm_model.specs.WindowRuns.{own_cells}
+use Rattle.srm_engine.specs.Groups.{AreCuts, AreFull, sizes, all_in}
 use Rattle.srm_model.proofs.RunLemmas.{shifted}
 use Rattle.std.proofs.lemmas.Option.{same_Some}
 
 module _ {M : Type 0} (f : M → Record) where
   -- the cells are those of member i and on
   abbrev pub AreFrom : ℕ → List (Cell M) → List PlainCell → Type 0
-  AreFrom i cs ps = cell.AreCells f cs (numbered i ps)
+  AreFrom i cs ps = cell.AreCells f cs (own_cells i ps)
 
   from_each : (i : ℕ) (cs : List (Cell M)) (ps : List PlainCell) → length cs ≡ length ps
       → ((j : ℕ) (c : Cell M) (p : PlainCell) → slice_get cs j ≡ Some c → slice_get ps j ≡ Some p → IsCell f (i + j) c p)
@@ -31,7 +32,7 @@ module _ {M : Type 0} (f : M → Record) where
       let first : IsCell f i c p = rw add-zero at (each 0 c p refl refl) in
       (first, from_each (suc i) cs ps (omega arith) (λ j d q a b. subst (λ k. IsCell f k d q) (shifted i j) (each (suc j) d q a b)))
 
-  pub as_many_from : (i : ℕ) (cs : List (Cell M)) (ps : List PlainCell) → AreFrom i cs ps → length cs ≡ length ps
+  as_many_from : (i : ℕ) (cs : List (Cell M)) (ps : List PlainCell) → AreFrom i cs ps → length cs ≡ length ps
   as_many_from i [] [] h = refl
   as_many_from i [] (p ∷ ps) h = absurd h
   as_many_from i (c ∷ cs) [] h = absurd h
@@ -56,27 +57,6 @@ module _ {M : Type 0} (f : M → Record) where
     each =
         λ j c p a b. subst (λ k. IsCell f k c p) (zero-add j) (each_from 0 cs ps h j c p a b);
   }
-
-  -- ---- some cells and others after them
-
-  pub split_from : (i : ℕ) (cs ds : List (Cell M)) (ps : List PlainCell) → AreFrom i (cs ++ ds) ps → AreFrom i cs (take (length cs) ps)
-      × AreFrom (i + length cs) ds (drop (length cs) ps)
-  split_from i [] ds ps h = (tt, rw add-zero h)
-  split_from i (c ∷ cs) ds [] h = absurd h
-  split_from i (c ∷ cs) ds (p ∷ ps) h =
-      let r = split_from (suc i) cs ds ps h.1 in
-      ((h.0, r.0), subst (λ k. AreFrom k ds (drop (length cs) ps)) (sym (shifted i (length cs))) r.1)
-
-  pub join_from : (i : ℕ) (cs ds : List (Cell M)) (ps qs : List PlainCell) → AreFrom i cs ps → AreFrom (i + length ps) ds qs
-      → AreFrom i (cs ++ ds) (ps ++ qs)
-  join_from i [] ds [] qs h g = rw add-zero at g
-  join_from i [] ds (p ∷ ps) qs h g = absurd h
-  join_from i (c ∷ cs) ds [] qs h g = absurd h
-  join_from i (c ∷ cs) ds (p ∷ ps) qs h g = (
-    h.0,
-    join_from (suc i) cs ds ps qs h.1
-        (subst (λ k. AreFrom k ds qs) (shifted i (length ps)) g),
-  )
 
 -- ---- sizes
 

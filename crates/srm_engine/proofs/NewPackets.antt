@@ -37,17 +37,17 @@ count_of : (b a : ℕ) (o : Option Packet) (p : Packet) → o ≡ Some p → Cou
 count_of b a o p e h = (subst (λ x. CountAfter b x a) e h).0
 
 module _ (s : Setting) (fit : IsFit s) where
-  module _ (end : ℕ) (cs : List PlainCell) (e : Event) (d : Stepped) (good : Good s fit cs) (strict : Strict s fit cs)
-      (h : before end (least_event 0 cs) ≡ Some e) (x : step_at (Some e) ≡ Done d) where
+  module _ (till : ℕ) (cs : List PlainCell) (e : Event) (d : Stepped) (good : Good s fit cs) (strict : Strict s fit cs)
+      (h : before till (least_event 0 cs) ≡ Some e) (x : step_at (Some e) ≡ Done d) where
     pub is_new : (p : Packet) → d.row.sent ≡ Some p → IsUnheard p.id (slice_set cs e.key.member d.cell)
     is_new p sent j q g =
         let m = e.key.member in
-        let f = step_facts s fit end cs e d h x in
+        let f = step_facts s fit till cs e d h x in
         let did = subst (OnStep (StepOf e)) x (step_is_of e) in
-        let of = subst (OnEvent (RestOf f.cell)) f.event (before_on (RestOf f.cell) end (next_event m f.cell) (next_rest m f.cell)) in
+        let of = subst (OnEvent (RestOf f.cell)) f.event (before_on (RestOf f.cell) till (next_event m f.cell) (next_rest m f.cell)) in
         let sender = sender_of m d.row.sent p sent f.sender in
         let now : p.id.count ≡ sent_of cs p.id.sender = count_of e.rest.sent d.cell.sent d.row.sent p sent did.count
-        ∙ sym (sent_here s fit end cs e d good strict h x) ∙ ap (sent_of cs) (sym sender) in
+        ∙ sym (sent_here s fit till cs e d good strict h x) ∙ ap (sent_of cs) (sym sender) in
         elim (m == j) as (λ b. (m == j) ≡ b → BringsNone p.id q.inbox) [
           | true ↦ λ r.
               let here : m ≡ j = eqb-true m j r in

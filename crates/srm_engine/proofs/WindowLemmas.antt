@@ -2,7 +2,7 @@
 use Rattle.std.proofs.Common.{◌≡◌, ℕ, suc, ◌<◌, ◌≤◌, ◌+◌, ◌^◌, min, List, [], ◌∷◌, ◌++◌, Ok, Err, refl, sym, ap, ◌∙◌, subst, arith}
 use Rattle.std.proofs.Common.{inl, inr, ◌≢◌, Some, IsSome}
 use Rattle.std.proofs.Common.{All, IsSorted, IsPermutation, length, map, drop, slice_index, ◌*◌}
-use Rattle.std.proofs.lemmas.List.{map-append, length-map}
+use Rattle.std.proofs.lemmas.List.{length-map}
 use Rattle.std.proofs.lemmas.Option.{same_Some}
 use Rattle.std.proofs.lemmas.List.Sorted.{IsPermutation-refl}
 use Rattle.std.specs.List.{AllZip, range_with_len}
@@ -43,17 +43,17 @@ use Rattle.srm_interfaces.specs.declared.sink.Stage.{Stage}
 use Rattle.srm_interfaces.specs.Sinks.{stage_after}
 use Rattle.srm_model.specs.World.{World, row_cmp, IsReached, IsLast, RunMeetsFull, opening}
 use Rattle.srm_model.specs.Schedules.{IsSafe, HasNoResult}
-use Rattle.srm_model.specs.WindowRuns.{OwnResult, AreOwnRuns, rows_in, cells_in, IsMerge, AreNewInTurn, each_hears}
+use Rattle.srm_model.specs.WindowRuns.{OwnResult, own_cells, AreOwnRuns, rows_in, cells_in, IsMerge, AreNewInTurn, each_hears}
 use Rattle.srm_model.specs.WindowRuns.{IsWindow, after_window, jobs_of}
-use Rattle.srm_model.specs.WindowChains.{IsNext, start_of, IsEndRule, AreWindows, window_jobs}
-use Rattle.srm_engine.specs.Groups.{handed_jobs, AreGrouped, all_in, jobs_with, groups_of, lists_of, some_of}
+use Rattle.srm_model.specs.WindowChains.{IsNext, start_of, IsEndRule, AreWindows}
+use Rattle.srm_engine.specs.Groups.{AreGrouped, all_in, jobs_with, groups_of, lists_of, some_of}
 use Rattle.srm_engine.specs.declared.ends.Ends.{Ends}
 use Rattle.srm_engine.specs.Ends.{BeginsAt, MayEnd, TellsCutting, ends_rule}
 use Rattle.srm_engine.specs.Faults.{window_fault_of, run_fault_of}
 use Rattle.srm_engine.specs.Streams.{sink_in, TellsHalt, stream_fault_of, run_fault_in}
 use Rattle.srm_engine.specs.RowRuns.{MayLackWindow, UndoneAfter}
 use Rattle.srm_engine.specs.WindowStreams.{MeetsWindowRefusal, TellsStreamAsked}
-use Rattle.srm_engine.specs.Windowed.{IsCounted, MayCome, TellsRunAsked, calls_for, rule_of}
+use Rattle.srm_engine.specs.Windowed.{IsCounted, MayCome, TellsRunAsked, rule_of}
 use Rattle.srm_engine.specs.WindowEngines.{ComesTo, IsUnderWay, BeginsNext, EndsNext, frame_of, setting_by, rule_by}
 use Rattle.srm_engine.proofs.CellLists.{from_seen, seen_from, few_groups}
 use Rattle.srm_engine.proofs.JobLemmas.{any_cell, are_jobs, may_advance, as_many_jobs, places_with, job_results, cuts_kept, joined_some}
@@ -62,11 +62,10 @@ use Rattle.srm_model.proofs.LawProofs.{never_spent}
 use Rattle.srm_model.proofs.OneWindow.{as_many_results}
 use Rattle.srm_model.proofs.Sequential.{good_reached}
 use Rattle.srm_engine.proofs.Stepping.{opening_trace}
-use Rattle.srm_model.proofs.WindowJobs.{jobs_run_all}
 use Rattle.srm_model.proofs.WindowRows.{own_rows_are_sorted}
 use Rattle.srm_model.proofs.AnyOrder.{packets_are_heard_in_any_order, heard_by_packets}
 use Rattle.srm_model.proofs.WindowEnds.{widths_are_rules, promises_are_a_rule, starts_tell}
-use Rattle.srm_model.proofs.WindowChain.{windows_are_reached, windows_follow, refused_windows_meet_full, calls_follow}
+use Rattle.srm_model.proofs.WindowChain.{windows_are_reached, windows_follow, refused_windows_meet_full}
 use Rattle.srm_ledger.proofs.Keeps.{replicate_zero}
 use Rattle.srm_interfaces.proofs.Sums.{none_crossed}
 
@@ -80,15 +79,15 @@ ends_are_rules p net is accepted seed ends may = grind (arith, widths_are_rules,
 -- ---- records
 
 -- what is known of the jobs of the window that ends so, before the crew's call and after it is refused
-pub record JobsTell {M : Type 0} (f : M → Record) (e : WindowEngine M) (seed end : ℕ) (w : World)
+pub record JobsTell {M : Type 0} (f : M → Record) (e : WindowEngine M) (seed till : ℕ) (w : World)
     (js : List (Job M)) : Type 0 where
   pub may : All (λ (j : Job M). cell.MayAdvance f (length e.net.now.hosts) j) js
   pub few : length js ≤ most_nodes
   pub placed : map (λ (j : Job M). j.place) js ≡ range_with_len 0 (length js)
-  pub seen : AreJobs f js (handed_jobs 0 (jobs_of e.groups.cut end w))
-  pub not_spent : AnyEnds Spent (handed_jobs 0 (jobs_of e.groups.cut end w)) → ⊥
-  pub full : AnyEnds Full (handed_jobs 0 (jobs_of e.groups.cut end w)) → RunMeetsFull (setting_by e seed)
-  pub past : ((rows : List Row) × AreRowsOfSome (handed_jobs 0 (jobs_of e.groups.cut end w)) rows
+  pub seen : AreJobs f js (jobs_of e.groups.cut till w)
+  pub not_spent : AnyEnds Spent (jobs_of e.groups.cut till w) → ⊥
+  pub full : AnyEnds Full (jobs_of e.groups.cut till w) → RunMeetsFull (setting_by e seed)
+  pub past : ((rows : List Row) × AreRowsOfSome (jobs_of e.groups.cut till w) rows
       × IsPast (counted_in (crossings (setting_by e seed).traffic rows)) e.seat)
       → MayCome (setting_by e seed) (rule_by e seed) e.groups.cut w window.ShareFull
   pub pending : MayCome (setting_by e seed) (rule_by e seed) e.groups.cut w window.NoMemory
@@ -101,17 +100,17 @@ of_a_window crew.CountFull ne = refl
 of_a_window crew.Spent ne = absurd (ne refl)
 
 -- what a crew's refusal tells of the window
-pub map_refused : {M : Type 0} (f : M → Record) (e : WindowEngine M) (seed end : ℕ) (w : World)
-    (js : List (Job M)) → JobsTell f e seed end w js → (x : CrewFault) (y : WindowFault) → window_fault_of x ≡ Some y
-    → TellsMap f (setting_by e seed).traffic e.seat (handed_jobs 0 (jobs_of e.groups.cut end w)) (Err x)
+pub map_refused : {M : Type 0} (f : M → Record) (e : WindowEngine M) (seed till : ℕ) (w : World)
+    (js : List (Job M)) → JobsTell f e seed till w js → (x : CrewFault) (y : WindowFault) → window_fault_of x ≡ Some y
+    → TellsMap f (setting_by e seed).traffic e.seat (jobs_of e.groups.cut till w) (Err x)
     → MayCome (setting_by e seed) (rule_by e seed) e.groups.cut w y
-map_refused f e seed end w js j x y is h = grind arith
+map_refused f e seed till w js j x y is h = grind arith
 
 -- what the crew did for the window that ends so
-pub record WindowRan {M : Type 0} (f : M → Record) (e : WindowEngine M) (seed end : ℕ) (w : World)
+pub record WindowRan {M : Type 0} (f : M → Record) (e : WindowEngine M) (seed till : ℕ) (w : World)
     (ds : List (job.Done M)) : Type 0 where
   pub results : List OwnResult
-  pub alone : AreOwnRuns end 0 w.cells results
+  pub alone : AreOwnRuns till 0 w.cells results
   pub grouped : AreGrouped f e.groups.cut (groups_of ds) (cells_in results)
   pub rows : lists_of ds ≡ rows_in results
   pub as_many : length (cells_in results) ≡ length w.cells
@@ -155,7 +154,7 @@ module _ {M : Type 0} (f : M → Record) (e : WindowEngine M) (is : IsUnderWay f
 
   -- ---- its jobs
 
-  module _ (end : ℕ) (at : EndsNext f e end) where
+  module _ (till : ℕ) (at : EndsNext f e till) where
     abbrev gs : List (Vec (Cell M))
     gs = e.groups.groups.items
 
@@ -166,7 +165,7 @@ module _ {M : Type 0} (f : M → Record) (e : WindowEngine M) (is : IsUnderWay f
     grouped = comes.kept.grouped
 
     abbrev upcoming : List cell.PlainJob
-    upcoming = handed_jobs 0 (jobs_of cut end w)
+    upcoming = jobs_of cut till w
 
     abbrev v : Event
     v = (at seed begins w comes).0.0
@@ -174,25 +173,25 @@ module _ {M : Type 0} (f : M → Record) (e : WindowEngine M) (is : IsUnderWay f
     is_next : IsNext s w v
     is_next = (at seed begins w comes).0.1
 
-    pub end_is : end ≡ rule_by e seed w
+    pub end_is : till ≡ rule_by e seed w
     end_is = (at seed begins w comes).1
 
-    pub within : end ≤ e.scenario.now.until
+    pub within : till ≤ e.scenario.now.until
     within = let b = rule_is.within w in omega (arith, end_is)
 
-    safe : IsSafe s end w
+    safe : IsSafe s till w
     safe = subst (λ n. IsSafe s n w) (sym end_is) (rule_is.safe w v reached is_next)
 
     hosts_are : length e.net.now.hosts ≡ length e.scenario.now.members
     hosts_are = ap (λ (n : Network). length n.hosts) is.network ∙ length-map e.scenario.now.members (λ (k : MemberSpec). k.node)
 
-    own_jobs : AreJobs f (jobs_with end 0 gs) upcoming
-    own_jobs = are_jobs f cut end 0 0 gs w.cells comes.kept.cut.0 grouped.cuts (from_seen f (all_in gs) w.cells grouped.cells)
+    own_jobs : AreJobs f (jobs_with till 0 gs) upcoming
+    own_jobs = are_jobs f cut till 0 gs (own_cells 0 w.cells) comes.kept.cut.0 grouped.cuts (from_seen f (all_in gs) w.cells grouped.cells)
 
     -- what is known of the jobs of a window, before and after the crew's call
-    pub jobs_tell : (js : List (Job M)) → js ≡ jobs_with end 0 gs → JobsTell f e seed end w js
+    pub jobs_tell : (js : List (Job M)) → js ≡ jobs_with till 0 gs → JobsTell f e seed till w js
     jobs_tell js same =
-        let a = ap length same ∙ as_many_jobs f end 0 gs in
+        let a = ap length same ∙ as_many_jobs f till 0 gs in
         let many = members_are in record {
           may =
               let few = is.accepted.few_ticks in
@@ -200,20 +199,20 @@ module _ {M : Type 0} (f : M → Record) (e : WindowEngine M) (is : IsUnderWay f
               let cuts = comes.kept.cut in
               let b = within in
               subst (All (λ (j : Job M). cell.MayAdvance f (length e.net.now.hosts) j)) (sym same)
-              (may_advance f cut end (length e.net.now.hosts) gs w.cells cuts.0 cuts.1 (omega arith) (omega arith) grouped.cuts
+              (may_advance f cut till (length e.net.now.hosts) gs w.cells cuts.0 cuts.1 (omega arith) (omega arith) grouped.cuts
               (from_seen f (all_in gs) w.cells grouped.cells));
           few =
               let b = few_groups cut gs comes.kept.cut.0 grouped.cuts in
               let c = grouped.cells.as_many in
               let most = few_members e.scenario.now is.accepted in
               omega (arith, a);
-          placed = ap (map (λ (j : Job M). j.place)) same ∙ places_with f end 0 gs ∙ ap (range_with_len 0) (sym a);
+          placed = ap (map (λ (j : Job M). j.place)) same ∙ places_with f till 0 gs ∙ ap (range_with_len 0) (sym a);
           seen = subst (λ l. AreJobs f l upcoming) (sym same) own_jobs;
           not_spent = λ h.
-              let r = any_cell Spent cut end w.cells h in
-              (never_spent s w fit reached).1 end r.0 r.3.0 r.1 r.2 r.3.1;
+              let r = any_cell Spent cut till w h in
+              (never_spent s w fit reached).1 till r.0 r.3.0 r.1 r.2 r.3.1;
           full = λ h.
-              let r = any_cell Full cut end w.cells h in
+              let r = any_cell Full cut till w h in
               refused_windows_meet_full s (rule_by e seed) begins w v fit rule_is comes.windows is_next r.0
               (subst (λ n. HasNoResult n w r.0) end_is (r.1, r.2, r.3));
           past = λ h. (
@@ -221,7 +220,7 @@ module _ {M : Type 0} (f : M → Record) (e : WindowEngine M) (is : IsUnderWay f
             comes.windows,
             (
               h.0,
-              subst (λ n. AreRowsOfSome (handed_jobs 0 (jobs_of cut n w)) h.0) end_is h.1,
+              subst (λ n. AreRowsOfSome (jobs_of cut n w) h.0) end_is h.1,
               h.2.0,
               subst (λ n. 2 ^ 47 < n + counted_in (crossings s.traffic h.0) h.2.0) (comes.counted.shares h.2.0) h.2.1,
             ),
@@ -230,33 +229,32 @@ module _ {M : Type 0} (f : M → Record) (e : WindowEngine M) (is : IsUnderWay f
         }
 
     -- what the crew did
-    pub window_ran : (ds : List (job.Done M)) → AllZip (λ p d. cell.IsDone f s.traffic p d) upcoming ds → WindowRan f e seed end w ds
+    pub window_ran : (ds : List (job.Done M)) → AllZip (λ p d. cell.IsDone f s.traffic p d) upcoming ds → WindowRan f e seed till w ds
     window_ran ds h =
-        let r = job_results f s.traffic 0 (jobs_of cut end w) ds h in
-        let alone = jobs_run_all w cut end r.0 comes.kept.cut.0 r.1 in record {
-          results = joined r.0;
-          alone = alone;
+        let r = job_results f s.traffic cut till w ds comes.kept.cut.0 h in
+        let many = as_many_results till 0 w.cells r.0 r.1 in record {
+          results = r.0;
+          alone = r.1;
           grouped = record {
-            cells = seen_from f (all_in (groups_of ds)) (cells_in (joined r.0)) r.2;
-            cuts = cuts_kept f cut end gs (jobs_of cut end w) ds grouped.cuts own_jobs r.4;
+            cells = seen_from f (all_in (groups_of ds)) (cells_in r.0) r.2;
+            cuts = cuts_kept f s.traffic cut till gs upcoming ds grouped.cuts own_jobs h;
           };
           rows = r.3;
-          as_many = as_many_results end 0 w.cells (joined r.0) alone;
-          members = as_many_results end 0 w.cells (joined r.0) alone ∙ members_are;
-          sorted = all_some (IsSorted row_cmp) (rows_in (joined r.0)) (own_rows_are_sorted s w end fit reached within safe (joined r.0)
-              alone);
+          as_many = many;
+          members = many ∙ members_are;
+          sorted = all_some (IsSorted row_cmp) (rows_in r.0) (own_rows_are_sorted s w till fit reached within safe r.0 r.1);
         }
 
     -- what a crew's answer tells of the window
-    pub mapped : (js : List (Job M)) → js ≡ jobs_with end 0 gs → (r : Vec (job.Done M) × SeatView)
+    pub mapped : (js : List (Job M)) → js ≡ jobs_with till 0 gs → (r : Vec (job.Done M) × SeatView)
         → Maps f e.scenario.now e.net.now e.seat js (Ok r)
-        → WindowRan f e seed end w r.0.items × HasGrown (counted_in (crossings s.traffic (rows_of r.0.items))) e.seat r.1
+        → WindowRan f e seed till w r.0.items × HasGrown (counted_in (crossings s.traffic (rows_of r.0.items))) e.seat r.1
     mapped js same r maps = let told = maps.tells upcoming (jobs_tell js same).seen in (window_ran r.0.items told.0, told.1)
 
     -- ---- its rows
 
     -- all rows, one list after the other
-    module _ (ds : List (job.Done M)) (ran : WindowRan f e seed end w ds) where
+    module _ (ds : List (job.Done M)) (ran : WindowRan f e seed till w ds) where
       abbrev pub listed : List Row
       listed = joined (some_of (lists_of ds))
 
@@ -268,18 +266,18 @@ module _ {M : Type 0} (f : M → Record) (e : WindowEngine M) (is : IsUnderWay f
           → AreNewInTurn s.traffic others (cells_in ran.results)
           × (each_hears s.traffic 0 others (cells_in ran.results) ≡ each_hears s.traffic 0 listed (cells_in ran.results))
       heard_in_order others h =
-          let told = heard_by_packets s w end fit reached within safe ran.results ran.alone others
+          let told = heard_by_packets s w till fit reached within safe ran.results ran.alone others
           (subst (λ l. IsPermutation (packets_of l) (packets_of others)) listed_is h) in
           (told.0, told.1 ∙ ap (λ l. each_hears s.traffic 0 l (cells_in ran.results)) (sym listed_is))
 
       -- heard so, they are heard as any merge of the lists
       pub heard_as : (rows : List Row) → IsPermutation listed rows
           → each_hears s.traffic 0 listed (cells_in ran.results) ≡ each_hears s.traffic 0 rows (cells_in ran.results)
-      heard_as rows h = (packets_are_heard_in_any_order s w end fit reached within safe ran.results listed ran.alone
+      heard_as rows h = (packets_are_heard_in_any_order s w till fit reached within safe ran.results listed ran.alone
           (subst (IsPermutation (joined (rows_in ran.results))) (sym listed_is) (IsPermutation-refl (joined (rows_in ran.results))))).1
           rows (subst (λ l. IsPermutation l rows) listed_is h)
 
-    module _ (ds : List (job.Done M)) (ran : WindowRan f e seed end w ds) (rows : List Row)
+    module _ (ds : List (job.Done M)) (ran : WindowRan f e seed till w ds) (rows : List Row)
         (merged : IsPermutation (joined (some_of (lists_of ds))) rows × IsSorted row_cmp rows) where
       merge_is : IsMerge (rows_in ran.results) rows
       merge_is = grind (arith, joined_some)
@@ -287,7 +285,7 @@ module _ {M : Type 0} (f : M → Record) (e : WindowEngine M) (is : IsUnderWay f
       abbrev pub after : World
       after = after_window s w ran.results rows
 
-      pub window_is : IsWindow s end w after
+      pub window_is : IsWindow s till w after
       window_is = record { results = ran.results; rows = rows; alone = ran.alone; merged = merge_is; is = refl }
 
       pub one_more : AreWindows s (rule_by e seed) (begins ++ w ∷ []) after × (start_of s w < start_of s after)
@@ -305,14 +303,14 @@ module _ {M : Type 0} (f : M → Record) (e : WindowEngine M) (is : IsUnderWay f
           (rows_joined f ds ∙ ap joined ran.rows))
 
 -- the same of the windows that a run under way came to
-module _ {M : Type 0} (f : M → Record) (e : WindowEngine M) (is : IsUnderWay f e) (end : ℕ)
-    (at : EndsNext f e end) (js : List (Job M)) (same : js ≡ jobs_with end 0 e.groups.groups.items) where
-  pub jobs_tell_now : JobsTell f e is.seed end is.world js
-  jobs_tell_now = jobs_tell f e is is.seed is.begins is.world is.comes end at js same
+module _ {M : Type 0} (f : M → Record) (e : WindowEngine M) (is : IsUnderWay f e) (till : ℕ)
+    (at : EndsNext f e till) (js : List (Job M)) (same : js ≡ jobs_with till 0 e.groups.groups.items) where
+  pub jobs_tell_now : JobsTell f e is.seed till is.world js
+  jobs_tell_now = jobs_tell f e is is.seed is.begins is.world is.comes till at js same
 
   pub ran_now : (r : Vec (job.Done M) × SeatView) → Maps f e.scenario.now e.net.now e.seat js (Ok r)
-      → WindowRan f e is.seed end is.world r.0.items
-  ran_now r maps = (mapped f e is is.seed is.begins is.world is.comes end at js same r maps).0
+      → WindowRan f e is.seed till is.world r.0.items
+  ran_now r maps = (mapped f e is is.seed is.begins is.world is.comes till at js same r maps).0
 
 -- ---- the beginning of a run
 
@@ -320,14 +318,6 @@ module _ {M : Type 0} (f : M → Record) (e : WindowEngine M) (is : IsUnderWay f
 pub opened_counted : (s : Setting) (l : LedgerView) (links : ℕ) (seat : SeatView) → seat ≡ whole_seat l.name links
     → IsCounted s.traffic l (opening s).trace seat
 opened_counted s l links seat whole = grind (arith, replicate_zero, none_crossed, opening_trace)
-
--- ---- calls
-
--- the calls for one window more
-pub call_more : (rule : World → ℕ) (cut : ℕ) (begins : List World) (w : World) → calls_for rule cut (begins ++ w ∷ [])
-    ≡ calls_for rule cut begins ++ handed_jobs 0 (jobs_of cut (rule w) w) ∷ []
-call_more rule cut begins w = ap (map (handed_jobs 0)) ((calls_follow rule cut).1 begins w)
-    ∙ map-append (handed_jobs 0) (window_jobs rule cut begins) (jobs_of cut (rule w) w ∷ [])
 
 -- ---- what was asked for
 

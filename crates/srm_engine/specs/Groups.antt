@@ -1,5 +1,5 @@
 -- The cells of all members, those of each job together.
-use Rattle.std.specs.Prelude.{◌≡◌, ◌+◌, ◌/◌, ◌<◌, ◌≤◌, ℕ, suc, List, [], ◌∷◌, ◌++◌, length, map, slice_get, slice_set}
+use Rattle.std.specs.Prelude.{◌≡◌, ◌/◌, ◌<◌, ◌≤◌, ℕ, suc, List, [], ◌∷◌, ◌++◌, length, map, slice_get, slice_set}
 use Rattle.std.specs.Prelude.{Some, IsPermutation}
 use Rattle.std.specs.Global.{Vec}
 use Rattle.srm_net.specs.declared.packet.Packet.{Packet}
@@ -12,27 +12,13 @@ use Rattle.srm_cell.specs.declared.job.Done as job
 use Rattle.srm_cell.specs.Flights.{BringsNone}
 use Rattle.srm_cell.specs.Setting.{Setting}
 use Rattle.srm_cell.specs.Cells.{PlainCell, hear_at}
-use Rattle.srm_cell.specs.Jobs as cell
 use Rattle.srm_cell.specs.Crossings.{packets_of}
 use Rattle.srm_model.specs.Hearing.{IsUnheard, heard_below}
 use Rattle.srm_engine.specs.Seen.{AreCellsInOrder}
 use Rattle.srm_engine.specs.declared.groups.Groups.{Groups}
 use Rattle.srm_engine.specs.Soonest.{AreSoonest}
-use Rattle.srm_model.specs.WindowRuns.{WindowJob, OwnResult, AreOwnRuns, cells_in, AreNewInTurn, each_hears}
+use Rattle.srm_model.specs.WindowRuns.{OwnResult, AreOwnRuns, cells_in, AreNewInTurn, each_hears}
 use Rattle.srm_net.specs.Limits.{end_of_time}
-
--- ---- jobs as crews see them
-
--- the cells of member i and on, each with its member
-abbrev pub numbered : ℕ → List PlainCell → List cell.OwnCell
-numbered i [] = []
-numbered i (c ∷ cs) = record { member = i; cell = c } ∷ numbered (suc i) cs
-
--- the jobs, of which the first has the cells of member i and on, as they are handed to a crew
-abbrev pub handed_jobs : ℕ → List WindowJob → List cell.PlainJob
-handed_jobs i [] = []
-handed_jobs i (j ∷ js) =
-    record { place = j.place; till = j.till; cells = numbered i j.cells } ∷ handed_jobs (i + length j.cells) js
 
 -- ---- rows
 

@@ -13,7 +13,7 @@ use Rattle.srm_cell.specs.Cells.{Event}
 use Rattle.srm_cell.specs.Jobs as cell
 use Rattle.srm_model.specs.World.{World, opening, IsLast, exits_of}
 use Rattle.srm_model.specs.WindowRuns.{jobs_of, IsMerge}
-use Rattle.srm_model.specs.WindowChains.{AreWindows, IsNext, start_of}
+use Rattle.srm_model.specs.WindowChains.{AreWindows, IsNext, start_of, window_jobs}
 use Rattle.srm_engine.specs.declared.ends.Ends.{Ends}
 use Rattle.srm_engine.specs.declared.halt.Halt.{Halt}
 use Rattle.srm_engine.specs.declared.halt.Halt.TheVariants as halt
@@ -21,9 +21,9 @@ use Rattle.srm_engine.specs.declared.window_engine.WindowEngine.{WindowEngine}
 use Rattle.srm_engine.specs.declared.window_fault.WindowFault.{WindowFault}
 use Rattle.srm_engine.specs.declared.window_fault.WindowFault.TheVariants.{NoMemory}
 use Rattle.srm_engine.specs.Ends.{ends_rule, MayEnd}
-use Rattle.srm_engine.specs.Groups.{AreKept, handed_jobs}
+use Rattle.srm_engine.specs.Groups.{AreKept}
 use Rattle.srm_engine.specs.Streams.{TellsHalt}
-use Rattle.srm_engine.specs.Windowed.{IsCounted, MayCome, calls_for}
+use Rattle.srm_engine.specs.Windowed.{IsCounted, MayCome}
 
 -- the lists of rows in vectors
 abbrev pub lists_in : Vec (Vec Row) → List (List Row)
@@ -86,9 +86,9 @@ module _ {M : Type 0} where
 
   -- something is pending, and the window in which it is handled ends at this tick
   abbrev pub EndsNext : (M → Record) → WindowEngine M → ℕ → Type 0
-  EndsNext f e end =
+  EndsNext f e till =
       (seed : ℕ) (begins : List World) (w : World) → ComesTo f seed e begins w
-      → ((v : Event) × IsNext (setting_by e seed) w v) × (end ≡ rule_by e seed w)
+      → ((v : Event) × IsNext (setting_by e seed) w v) × (till ≡ rule_by e seed w)
 
   -- totals are those of the world as which the engine is seen
   abbrev pub TellsCounted : (M → Record) → WindowEngine M → List ℕ → Type 0
@@ -110,7 +110,7 @@ module _ {M : Type 0} where
         (seed : ℕ) (begins : List World) (w : World) → ComesTo f seed e begins w
         → MatchResult r (λ v. ((rows : List Row) → IsMerge (lists_in v.1) rows
         → (u : World) × ComesTo f seed v.0 (begins ++ w ∷ []) u × (u.trace ≡ w.trace ++ rows))
-        × handed old (handed_jobs 0 (jobs_of e.groups.cut (rule_by e seed w) w) ∷ []) new)
+        × handed old (jobs_of e.groups.cut (rule_by e seed w) w ∷ []) new)
         (MayCome (setting_by e seed) (rule_by e seed) e.groups.cut w)
 
   module _ {C S : Type 0} (handed : C → List (List cell.PlainJob) → C → Type 0) (took part : S → List Row → S → Type 0)
@@ -122,6 +122,6 @@ module _ {M : Type 0} where
         (seed : ℕ) → OpensAt f seed e
         → MatchResult r (λ v. (begins : List World) × (w : World) × ComesTo f seed v begins w
         × IsLast (setting_by e seed) w × took from w.trace to
-        × handed old (calls_for (rule_by e seed) e.groups.cut begins) new)
+        × handed old (window_jobs (rule_by e seed) e.groups.cut begins) new)
         (λ x. TellsHalt took part (MayCome (setting_by e seed) (rule_by e seed) e.groups.cut) (setting_by e seed)
         from x to)

@@ -10,10 +10,10 @@ use Rattle.srm_engine.specs.declared.fault.RunFault.TheVariants as fault
 use Rattle.srm_engine.specs.declared.stream_fault.StreamFault.{StreamFault}
 use Rattle.srm_engine.specs.declared.stream_fault.StreamFault.TheVariants.{Run}
 use Rattle.srm_model.specs.World.{World, IsLast}
-use Rattle.srm_model.specs.WindowChains.{AreWindows}
+use Rattle.srm_model.specs.WindowChains.{AreWindows, window_jobs}
 use Rattle.srm_engine.specs.Openings.{HoldOpeningRecords}
 use Rattle.srm_engine.specs.Streams.{run_fault_in}
-use Rattle.srm_engine.specs.Windowed.{IsCut, MayBeWide, calls_for, TellsRunAsked, MayRefuse}
+use Rattle.srm_engine.specs.Windowed.{IsCut, MayBeWide, TellsRunAsked, MayRefuse}
 
 -- ---- what is asked for
 
@@ -37,7 +37,7 @@ module _ {C : Type 0} (handed : C → List (List cell.PlainJob) → C → Type 0
   abbrev pub TellsCalls : {A : Type 0} → Setting → (World → ℕ) → ℕ → C → Result A StreamFault → C → Type 0
   TellsCalls s rule cut old (Ok v) new =
       (begins : List World) × (w : World) × AreWindows s rule begins w × IsLast s w
-      × handed old (calls_for rule cut begins) new
+      × handed old (window_jobs rule cut begins) new
   TellsCalls s rule cut old (Err e) new = MeetsWindowRefusal s rule cut old e new
 
   -- so for every seed whose opening records the boxes hold

@@ -1,5 +1,5 @@
 -- What the windowed engine is given, and what it tells.
-use Rattle.std.specs.Prelude.{◌≡◌, ◌<◌, ◌+◌, ◌^◌, ℕ, List, map, slice_index, Result, Ok, Err}
+use Rattle.std.specs.Prelude.{◌≡◌, ◌<◌, ◌+◌, ◌^◌, ℕ, List, slice_index, Result, Ok, Err}
 use Rattle.srm_net.specs.Network.{Network}
 use Rattle.srm_scenario.specs.Plain.{PlainScenario}
 use Rattle.srm_member.specs.declared.row.Row.{Row}
@@ -25,7 +25,6 @@ use Rattle.srm_model.specs.WindowRuns.{jobs_of}
 use Rattle.srm_model.specs.WindowChains.{AreWindows, IsNext, width_rule, least_width, window_jobs}
 use Rattle.srm_engine.specs.Openings.{HoldOpeningRecords}
 pub use Rattle.srm_engine.specs.Groups.{IsCut}
-use Rattle.srm_engine.specs.Groups.{handed_jobs}
 
 -- ---- what is given
 
@@ -41,19 +40,13 @@ rule_of s net (width.Ticks n) = width_rule s n
 rule_of s net width.Least = width_rule s (least_width s net)
 rule_of s net width.Promise = promise_end s
 
--- ---- calls of a crew
-
--- the jobs of the windows that begin in these worlds, as a crew is handed them: one call for each window
-abbrev pub calls_for : (World → ℕ) → ℕ → List World → List (List cell.PlainJob)
-calls_for rule cut begins = map (handed_jobs 0) (window_jobs rule cut begins)
+-- ---- what is counted
 
 -- the crossings of a trace, with those of the rows of some of the jobs, are more than 2^47 at some place
 abbrev pub PassesShare : Traffic → List Row → List cell.PlainJob → Type 0
 PassesShare t trace js =
     (rows : List Row) × AreRowsOfSome js rows
     × (k : ℕ) × (2 ^ 47 < counted_in (crossings t trace) k + counted_in (crossings t rows) k)
-
--- ---- what is counted
 
 -- the seat is the whole one of this ledger, and its shares are the crossings of these rows
 pub record IsCounted (t : Traffic) (l : LedgerView) (rows : List Row) (seat : SeatView) : Type 0 where
@@ -71,7 +64,7 @@ MayCome s rule cut w window.NoMemory = (e : Event) × IsNext s w e
 MayCome s rule cut w window.CountFull = RunMeetsFull s
 MayCome s rule cut w window.ShareFull =
     (begins : List World) × AreWindows s rule begins w
-    × PassesShare s.traffic w.trace (handed_jobs 0 (jobs_of cut (rule w) w))
+    × PassesShare s.traffic w.trace (jobs_of cut (rule w) w)
 
 -- when a run in windows may be refused: for memory; as some window of it; and before any call of the crew, where the
 -- cut or the width is
@@ -97,7 +90,7 @@ module _ {C : Type 0} (handed : C → List (List cell.PlainJob) → C → Type 0
   TellsWindowRun s rule cut old (Ok v) new =
       IsOutcome s v.trace.items v.exits.items v.totals
       × ((begins : List World) × (w : World) × AreWindows s rule begins w × IsLast s w
-      × handed old (calls_for rule cut begins) new)
+      × handed old (window_jobs rule cut begins) new)
   TellsWindowRun s rule cut old (Err e) new = MayRefuse s rule cut old e new
 
   -- so for every seed whose opening records the boxes hold

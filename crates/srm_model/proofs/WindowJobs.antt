@@ -11,103 +11,114 @@ use Rattle.std.proofs.lemmas.List.Sums.{sum_by-cons}
 use Rattle.std.proofs.lemmas.List.Sorted.{sum_by-IsPermutation}
 use Rattle.std.proofs.lemmas.Option.{same_Some}
 use Rattle.srm_net.specs.declared.packet.Packet.{Packet}
+use Rattle.srm_net.proofs.Basics.{zip_append}
 use Rattle.srm_member.specs.declared.row.Row.{Row}
 use Rattle.srm_cell.specs.Setting.{Setting}
 use Rattle.srm_cell.specs.Cells.{PlainCell}
-use Rattle.srm_cell.specs.OwnRuns.{MeetsFull}
+use Rattle.srm_cell.specs.OwnRuns.{IsOwnRun, MeetsFull}
 use Rattle.srm_ledger.specs.declared.kind.Kind.{Kind}
 use Rattle.srm_ledger.specs.declared.kind.Kind.TheVariants.{Drawop, Request, Repair, Session}
 use Rattle.srm_ledger.specs.Counts.{place_of}
-use Rattle.srm_cell.specs.Crossings.{packets_of, kind_of, crossings_at, crossings, added_each}
+use Rattle.srm_cell.specs.Crossings.{packets_of, kind_of, crossings_at, crossings, added_each, joined}
+use Rattle.srm_cell.specs.Jobs.{OwnCell, PlainJob}
 use Rattle.srm_cell.proofs.CrossingLemmas.{crossings_add}
-use Rattle.srm_cell.specs.Crossings.{joined}
 use Rattle.srm_cell.proofs.RowPackets.{joined-append}
-use Rattle.srm_model.specs.WindowRuns.{OwnResult, AreOwnRuns, rows_in, crossings_of_all, WindowJob, jobs_within, AreJobRuns, job_rows}
-use Rattle.srm_model.specs.WindowRuns.{SomeMeetsFull, SomeJobMeetsFull}
+use Rattle.srm_model.specs.WindowRuns.{OwnResult, own_cells, AreRunsOf, rows_in, crossings_of_all, jobs_within, jobs_of, AreJobRuns}
+use Rattle.srm_model.specs.WindowRuns.{job_rows, SomeMeetsFull, SomeJobMeetsFull}
 use Rattle.srm_model.specs.WindowLaws.{JobsAreRuns, JobsAreInPlace, JobsRunAll, JobsRefuse, CrossingsKeep, CrossingsAreTotals}
+
+-- ---- cells with their members
+
+pub length_own_cells : (i : ℕ) (cs : List PlainCell) → length (own_cells i cs) ≡ length cs
+length_own_cells i [] = refl
+length_own_cells i (c ∷ cs) = ap suc (length_own_cells (suc i) cs)
+
+-- each is the cell of its member
+pub own_cell_at : (i : ℕ) (cs : List PlainCell) (j : ℕ) (q : OwnCell) → slice_get (own_cells i cs) j ≡ Some q → (c : PlainCell)
+    × (slice_get cs j ≡ Some c) × (record { member = i + j; cell = c } ≡ q)
+own_cell_at i [] j q h = cc
+own_cell_at i (c ∷ cs) zero q h =
+    (c, refl, let at : i + 0 ≡ i = add-zero i in ap (λ m. record { member = m; cell = c }) at ∙ same_Some _ _ h)
+own_cell_at i (c ∷ cs) (suc j) q h =
+    let r = own_cell_at (suc i) cs j q h in
+    let at : i + suc j ≡ suc i + j = omega arith in
+    (r.0, r.1, ap (λ m. record { member = m; cell = r.0 }) at ∙ r.2)
 
 -- ---- jobs
 
-pub shorter : (cut n : ℕ) (c : PlainCell) (cs : List PlainCell) → 0 < cut → length (c ∷ cs) ≤ suc n → length (drop cut (c ∷ cs)) ≤ n
-shorter cut n c cs pos le = let e = length-drop cut (c ∷ cs) in omega arith
+pub shorter : (cut n : ℕ) (q : OwnCell) (qs : List OwnCell) → 0 < cut → length (q ∷ qs) ≤ suc n → length (drop cut (q ∷ qs)) ≤ n
+shorter cut n q qs pos le = let e = length-drop cut (q ∷ qs) in omega arith
 
 -- more than enough is enough
-enough : (n k cut till place : ℕ) (cs : List PlainCell) → 0 < cut → length cs ≤ n → length cs ≤ k → jobs_within n cut till place cs
-    ≡ jobs_within k cut till place cs
+enough : (n k cut till place : ℕ) (qs : List OwnCell) → 0 < cut → length qs ≤ n → length qs ≤ k → jobs_within n cut till place qs
+    ≡ jobs_within k cut till place qs
 enough n k cut till place [] pos le ge = refl
-enough zero k cut till place (c ∷ cs) pos le ge = absurd (omega arith)
-enough (suc n) zero cut till place (c ∷ cs) pos le ge = absurd (omega arith)
-enough (suc n) (suc k) cut till place (c ∷ cs) pos le ge =
-    ap (λ js. record { place = place; till = till; cells = take cut (c ∷ cs) } ∷ js)
-    (enough n k cut till (suc place) (drop cut (c ∷ cs)) pos (shorter cut n c cs pos le) (shorter cut k c cs pos ge))
+enough zero k cut till place (q ∷ qs) pos le ge = absurd (omega arith)
+enough (suc n) zero cut till place (q ∷ qs) pos le ge = absurd (omega arith)
+enough (suc n) (suc k) cut till place (q ∷ qs) pos le ge =
+    ap (λ js. record { place = place; till = till; cells = take cut (q ∷ qs) } ∷ js)
+    (enough n k cut till (suc place) (drop cut (q ∷ qs)) pos (shorter cut n q qs pos le) (shorter cut k q qs pos ge))
 
 pub jobs_are_runs : JobsAreRuns
 jobs_are_runs cut till place pos = grind (arith, common_steps, enough)
 
-few_jobs : (n cut till place : ℕ) (cs : List PlainCell) → 0 < cut → length (jobs_within n cut till place cs) ≤ length cs
+few_jobs : (n cut till place : ℕ) (qs : List OwnCell) → 0 < cut → length (jobs_within n cut till place qs) ≤ length qs
 few_jobs n cut till place [] pos = le_refl 0
-few_jobs zero cut till place (c ∷ cs) pos = omega arith
-few_jobs (suc n) cut till place (c ∷ cs) pos =
-    let more = few_jobs n cut till (suc place) (drop cut (c ∷ cs)) pos in
-    let short = shorter cut (length cs) c cs pos (le_refl (length (c ∷ cs))) in
+few_jobs zero cut till place (q ∷ qs) pos = omega arith
+few_jobs (suc n) cut till place (q ∷ qs) pos =
+    let more = few_jobs n cut till (suc place) (drop cut (q ∷ qs)) pos in
+    let short = shorter cut (length qs) q qs pos (le_refl (length (q ∷ qs))) in
     omega arith
 
-nth_job : (n cut till place : ℕ) (cs : List PlainCell) (k : ℕ) (j : WindowJob) → slice_get (jobs_within n cut till place cs) k ≡ Some j → j
-    ≡ record { place = place + k; till = till; cells = take cut (drop (k * cut) cs) }
+nth_job : (n cut till place : ℕ) (qs : List OwnCell) (k : ℕ) (j : PlainJob) → slice_get (jobs_within n cut till place qs) k ≡ Some j → j
+    ≡ record { place = place + k; till = till; cells = take cut (drop (k * cut) qs) }
 nth_job n cut till place [] k j h = cc
-nth_job zero cut till place (c ∷ cs) k j h = cc
-nth_job (suc n) cut till place (c ∷ cs) zero j h =
+nth_job zero cut till place (q ∷ qs) k j h = cc
+nth_job (suc n) cut till place (q ∷ qs) zero j h =
     let now : place ≡ place + 0 = omega arith in
     let none : 0 * cut ≡ 0 = omega arith in
-    sym (same_Some _ _ h) ∙ (λ i. record { place = now i; till = till; cells = take cut (drop (sym none i) (c ∷ cs)) })
-nth_job (suc n) cut till place (c ∷ cs) (suc k) j h =
+    sym (same_Some _ _ h) ∙ (λ i. record { place = now i; till = till; cells = take cut (drop (sym none i) (q ∷ qs)) })
+nth_job (suc n) cut till place (q ∷ qs) (suc k) j h =
     let now : suc place + k ≡ place + suc k = omega arith in
     let at : cut + k * cut ≡ suc k * cut = omega (arith, suc-mul k cut) in
-    nth_job n cut till (suc place) (drop cut (c ∷ cs)) k j h ∙
-    (λ i. record { place = now i; till = till; cells = take cut ((drop-drop (k * cut) cut (c ∷ cs) ∙ ap (λ m. drop m (c ∷ cs)) at) i) })
+    nth_job n cut till (suc place) (drop cut (q ∷ qs)) k j h ∙
+    (λ i. record { place = now i; till = till; cells = take cut ((drop-drop (k * cut) cut (q ∷ qs) ∙ ap (λ m. drop m (q ∷ qs)) at) i) })
 
-all_cells : (n cut till place : ℕ) (cs : List PlainCell) → 0 < cut → length cs ≤ n
-    → joined (map (λ (j : WindowJob). j.cells) (jobs_within n cut till place cs)) ≡ cs
+all_cells : (n cut till place : ℕ) (qs : List OwnCell) → 0 < cut → length qs ≤ n
+    → joined (map (λ (j : PlainJob). j.cells) (jobs_within n cut till place qs)) ≡ qs
 all_cells n cut till place [] pos le = refl
-all_cells zero cut till place (c ∷ cs) pos le = absurd (omega arith)
-all_cells (suc n) cut till place (c ∷ cs) pos le = ap (λ l. take cut (c ∷ cs) ++ l)
-    (all_cells n cut till (suc place) (drop cut (c ∷ cs)) pos (shorter cut n c cs pos le)) ∙ take-append-drop cut (c ∷ cs)
+all_cells zero cut till place (q ∷ qs) pos le = absurd (omega arith)
+all_cells (suc n) cut till place (q ∷ qs) pos le = ap (λ l. take cut (q ∷ qs) ++ l)
+    (all_cells n cut till (suc place) (drop cut (q ∷ qs)) pos (shorter cut n q qs pos le)) ∙ take-append-drop cut (q ∷ qs)
 
 pub jobs_are_in_place : JobsAreInPlace
-jobs_are_in_place cut till w pos = (
-  few_jobs (length w.cells) cut till 0 w.cells pos,
-  λ k j h. nth_job (length w.cells) cut till 0 w.cells k j h ∙
-      ap (λ p. record { place = p; till = till; cells = take cut (drop (k * cut) w.cells) }) (zero-add k),
-  all_cells (length w.cells) cut till 0 w.cells pos (le_refl (length w.cells)),
-)
+jobs_are_in_place cut till w pos =
+    let all = own_cells 0 w.cells in (
+      subst (λ n. length (jobs_of cut till w) ≤ n) (length_own_cells 0 w.cells) (few_jobs (length all) cut till 0 all pos),
+      λ k j h. nth_job (length all) cut till 0 all k j h ∙
+          ap (λ p. record { place = p; till = till; cells = take cut (drop (k * cut) all) }) (zero-add k),
+      all_cells (length all) cut till 0 all pos (le_refl (length all)),
+    )
 
 -- ---- the results of jobs
 
-runs_append : (till i : ℕ) (cs : List PlainCell) (qs : List OwnResult) (ds : List PlainCell) (rs : List OwnResult) → AreOwnRuns till i cs qs
-    → AreOwnRuns till (i + length cs) ds rs → AreOwnRuns till i (cs ++ ds) (qs ++ rs)
-runs_append till i [] [] ds rs h g = rw add-zero at g
-runs_append till i (c ∷ cs) (q ∷ qs) ds rs h g = (
-  h.0,
-  runs_append till (suc i) cs qs ds rs h.1
-      (let e : i + suc (length cs) ≡ suc i + length cs = omega arith in subst (λ k. AreOwnRuns till k ds rs) e g),
-)
-runs_append till i [] (q ∷ qs) ds rs h g = absurd h
-runs_append till i (c ∷ cs) [] ds rs h g = absurd h
-
-jobs_run : (n cut till place i : ℕ) (cs : List PlainCell) (rss : List (List OwnResult)) → 0 < cut → length cs ≤ n
-    → AreJobRuns i (jobs_within n cut till place cs) rss → AreOwnRuns till i cs (joined rss)
-jobs_run n cut till place i [] [] pos le h = tt
-jobs_run n cut till place i [] (rs ∷ rss) pos le h = absurd h
-jobs_run zero cut till place i (c ∷ cs) rss pos le h = absurd (omega arith)
-jobs_run (suc n) cut till place i (c ∷ cs) [] pos le h = absurd h
-jobs_run (suc n) cut till place i (c ∷ cs) (rs ∷ rss) pos le h =
-    let all = c ∷ cs in
-    let more = jobs_run n cut till (suc place) (i + length (take cut all)) (drop cut all) rss pos (shorter cut n c cs pos le) h.1 in
-    subst (λ l. AreOwnRuns till i l (rs ++ joined rss)) (take-append-drop cut all)
-    (runs_append till i (take cut all) rs (drop cut all) (joined rss) h.0 more)
+jobs_run : (n cut till place : ℕ) (qs : List OwnCell) (rss : List (List OwnResult)) → 0 < cut → length qs ≤ n
+    → AreJobRuns (jobs_within n cut till place qs) rss → AreRunsOf till qs (joined rss)
+jobs_run n cut till place [] [] pos le h = tt
+jobs_run n cut till place [] (rs ∷ rss) pos le h = absurd h
+jobs_run zero cut till place (q ∷ qs) rss pos le h = absurd (omega arith)
+jobs_run (suc n) cut till place (q ∷ qs) [] pos le h = absurd h
+jobs_run (suc n) cut till place (q ∷ qs) (rs ∷ rss) pos le h =
+    let all = q ∷ qs in
+    let more = jobs_run n cut till (suc place) (drop cut all) rss pos (shorter cut n q qs pos le) h.1 in
+    subst (λ l. AreRunsOf till l (rs ++ joined rss)) (take-append-drop cut all)
+    (zip_append (λ (o : OwnCell) (r : OwnResult). IsOwnRun till o.member o.cell r.rows r.cell) (take cut all) rs (drop cut all)
+    (joined rss) h.0 more)
 
 pub jobs_run_all : JobsRunAll
-jobs_run_all w cut till rss pos h = jobs_run (length w.cells) cut till 0 0 w.cells rss pos (le_refl (length w.cells)) h
+jobs_run_all w cut till rss pos h =
+    let all = own_cells 0 w.cells in
+    jobs_run (length all) cut till 0 all rss pos (le_refl (length all)) h
 
 -- ---- jobs that meet a step without a result
 
@@ -120,30 +131,33 @@ pub get_second : {A : Type 0} (xs ys : List A) (j : ℕ) → slice_get (xs ++ ys
 get_second [] ys j = ap (slice_get ys) (zero-add j)
 get_second (z ∷ xs) ys j = let e : suc (length xs) + j ≡ suc (length xs + j) = omega arith in rw e (get_second xs ys j)
 
-jobs_full : (n cut till place i : ℕ) (cs : List PlainCell) → 0 < cut → length cs ≤ n → SomeJobMeetsFull i (jobs_within n cut till place cs)
-    → SomeMeetsFull till i cs
-jobs_full n cut till place i [] pos le h = absurd h
-jobs_full zero cut till place i (c ∷ cs) pos le h = absurd (omega arith)
-jobs_full (suc n) cut till place i (c ∷ cs) pos le (inl h) = (
+jobs_full : (n cut till place : ℕ) (qs : List OwnCell) → SomeJobMeetsFull (jobs_within n cut till place qs) → SomeMeetsFull till qs
+jobs_full n cut till place [] h = absurd h
+jobs_full zero cut till place (q ∷ qs) h = absurd h
+jobs_full (suc n) cut till place (q ∷ qs) (inl h) = (
   h.0,
   h.1,
-  subst (λ l. slice_get l h.0 ≡ Some h.1) (take-append-drop cut (c ∷ cs))
-      (get_first (take cut (c ∷ cs)) (drop cut (c ∷ cs)) h.0 h.1 h.2),
+  subst (λ l. slice_get l h.0 ≡ Some h.1) (take-append-drop cut (q ∷ qs))
+      (get_first (take cut (q ∷ qs)) (drop cut (q ∷ qs)) h.0 h.1 h.2),
   h.3,
 )
-jobs_full (suc n) cut till place i (c ∷ cs) pos le (inr h) =
-    let all = c ∷ cs in
-    let r = jobs_full n cut till (suc place) (i + length (take cut all)) (drop cut all) pos (shorter cut n c cs pos le) h in
-    let at : i + length (take cut all) + r.0 ≡ i + (length (take cut all) + r.0) = omega arith in (
+jobs_full (suc n) cut till place (q ∷ qs) (inr h) =
+    let all = q ∷ qs in
+    let r = jobs_full n cut till (suc place) (drop cut all) h in (
       length (take cut all) + r.0,
       r.1,
       subst (λ l. slice_get l (length (take cut all) + r.0) ≡ Some r.1) (take-append-drop cut all)
           (get_second (take cut all) (drop cut all) r.0 ∙ r.2),
-      subst (λ m. MeetsFull till m r.1) at r.3,
+      r.3,
     )
 
 pub jobs_refuse : JobsRefuse
-jobs_refuse w cut till pos h = grind (arith, jobs_full)
+jobs_refuse w cut till h =
+    let all = own_cells 0 w.cells in
+    let r = jobs_full (length all) cut till 0 all h in
+    let own = own_cell_at 0 w.cells r.0 r.1 r.2 in
+    let met = subst (λ (q : OwnCell). MeetsFull till q.member q.cell) (sym own.2) r.3 in
+    (r.0, (own.0, own.1, subst (λ m. MeetsFull till m own.0) (zero-add r.0) met))
 
 -- ---- crossings in any order
 

@@ -4,10 +4,11 @@ use Rattle.srm_net.specs.Network.{Network}
 use Rattle.srm_net.specs.Least.{least_delay}
 use Rattle.srm_cell.specs.Setting.{Setting}
 use Rattle.srm_cell.specs.Cells.{Event, before}
+use Rattle.srm_cell.specs.Jobs.{PlainJob}
 use Rattle.srm_model.specs.World.{World, least_event, opening, IsReached}
 use Rattle.srm_model.specs.Schedules.{IsSafe}
 use Rattle.srm_model.specs.Windows.{least_time, width_end, IsFirstQuiet}
-use Rattle.srm_model.specs.WindowRuns.{WindowJob, jobs_of}
+use Rattle.srm_model.specs.WindowRuns.{jobs_of}
 
 -- this event is the least pending one of a world, before `until`
 abbrev pub IsNext : Setting → World → Event → Type 0
@@ -47,6 +48,6 @@ pub data AreWindows (s : Setting) (rule : World → ℕ) : List World → World 
   next_window : {begins : List World} {w v : World} {e : Event} → AreWindows s rule begins w → IsNext s w e
       → IsFirstQuiet s (rule w) w v → AreWindows s rule (begins ++ w ∷ []) v
 
--- the jobs of the windows that begin in these worlds, one list for each window
-abbrev pub window_jobs : (World → ℕ) → ℕ → List World → List (List WindowJob)
+-- the jobs of the windows that begin in these worlds, one list for each window, as a crew is handed them
+abbrev pub window_jobs : (World → ℕ) → ℕ → List World → List (List PlainJob)
 window_jobs rule cut begins = map (λ (w : World). jobs_of cut (rule w) w) begins

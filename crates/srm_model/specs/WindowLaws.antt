@@ -6,15 +6,15 @@ use Rattle.srm_scenario.specs.Accepted.{IsAccepted}
 use Rattle.srm_member.specs.declared.row.Row.{Row}
 use Rattle.srm_cell.specs.Setting.{Setting, IsFit, setting_of}
 use Rattle.srm_cell.specs.Cells.{PlainCell, Event}
-use Rattle.srm_cell.specs.Crossings.{crossings, added_each}
+use Rattle.srm_cell.specs.Jobs.{OwnCell, PlainJob}
+use Rattle.srm_cell.specs.Crossings.{crossings, added_each, joined}
 use Rattle.srm_model.specs.World.{World, row_cmp, IsReached, IsLast, RunMeetsFull}
 use Rattle.srm_model.specs.Schedules.{IsSafe, HasResult, HasNoResult}
 use Rattle.srm_model.specs.Windows.{IsWidth, promise_end, IsFirstQuiet}
-use Rattle.srm_cell.specs.Crossings.{joined}
 use Rattle.srm_model.specs.Hearing.{all_hear}
-use Rattle.srm_model.specs.WindowRuns.{OwnResult, AreOwnRuns, rows_in, cells_in, IsMerge, each_hears, AreNewInTurn}
-use Rattle.srm_model.specs.WindowRuns.{IsWindow, crossings_of_all, WindowJob, jobs_from, jobs_of, AreJobRuns, job_rows}
-use Rattle.srm_model.specs.WindowRuns.{SomeJobMeetsFull}
+use Rattle.srm_model.specs.WindowRuns.{OwnResult, own_cells, AreOwnRuns, rows_in, cells_in, IsMerge, each_hears}
+use Rattle.srm_model.specs.WindowRuns.{AreNewInTurn, IsWindow, crossings_of_all, jobs_from, jobs_of, AreJobRuns}
+use Rattle.srm_model.specs.WindowRuns.{job_rows, SomeJobMeetsFull}
 use Rattle.srm_model.specs.WindowChains.{IsNext, IsOver, start_of, IsEndRule, width_rule, least_width, AreWindows}
 use Rattle.srm_model.specs.WindowChains.{window_jobs}
 
@@ -70,30 +70,30 @@ abbrev pub JobsAreRuns : Type 0
 JobsAreRuns =
     (cut till place : ℕ) → 0 < cut
     → (jobs_from cut till place [] ≡ [])
-    × ((c : PlainCell) (cs : List PlainCell) → jobs_from cut till place (c ∷ cs)
-    ≡ record { place = place; till = till; cells = take cut (c ∷ cs) }
-    ∷ jobs_from cut till (suc place) (drop cut (c ∷ cs)))
+    × ((q : OwnCell) (qs : List OwnCell) → jobs_from cut till place (q ∷ qs)
+    ≡ record { place = place; till = till; cells = take cut (q ∷ qs) }
+    ∷ jobs_from cut till (suc place) (drop cut (q ∷ qs)))
 
 -- the jobs of a window are no more than its cells; job k has place k, this end, and the cells from k times `cut` on, at
--- most `cut` of them; and all jobs together have each cell once, in order
+-- most `cut` of them, each with its member; and all jobs together have each cell once, in order
 abbrev pub JobsAreInPlace : Type 0
 JobsAreInPlace =
     (cut till : ℕ) (w : World) → 0 < cut
     → (length (jobs_of cut till w) ≤ length w.cells)
-    × ((k : ℕ) (j : WindowJob) → slice_get (jobs_of cut till w) k ≡ Some j → j
-    ≡ record { place = k; till = till; cells = take cut (drop (k * cut) w.cells) })
-    × (joined (map (λ (j : WindowJob). j.cells) (jobs_of cut till w)) ≡ w.cells)
+    × ((k : ℕ) (j : PlainJob) → slice_get (jobs_of cut till w) k ≡ Some j → j
+    ≡ record { place = k; till = till; cells = take cut (drop (k * cut) (own_cells 0 w.cells)) })
+    × (joined (map (λ (j : PlainJob). j.cells) (jobs_of cut till w)) ≡ own_cells 0 w.cells)
 
 -- the results of a window's jobs, job after job, are those of all its cells
 abbrev pub JobsRunAll : Type 0
 JobsRunAll =
-    (w : World) (cut till : ℕ) (results : List (List OwnResult)) → 0 < cut → AreJobRuns 0 (jobs_of cut till w) results
+    (w : World) (cut till : ℕ) (results : List (List OwnResult)) → 0 < cut → AreJobRuns (jobs_of cut till w) results
     → AreOwnRuns till 0 w.cells (joined results)
 
 -- where a cell of a job meets a step for which the packet count is used up, a member has no result
 abbrev pub JobsRefuse : Type 0
 JobsRefuse =
-    (w : World) (cut till : ℕ) → 0 < cut → SomeJobMeetsFull 0 (jobs_of cut till w) → (m : ℕ) × HasNoResult till w m
+    (w : World) (cut till : ℕ) → SomeJobMeetsFull (jobs_of cut till w) → (m : ℕ) × HasNoResult till w m
 
 -- crossings do not depend on the order of the rows
 abbrev pub CrossingsKeep : Type 0

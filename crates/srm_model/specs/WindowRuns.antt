@@ -1,26 +1,34 @@
 -- One window: every cell runs alone to an end, the rows are merged, and every cell hears their packets.
-use Rattle.std.specs.Prelude.{◌≡◌, ◌⊎◌, ℕ, ◌+◌, ◌<◌, zero, suc, List, [], ◌∷◌, ◌++◌, map, length, take, drop, Some}
+use Rattle.std.specs.Prelude.{◌≡◌, ◌⊎◌, ℕ, ◌<◌, zero, suc, List, [], ◌∷◌, ◌++◌, map, length, take, drop, Some}
 use Rattle.std.specs.Prelude.{slice_get, IsPermutation, IsSorted}
+use Rattle.std.specs.List.{AllZip}
 use Rattle.srm_net.specs.declared.packet.Packet.{Packet}
 use Rattle.srm_member.specs.declared.row.Row.{Row}
 use Rattle.srm_cell.specs.Setting.{Traffic, Setting}
 use Rattle.srm_cell.specs.Cells.{PlainCell}
 use Rattle.srm_cell.specs.OwnRuns.{IsOwnRun, MeetsFull, hear_rows}
-use Rattle.srm_cell.specs.Crossings.{crossings, added_each}
+use Rattle.srm_cell.specs.Jobs.{OwnCell, PlainJob}
+use Rattle.srm_cell.specs.Crossings.{crossings, added_each, joined}
 use Rattle.srm_model.specs.World.{World, row_cmp}
 use Rattle.srm_model.specs.Hearing.{IsUnheard}
-use Rattle.srm_cell.specs.Crossings.{joined}
 
 -- what a cell's own run gives: its rows, and the cell that it leaves
 pub record OwnResult : Type 0 where
   pub rows : List Row
   pub cell : PlainCell
 
--- the results of the own runs to an end of the cells of member i, member i + 1 and so on
+-- the cells of member i, member i + 1 and so on, each with its member
+abbrev pub own_cells : ℕ → List PlainCell → List OwnCell
+own_cells i [] = []
+own_cells i (c ∷ cs) = record { member = i; cell = c } ∷ own_cells (suc i) cs
+
+-- the results of the own runs to an end of these cells
+abbrev pub AreRunsOf : ℕ → List OwnCell → List OwnResult → Type 0
+AreRunsOf till qs rs = AllZip (λ q r. IsOwnRun till q.member q.cell r.rows r.cell) qs rs
+
+-- the results of the own runs to an end of the cells of member i and on
 abbrev pub AreOwnRuns : ℕ → ℕ → List PlainCell → List OwnResult → Type 0
-AreOwnRuns till i [] [] = Unit {0}
-AreOwnRuns till i (c ∷ cs) (r ∷ rs) = IsOwnRun till i c r.rows r.cell × AreOwnRuns till (suc i) cs rs
-AreOwnRuns till i _ _ = ⊥
+AreOwnRuns till i cs rs = AreRunsOf till (own_cells i cs) rs
 
 -- the rows of each result
 abbrev pub rows_in : List OwnResult → List (List Row)
@@ -69,43 +77,35 @@ crossings_of_all t (rows ∷ lists) = added_each (crossings t rows) (crossings_o
 
 -- ---- jobs
 
--- a job: its place among the window's jobs, its end, and its cells as they are when the window begins
-pub record WindowJob : Type 0 where
-  pub place : ℕ
-  pub till : ℕ
-  pub cells : List PlainCell
-
 -- jobs from a place on, of `cut` cells each, the last one of fewer. There are no more than n
-abbrev pub jobs_within : ℕ → ℕ → ℕ → ℕ → List PlainCell → List WindowJob
+abbrev pub jobs_within : ℕ → ℕ → ℕ → ℕ → List OwnCell → List PlainJob
 jobs_within n cut till place [] = []
-jobs_within zero cut till place (c ∷ cs) = []
-jobs_within (suc n) cut till place (c ∷ cs) =
-    record { place = place; till = till; cells = take cut (c ∷ cs) }
-    ∷ jobs_within n cut till (suc place) (drop cut (c ∷ cs))
+jobs_within zero cut till place (q ∷ qs) = []
+jobs_within (suc n) cut till place (q ∷ qs) =
+    record { place = place; till = till; cells = take cut (q ∷ qs) }
+    ∷ jobs_within n cut till (suc place) (drop cut (q ∷ qs))
 
 -- jobs from a place on, of all these cells
-abbrev pub jobs_from : ℕ → ℕ → ℕ → List PlainCell → List WindowJob
-jobs_from cut till place cells = jobs_within (length cells) cut till place cells
+abbrev pub jobs_from : ℕ → ℕ → ℕ → List OwnCell → List PlainJob
+jobs_from cut till place qs = jobs_within (length qs) cut till place qs
 
--- the jobs of a window: its cells in consecutive runs of `cut`
-abbrev pub jobs_of : ℕ → ℕ → World → List WindowJob
-jobs_of cut till w = jobs_from cut till 0 w.cells
+-- the jobs of a window: its cells, as they are when it begins, in consecutive runs of `cut`
+abbrev pub jobs_of : ℕ → ℕ → World → List PlainJob
+jobs_of cut till w = jobs_from cut till 0 (own_cells 0 w.cells)
 
--- the results of the jobs' cells, job after job, of which the first has the cells of member i and on
-abbrev pub AreJobRuns : ℕ → List WindowJob → List (List OwnResult) → Type 0
-AreJobRuns i [] [] = Unit {0}
-AreJobRuns i (j ∷ js) (rs ∷ rss) = AreOwnRuns j.till i j.cells rs × AreJobRuns (i + length j.cells) js rss
-AreJobRuns i _ _ = ⊥
+-- the results of the jobs' cells, job after job
+abbrev pub AreJobRuns : List PlainJob → List (List OwnResult) → Type 0
+AreJobRuns js rss = AllZip (λ (j : PlainJob) rs. AreRunsOf j.till j.cells rs) js rss
 
 -- the rows of each job, one cell's after the other's
 abbrev pub job_rows : List (List OwnResult) → List (List Row)
 job_rows rss = map (λ (rs : List OwnResult). joined (rows_in rs)) rss
 
--- one of the cells of member i and on meets, in its own run to an end, a step for which the packet count is used up
-abbrev pub SomeMeetsFull : ℕ → ℕ → List PlainCell → Type 0
-SomeMeetsFull till i cs = (j : ℕ) × (c : PlainCell) × (slice_get cs j ≡ Some c) × MeetsFull till (i + j) c
+-- one of the cells meets, in its own run to an end, a step for which the packet count is used up
+abbrev pub SomeMeetsFull : ℕ → List OwnCell → Type 0
+SomeMeetsFull till qs = (j : ℕ) × (q : OwnCell) × (slice_get qs j ≡ Some q) × MeetsFull till q.member q.cell
 
--- so does a cell of one of the jobs, of which the first has the cells of member i and on
-abbrev pub SomeJobMeetsFull : ℕ → List WindowJob → Type 0
-SomeJobMeetsFull i [] = ⊥
-SomeJobMeetsFull i (j ∷ js) = SomeMeetsFull j.till i j.cells ⊎ SomeJobMeetsFull (i + length j.cells) js
+-- so does a cell of one of the jobs
+abbrev pub SomeJobMeetsFull : List PlainJob → Type 0
+SomeJobMeetsFull [] = ⊥
+SomeJobMeetsFull (j ∷ js) = SomeMeetsFull j.till j.cells ⊎ SomeJobMeetsFull js

@@ -16,7 +16,6 @@ use Rattle.srm_engine.specs.Streams.{TakesTraceFront}
 use Rattle.srm_model.specs.World.{World, IsOutcome, RunMeetsFull}
 use Rattle.srm_model.specs.WindowChains.{AreWindows}
 use Rattle.srm_model.specs.WindowRuns.{jobs_of}
-use Rattle.srm_engine.specs.Groups.{handed_jobs}
 use Rattle.srm_engine.specs.Outcomes.{HoldOpeningRecords}
 use Rattle.srm_engine.specs.Windowed.{IsCut, MayBeWide, PassesShare, rule_of}
 use Rattle.srm_report.specs.Listings.{Form, text_in}
@@ -38,7 +37,7 @@ abbrev pub PassesShareAtWindow : Setting → Network → Options → Type 0
 PassesShareAtWindow s net o =
     let rule = rule_of s net o.width in
     (begins : List World) × (w : World) × AreWindows s rule begins w
-    × PassesShare s.traffic w.trace (handed_jobs 0 (jobs_of o.cut (rule w) w))
+    × PassesShare s.traffic w.trace (jobs_of o.cut (rule w) w)
 
 -- the refusals that the engine brings: a cut and a width that may not be are refused by a run in windows, the cut
 -- first, and by no other run; and only a run in windows is refused for a share

@@ -4,11 +4,11 @@ use Rattle.srm_scenario.specs.Plain.{PlainScenario}
 use Rattle.srm_member.specs.declared.row.Row.{Row}
 use Rattle.srm_cell.specs.Setting.{setting_of}
 use Rattle.srm_model.specs.World.{opening, IsLast}
-use Rattle.srm_model.specs.WindowChains.{AreWindows}
+use Rattle.srm_model.specs.WindowChains.{AreWindows, window_jobs}
 use Rattle.srm_engine.specs.declared.ends.Ends.{Ends}
 use Rattle.srm_engine.specs.Streams.{TellsHalt}
 use Rattle.srm_engine.specs.RowRuns.{MayLackWindow}
-use Rattle.srm_engine.specs.Windowed.{MayCome, calls_for, rule_of}
+use Rattle.srm_engine.specs.Windowed.{MayCome, rule_of}
 use Rattle.srm_engine.proofs.Stepping.{opening_reached, opening_trace}
 use Rattle.srm_engine.proofs.StreamLemmas.{halted_front, uncalled}
 use Rattle.srm_engine.proofs.WindowLemmas.{as_asked, halts_refuse, windows_undone}
@@ -100,6 +100,6 @@ returns-in-Ok-stream-clause-windows g c = λ seed h.
           (c.in-Ok-stream.ensures.frame ∙ c.in-Ok-open.ensures.frame) c.in-Ok.ensures t.2.windows,
       as_asked (λ s rule cut. IsLast s t.1) c.in-Ok-open.opened c.args.start.scenario.now c.args.start.net.now c.in-Ok.cutting
           c.args.asked seed c.in-Ok-open.ensures.frame c.in-Ok.ensures t.3,
-      as_asked (λ s rule cut. g.C.Crew.handed c.args.crew.now (calls_for rule cut t.0) c.stream.new.crew) c.in-Ok-open.opened
+      as_asked (λ s rule cut. g.C.Crew.handed c.args.crew.now (window_jobs rule cut t.0) c.stream.new.crew) c.in-Ok-open.opened
           c.args.start.scenario.now c.args.start.net.now c.in-Ok.cutting c.args.asked seed c.in-Ok-open.ensures.frame c.in-Ok.ensures t.5,
     )

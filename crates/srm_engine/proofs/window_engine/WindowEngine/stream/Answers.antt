@@ -6,7 +6,7 @@ use Rattle.srm_cell.specs.Setting.{setting_of}
 use Rattle.srm_model.specs.World.{opening, IsReached, IsLast}
 use Rattle.srm_engine.specs.declared.ends.Ends.{Ends}
 use Rattle.srm_engine.specs.Ends.{ends_rule}
-use Rattle.srm_engine.specs.Windowed.{MayCome, calls_for}
+use Rattle.srm_engine.specs.Windowed.{MayCome}
 use Rattle.srm_engine.specs.WindowEngines.{HandsLists, setting_by, rule_by, lists_in}
 use Rattle.srm_engine.specs.declared.halt.Halt.{Halt}
 use Rattle.srm_engine.specs.declared.halt.Halt.TheVariants as halt
@@ -16,8 +16,10 @@ use Rattle.srm_engine.specs.Streams.{TellsHalt}
 use Rattle.srm_cell.specs.Setting.{Setting}
 use Rattle.srm_model.specs.World.{World}
 use Rattle.srm_model.specs.WindowRuns.{IsMerge}
+use Rattle.srm_model.specs.WindowChains.{window_jobs}
+use Rattle.srm_model.proofs.WindowChain.{calls_follow}
 use Rattle.srm_engine.proofs.Stepping.{opening_reached, opening_trace}
-use Rattle.srm_engine.proofs.WindowLemmas.{reached, next, is_last, call_more}
+use Rattle.srm_engine.proofs.WindowLemmas.{reached, next, is_last}
 use Rattle.srm_engine.proofs.window_engine.WindowEngine.stream.Goals as goal
 
 pub returns-in-Err-clause-windows : goal.returns-in-Err-clause-windows
@@ -143,7 +145,7 @@ loop-begin-preserved g c = record {
       let both = c.in-Ok.ensures.window seed i.0 i.1 i.2 in
       let told = both.0 given.0 given.1 in
       let rule = rule_by e seed in
-      let calls = subst (λ l. g.C.Crew.handed c.args.crew.now l c.window.new.crew) (sym (call_more rule e.groups.cut i.0 i.1))
+      let calls = subst (λ l. g.C.Crew.handed c.args.crew.now l c.window.new.crew) (sym ((calls_follow rule e.groups.cut).1 i.0 i.1))
       (g.met.C.Crew.handed_more _ _ _ _ _ i.4 both.1) in (
         i.0 ++ i.1 ∷ [],
         told.0,
@@ -151,7 +153,7 @@ loop-begin-preserved g c = record {
         subst (λ (l : List Row). g.S.RowSink.took c.args.sink.now l c.hand_lists.new.sink) (sym told.2)
             (g.met.S.RowSink.took_more c.args.sink.now c.loop-begin.sink c.hand_lists.new.sink i.1.trace given.0 i.3 given.2),
         subst (λ (k : PlainScenario × Network × ℕ × Ends). g.C.Crew.handed c.args.crew.now
-            (calls_for (ends_rule (setting_of k.0 k.1 seed) k.3) k.2 (i.0 ++ i.1 ∷ [])) c.window.new.crew) (sym c.in-Ok.ensures.frame)
+            (window_jobs (ends_rule (setting_of k.0 k.1 seed) k.3) k.2 (i.0 ++ i.1 ∷ [])) c.window.new.crew) (sym c.in-Ok.ensures.frame)
             calls,
       );
 }
@@ -171,7 +173,7 @@ returns-clause-windows g c = λ seed h.
       subst (λ (k : PlainScenario × Network × ℕ × Ends). IsLast (setting_of k.0 k.1 seed) i.1) v.frame last,
       i.3,
       subst (λ (k : PlainScenario × Network × ℕ × Ends). g.C.Crew.handed c.args.crew.now
-          (calls_for (ends_rule (setting_of k.0 k.1 seed) k.3) k.2 i.0) c.loop-begin.crew) v.frame i.4,
+          (window_jobs (ends_rule (setting_of k.0 k.1 seed) k.3) k.2 i.0) c.loop-begin.crew) v.frame i.4,
     )
 
 pub returns-in-Err-hand_lists-clause-device : goal.returns-in-Err-hand_lists-clause-device

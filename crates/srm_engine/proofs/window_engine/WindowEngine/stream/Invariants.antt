@@ -1,7 +1,7 @@
 use Rattle.std.proofs.Common.{◌≡◌, ℕ, ◌-◌, List}
 use Rattle.srm_interfaces.specs.declared.sink.Stage.TheVariants.{Live}
 use Rattle.srm_model.specs.World.{World}
-use Rattle.srm_engine.specs.Windowed.{calls_for}
+use Rattle.srm_model.specs.WindowChains.{window_jobs}
 use Rattle.srm_engine.specs.WindowEngines.{IsUnderWay, BeginsNext, OpensAt, ComesTo, frame_of, rule_by}
 use Rattle.srm_engine.proofs.window_engine.WindowEngine.stream.Given as goal
 
@@ -19,7 +19,7 @@ invariant-loop-begin g l = record {
   windows : (seed : ℕ) → OpensAt g.M.Participant.plain seed l.fn.self
       → (begins : List World) × (w : World) × ComesTo g.M.Participant.plain seed l.engine begins w
       × g.S.RowSink.took l.fn.sink w.trace l.sink
-      × g.C.Crew.handed l.fn.crew (calls_for (rule_by l.engine seed) l.engine.groups.cut begins) l.crew;
+      × g.C.Crew.handed l.fn.crew (window_jobs (rule_by l.engine seed) l.engine.groups.cut begins) l.crew;
 }
 
 abbrev pub decreases-loop-begin : goal.decreases-loop-begin

@@ -6,7 +6,7 @@ use Rattle.srm_model.proofs.OneWindow.{some_merge}
 use Rattle.srm_net.specs.Orders.{ordered}
 use Rattle.srm_member.specs.declared.row.Row.{Row}
 use Rattle.std.specs.Global.{Vec}
-use Rattle.srm_engine.specs.Groups.{handed_jobs, all_in, sizes, lists_of, some_of, AreCuts, AreGrouped, AreKept}
+use Rattle.srm_engine.specs.Groups.{all_in, sizes, lists_of, some_of, AreCuts, AreGrouped, AreKept}
 use Rattle.srm_engine.specs.WindowEngines.{setting_by, lists_in}
 use Rattle.srm_engine.proofs.SoonGroups.{as_many_kept}
 use Rattle.srm_engine.proofs.WindowLemmas.{jobs_tell, jobs_tell_now, mapped, ran_now, of_a_window, map_refused, end_is}
@@ -36,13 +36,13 @@ unwrap-requires g c = rw c.of.ensures (of_a_window c.in-Err.fault (λ spent.
     let w = c.requires.stands.world in
     let j = jobs_tell_now g.M.Participant.plain c.args.self c.requires.stands c.end-end.result
     c.end-end.ensures c.in_ok-jobs.jobs.items c.in_ok-jobs.ensures in
-    j.not_spent (rw spent at c.in-Err.ensures.done.tells (handed_jobs 0 (jobs_of c.args.self.groups.cut c.end-end.result w)) j.seen)))
+    j.not_spent (rw spent at c.in-Err.ensures.done.tells (jobs_of c.args.self.groups.cut c.end-end.result w) j.seen)))
 
 pub returns-in-Err-clause-window : goal.returns-in-Err-clause-window
 returns-in-Err-clause-window g c = λ seed begins w comes.
     let j = jobs_tell g.M.Participant.plain c.args.self c.requires.stands seed begins w comes
     c.end-end.result c.end-end.ensures c.in_ok-jobs.jobs.items c.in_ok-jobs.ensures in
-    let told = c.in-Err.ensures.done.tells (handed_jobs 0 (jobs_of c.args.self.groups.cut c.end-end.result w)) j.seen in
+    let told = c.in-Err.ensures.done.tells (jobs_of c.args.self.groups.cut c.end-end.result w) j.seen in
     map_refused g.M.Participant.plain c.args.self seed c.end-end.result w c.in_ok-jobs.jobs.items j c.in-Err.fault
     c.unwrap.result (sym c.of.ensures ∙ c.unwrap.ensures) told
 
@@ -132,10 +132,10 @@ returns-clause-window g c = λ seed begins w comes.
             },
             refl,
           ),
-      subst (λ n. g.C.Crew.handed c.args.crew.now (handed_jobs 0 (jobs_of cut n w) ∷ []) c.heard_by.new.crew) end_at
+      subst (λ n. g.C.Crew.handed c.args.crew.now (jobs_of cut n w ∷ []) c.heard_by.new.crew) end_at
           (g.met.C.Crew.handed_more c.args.crew.now c.map.new.self c.heard_by.new.crew
-          (handed_jobs 0 (jobs_of cut c.end-end.result w) ∷ []) [] (c.in-Ok.ensures.handed (handed_jobs 0
-          (jobs_of cut c.end-end.result w)) j.seen) c.heard_by.ensures.handed),
+          (jobs_of cut c.end-end.result w ∷ []) [] (c.in-Ok.ensures.handed (jobs_of cut c.end-end.result w) j.seen)
+          c.heard_by.ensures.handed),
     )
 
 pub returns-clause-stands : goal.returns-clause-stands
