@@ -57,9 +57,9 @@ abbrev pub MayLackWindow : (Setting → World → ℕ) → ℕ → Setting → W
 MayLackWindow rule cut s w = MayCome s (rule s) cut w window.NoMemory
 
 module _ {S : Type 0} (stage : S → Stage) (took part : S → List Row → S → Type 0) where
-  -- where memory is refused to a run that hands its rows to a sink, it left something undone: the sink was not called;
-  -- or the sink took the rows of a world of the run, from which on there is something to do; or the sink refused, and
-  -- took no more than a front of the trace
+  -- where memory is refused to a run that hands its rows to a sink, it left something undone: the sink is as it was; or
+  -- the sink took the rows of a world of the run, from which on memory may be refused; or memory was refused to the
+  -- sink, which took no more than a front of the trace
   abbrev pub IsUndone : (World → Type 0) → Setting → S → S → Type 0
   IsUndone may_lack s old new =
       (new ≡ old)

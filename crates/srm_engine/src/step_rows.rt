@@ -22,7 +22,7 @@ use std::alloc::Global;
 /// # Errors
 /// As of [`step_stream`](crate::step_stream::step_stream), but `Run` with `NoMemory` only where something is left undone: the sink is
 /// as it was; or it took the rows so far, and there is a step to take, or there were 2^62 rows; or it was itself refused memory. So
-/// memory is refused to no run of fewer rows whose sink took the last one and refused nothing.
+/// memory is refused to no run of fewer rows once a sink that tells its rows apart took the last one and refused nothing.
 ///
 /// The boxes are then gone, and the sink stands as after `step_stream`.
 pub fn step_rows<S: RowSink>(

@@ -26,7 +26,7 @@ use std::alloc::Global;
 /// # Errors
 /// As met: `Stopped`, exactly where the device under the sink failed, with the number that the sink told; `Run` with `CountFull`,
 /// only where the run comes to a member that is to send a packet with its packet count used up; `Run` with `NoMemory`, also where
-/// memory was refused to the sink, or the run would have more than 2^62 rows.
+/// memory was refused to the sink, or there were 2^62 rows.
 ///
 /// The boxes are then gone. The sink took no more than a front of the trace; after `Stopped` it stands refused, and its count of
 /// failures is one higher.

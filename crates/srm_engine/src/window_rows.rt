@@ -27,7 +27,7 @@ use std::alloc::Global;
 /// # Errors
 /// As of [`window_stream`](crate::window_stream::window_stream), but `Run` with `NoMemory` only where something is left undone: the
 /// sink is as it was; or it took the rows so far, and a window is to come; or it was itself refused memory. So memory is refused to
-/// no run whose sink took the last row and refused nothing.
+/// no run once a sink that tells its rows apart took the last one and refused nothing.
 ///
 /// The members are then gone, and the sink stands as after `window_stream`.
 pub fn window_rows<M: Participant, C: Crew<M>, S: RowSink>(

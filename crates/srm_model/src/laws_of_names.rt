@@ -23,7 +23,8 @@ pub fn repairs_are_of_held()
 /// one, the request and the repair are handed once to the other member, and never to their sender.
 pub fn a_loss_is_repaired()
     ensures handed { handings (one_loss 1000)
-        ((0, 0, 1) ∷ (0, 1, 1) ∷ (0, 1, 0) ∷ (1, 0, 0) ∷ (0, 2, 1) ∷ (0, 3, 1) ∷ []) ≡ 0 ∷ 1 ∷ 0 ∷ 1 ∷ 1 ∷ 0 ∷ [] }
+        ((0, 0, 1) ∷ (0, 0, 0) ∷ (0, 1, 1) ∷ (0, 1, 0) ∷ (1, 0, 0) ∷ (1, 0, 1) ∷ (0, 2, 1) ∷ (0, 2, 0) ∷ (0, 3, 1) ∷ [])
+        ≡ 0 ∷ 0 ∷ 1 ∷ 0 ∷ 1 ∷ 0 ∷ 1 ∷ 0 ∷ 0 ∷ [] }
     ensures ends { ends (one_loss 1000) ≡ an_exit 0 ((first_name, 7) ∷ (second_name, 8) ∷ []) []
         ∷ an_exit 1 ((first_name, 7) ∷ (second_name, 8) ∷ []) [] ∷ [] }
 {}
