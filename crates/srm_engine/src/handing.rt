@@ -27,8 +27,8 @@ pub(crate) fn hand_none<S: RowSink>(alloc: Global, sink: &mut S) -> Result<(), S
     sink.rows(alloc, Vec::new(alloc))
 }
 
-/// Hands a sink the rows of all lists, each of which is in order: all of them in order of their keys, or list after list where their
-/// order is of no matter to it.
+/// Hands a sink the rows of all lists, each of which is in order: all of them in order of their keys, or list after list where
+/// their order is of no matter to it.
 pub(crate) fn hand_lists<S: RowSink>(
     alloc: Global,
     sink: &mut S,

@@ -13,16 +13,17 @@ use srm_interfaces::sink::RowSink;
 use srm_ledger::totals::Totals;
 use std::alloc::Global;
 
-/// The sequential run of a scenario, its rows handed to a sink as [`step_stream`](crate::step_stream::step_stream) hands them on. What
-/// is answered are the crossings and drops of the trace's packets. The members are dropped, and not asked what they end with: once the
-/// sink took the last row, no memory is asked for.
+/// The sequential run of a scenario, its rows handed to a sink as [`step_stream`](crate::step_stream::step_stream) hands them
+/// on. What is answered are the crossings and drops of the trace's packets. The members are dropped, and not asked what they
+/// end with: once the sink took the last row, no memory is asked for.
 ///
 /// There is one box for each member, in order of their numbers, each holding its opening record for this scenario and one seed.
 ///
 /// # Errors
-/// As of [`step_stream`](crate::step_stream::step_stream), but `Run` with `NoMemory` only where something is left undone: the sink is
-/// as it was; or it took the rows so far, and there is a step to take, or there were 2^62 rows; or it was itself refused memory. So
-/// memory is refused to no run of fewer rows once a sink that tells its rows apart took the last one and refused nothing.
+/// As of [`step_stream`](crate::step_stream::step_stream), but `Run` with `NoMemory` only where something is left undone: the
+/// sink is as it was; or it took the rows so far, and there is a step to take, or there were 2^62 rows; or it was itself
+/// refused memory. So memory is refused to no run of fewer rows once a sink that tells its rows apart took the last one and
+/// refused nothing.
 ///
 /// The boxes are then gone, and the sink stands as after `step_stream`.
 pub fn step_rows<S: RowSink>(

@@ -13,7 +13,7 @@ use srm_net::net::Net;
 use srm_scenario::scenario::Scenario;
 use std::alloc::Global;
 
-/// The sequential run of a scenario: its least pending event is taken, one after the other, until nothing is pending before the end.
+/// The sequential run of a scenario: its least pending event is taken, one after another, until none is pending before the end.
 ///
 /// There is one box for each member, in order of their numbers, each holding its opening record for this scenario and one seed.
 ///

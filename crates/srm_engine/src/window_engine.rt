@@ -83,8 +83,8 @@ impl<'a, M: Participant> WindowEngine<'a, M> {
         })
     }
 
-    /// The whole run in windows, as is asked for, its rows handed to a sink: first none, and then those of each window as it ends. After
-    /// the last of them it asks for no memory.
+    /// The whole run in windows, as is asked for, its rows handed to a sink: first none, and then those of each window as it
+    /// ends. After the last of them it asks for no memory.
     pub(crate) fn run<C: Crew<M>, S: RowSink>(
         alloc: Global,
         start: Start<'a, M>,
@@ -153,8 +153,8 @@ impl<'a, M: Participant> WindowEngine<'a, M> {
             .end(self.groups.soon.as_slice(), begin, self.scenario.until())
     }
 
-    /// The window that begins at this tick: every cell runs alone to its end, and then hears the packets of all rows. Gives the lists of
-    /// rows that are not empty, each in order of their keys.
+    /// The window that begins at this tick: every cell runs alone to its end, and then hears the packets of all rows. Gives the
+    /// lists of rows that are not empty, each in order of their keys.
     fn window<C: Crew<M>>(
         self,
         alloc: Global,
@@ -204,8 +204,8 @@ impl<'a, M: Participant> WindowEngine<'a, M> {
         Ok((engine, lists))
     }
 
-    /// Windows, one after the other, until nothing is pending before the end of the run. Their rows are handed to a sink: first none,
-    /// and then those of each window as it ends.
+    /// Windows, one after the other, until nothing is pending before the end of the run. Their rows are handed to a sink: first
+    /// none, and then those of each window as it ends.
     pub(crate) fn stream<C: Crew<M>, S: RowSink>(
         self,
         alloc: Global,

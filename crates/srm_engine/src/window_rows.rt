@@ -18,9 +18,10 @@ use srm_ledger::totals::Totals;
 use srm_member::participant::Participant;
 use std::alloc::Global;
 
-/// The run of a scenario in windows of time, its rows handed to a sink as [`window_stream`](crate::window_stream::window_stream) hands
-/// them on. What is answered are the crossings and drops of the trace's packets: those of the sequential run, as the trace is. The
-/// members are dropped, and not asked what they end with: once the sink took the last row, no memory is asked for.
+/// The run of a scenario in windows of time, its rows handed to a sink as
+/// [`window_stream`](crate::window_stream::window_stream) hands them on. What is answered are the crossings and drops of the
+/// trace's packets: those of the sequential run, as the trace is. The members are dropped, and not asked what they end with:
+/// once the sink took the last row, no memory is asked for.
 ///
 /// There is one member of type `M` for each number, in order, each holding its opening record for this scenario and one seed.
 ///

@@ -20,10 +20,10 @@ use srm_net::net::Net;
 use srm_scenario::scenario::Scenario;
 use std::alloc::Global;
 
-/// The run of a scenario in windows of time, as `window_run`'s, its rows handed to a sink as they come: first none, and then those of
-/// each window, in order, once it has ended; to a sink that takes rows in any order, list after list. So no more than one window's
-/// rows are in memory at once. What is answered are the exits of the members, in order of their numbers, and the crossings and drops
-/// of the trace's packets: those of the sequential run, as the trace is.
+/// The run of a scenario in windows of time, as `window_run`'s, its rows handed to a sink as they come: first none, and then
+/// those of each window, in order, once it has ended; to a sink that takes rows in any order, list after list. So no more than
+/// one window's rows are in memory at once. What is answered are the exits of the members, in order of their numbers, and the
+/// crossings and drops of the trace's packets: those of the sequential run, as the trace is.
 ///
 /// There is one member of type `M` for each number, in order, each holding its opening record for this scenario and one seed. After
 /// an error the members are gone, and the sink has taken no more than a front of the trace.
