@@ -7,8 +7,9 @@ import pathlib
 import sys
 import tempfile
 import threading
+import time
 import unittest
-from collections.abc import Iterable, Mapping
+from collections.abc import Callable, Iterable, Mapping
 from unittest import mock
 
 sys.dont_write_bytecode = True
@@ -137,6 +138,20 @@ class Gate(unittest.TestCase):
         for proved, want in (("", ["low"]), ("low", ["low", "long"]), ("low long", ["low", "long"]), ("low long short", names)):
             self.assertEqual(gate.ready(DIAMOND, names, set(proved.split())), want)
 
+    def begin(self, said: Iterable[str], wait: Callable[[], int], try_crate: Callable[..., must_fail.Tried]) -> None:
+        """Has the gate run such an `rt ci` over the diamond on two processors, and try such edits of two crates."""
+        proofs = mock.Mock(spec=watch.Watch, spent={}, lines=lambda: iter(said), wait=wait)
+        proofs.seconds = lambda *_: 0.0
+        for where, name, what in (
+            (gate.os, "sched_getaffinity", lambda _: {0, 1}),
+            (gate.watch, "Watch", lambda *_, **__: proofs),
+            (gate, "crates_in", lambda _: DIAMOND),
+            (gate.must_fail, "with_edits", lambda _: ["long", "short"]),
+            (gate.must_fail, "edits_of", lambda _: ["a"]),
+            (gate.must_fail, "try_crate", try_crate),
+        ):
+            self.enterContext(mock.patch.object(where, name, what))
+
     def test_edits_have_one_processor_fewer_until_the_proofs_have_ended(self) -> None:
         both, have_ended, begun = threading.Barrier(2, timeout=60), threading.Event(), threading.Semaphore(0)
 
@@ -151,18 +166,44 @@ class Gate(unittest.TestCase):
             return must_fail.Tried(name, {"a": (True, "refused")}, 1, 1.0)
 
         said = [f"rt: {it} proved\n" for it in ("low", "short", "long", "top")]
-        proofs = mock.Mock(spec=watch.Watch, spent={}, lines=lambda: iter([*said, "4 passed, 0 failed\n"]), wait=wait)
-        proofs.seconds = lambda *_: 0.0
-        for where, name, what in (
-            (gate.os, "sched_getaffinity", lambda _: {0, 1}),
-            (gate.watch, "Watch", lambda *_, **__: proofs),
-            (gate, "crates_in", lambda _: DIAMOND),
-            (gate.must_fail, "with_edits", lambda _: ["long", "short"]),
-            (gate.must_fail, "edits_of", lambda _: ["a"]),
-            (gate.must_fail, "try_crate", try_crate),
-        ):
-            self.enterContext(mock.patch.object(where, name, what))
-        self.assertEqual(gate.gate(TOP, mock.Mock(spec=gate.Log)), (6, 0))
+        self.begin([*said, "4 passed, 0 failed\n"], wait, try_crate)
+        self.assertEqual(gate.gate(TOP, mock.Mock(spec=gate.Log), lambda: 0), (6, 0))
+
+    def test_what_comes_after_the_proofs_runs_beside_the_edits(self) -> None:
+        is_after = threading.Event()
+
+        def try_crate(_: pathlib.Path, name: str, *__: int) -> must_fail.Tried:
+            return must_fail.Tried(name, {"a": (is_after.wait(60), "refused")}, 1, 1.0)
+
+        def after() -> int:
+            is_after.set()
+            return 3
+
+        self.begin([*(f"rt: {it} proved\n" for it in DIAMOND), "4 passed, 0 failed\n"], lambda: 0, try_crate)
+        self.assertEqual(gate.gate(TOP, mock.Mock(spec=gate.Log), after), (6, 1))
+
+    def test_nothing_comes_after_proofs_that_failed(self) -> None:
+        for line, status, want in (("3 passed, 1 failed\n", 1, (3, 3)), ("4 passed, 0 failed\n", 2, (4, 3))):
+            self.begin([line], mock.Mock(return_value=status), self.fail)
+            self.assertEqual(gate.gate(TOP, mock.Mock(spec=gate.Log), self.fail), want)
+
+    def test_room_comes_first_to_the_highest_rank(self) -> None:
+        room, came = gate.Room(1), list[int]()
+
+        def come(rank: int) -> None:
+            with room.taken(rank):
+                came.append(rank)
+
+        those = [threading.Thread(target=come, args=(rank,)) for rank in (3, 7, 5, 7)]
+        with room.taken(4):
+            for it in those:
+                it.start()
+            until = time.monotonic() + 60
+            while len(room.waiting) < len(those) and time.monotonic() < until:
+                time.sleep(0.01)
+        for it in those:
+            it.join(60)
+        self.assertEqual(came, [7, 7, 5, 3])
 
     def test_the_copy_has_no_edits_and_nothing_built_and_each_proof(self) -> None:
         kept = ["crates/low/proofs/pair/out/Answers.antt", "crates/low/src/lib.rt", "docs/out/page.md"]

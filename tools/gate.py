@@ -5,19 +5,22 @@ usage: tools/gate.py [-- COMMAND ..]
 
 Runs `rt ci` on a copy of the repository that has no must-fail edits, so every proof, each test and each program from nothing.
 Once the crates below a crate are proved there, its edits are tried beside the proofs, many in one check (tools/must_fail.py),
-with less right to the processors. Hands on all that `rt ci` prints, and keeps it in out/gate.log too. Then come a line for
-each edit, the table of times, and each line that tells what failed once more. Where nothing failed, the programs that `rt ci`
-built are copied to crates/NAME/out/, and the command is run, which may use them. The last line is 'N passed, M failed', of
-crates and edits, and a command that fails. Ends with the first status that is not 0. The environment's RT is the command to
-call in place of `rt`.
+with less right to the processors. Hands on all that `rt ci` prints, and keeps it in out/gate.log too. Where `rt ci` ends well,
+the programs that it built are copied to crates/NAME/out/, and the command is run, which may use them, beside the edits that are
+left. Then come a line for each edit, the table of times, and each line that tells what failed once more. The last line is
+'N passed, M failed', of crates and edits, and a command that fails. Ends with status 1 where anything failed. The environment's
+RT is the command to call in place of `rt`.
 
 `rt ci` begins a proof only where the most memory that it may take is free, so that a long one may wait for others, and
 processors stand idle. Where 5 GB are free for each processor, RT_JOBS is set to the number of processors, if the environment
 has none: so many proofs are then run side by side. Edits are tried of one crate fewer at a time until `rt ci` has ended, and of
-as many after that. Those of the crate that is begun last are tried in parts, side by side.
+as many after that. Of the crates whose edits wait for room, the one that crates.txt lists last comes first, since its edits take
+longest. Those of the crate that is begun last are tried in parts, side by side.
 """
 import argparse
+import contextlib
 import functools
+import heapq
 import os
 import pathlib
 import re
@@ -27,7 +30,7 @@ import sys
 import tempfile
 import threading
 import time
-from collections.abc import Callable, Iterable, Mapping
+from collections.abc import Callable, Iterable, Iterator, Mapping
 from concurrent.futures import Future, ThreadPoolExecutor
 from typing import Any
 
@@ -144,8 +147,40 @@ def ready(crates: Mapping[str, Crate], names: Iterable[str], proved: set[str]) -
     return [it for it in names if proved.issuperset(below(crates, it))]
 
 
-def gate(tree: pathlib.Path, log: Log) -> tuple[int, int]:
-    """Proves the copy of the repository and tries the edits, and gives how many crates and edits passed and failed."""
+class Room:
+    """Room for so many at a time: of those that wait for it, the one of the highest rank comes first."""
+
+    def __init__(self, places: int) -> None:
+        self.places = places
+        self.waiting: list[int] = []
+        self.changed = threading.Condition()
+
+    @contextlib.contextmanager
+    def taken(self, rank: int) -> Iterator[None]:
+        """Waits for a place, and holds it."""
+        with self.changed:
+            heapq.heappush(self.waiting, -rank)
+            self.changed.wait_for(lambda: self.places > 0 and self.waiting[0] == -rank)
+            heapq.heappop(self.waiting)
+            self.places -= 1
+            self.changed.notify_all()
+        try:
+            yield
+        finally:
+            self.widen()
+
+    def widen(self) -> None:
+        """Gives a place more."""
+        with self.changed:
+            self.places += 1
+            self.changed.notify_all()
+
+
+def gate(tree: pathlib.Path, log: Log, after: Callable[[], int]) -> tuple[int, int]:
+    """Proves the copy of the repository and tries the edits, and gives how many crates and edits passed and failed.
+
+    Where the proofs end well, `after` is called beside the edits that are left, and a status of it that is not 0 has failed too.
+    """
     began = time.monotonic()
     processors = len(os.sched_getaffinity(0))
     environment = side_by_side(os.environ, processors, free_memory())
@@ -156,13 +191,13 @@ def gate(tree: pathlib.Path, log: Log) -> tuple[int, int]:
     proved: set[str] = set()
     begun: dict[str, list[Future[must_fail.Tried]]] = {}
     at_once = max(1, processors - 1)
-    room = threading.Semaphore(at_once)
+    room = Room(at_once)
 
     def try_part(name: str, part: int, parts: int) -> must_fail.Tried:
-        with room:
+        with room.taken(list(crates).index(name)):
             return must_fail.try_crate(tree, name, part, parts)
 
-    with ThreadPoolExecutor(processors) as pool:
+    with ThreadPoolExecutor(len(left) + at_once) as pool:
 
         def begin(*those: str) -> None:
             proved.update(those)
@@ -173,9 +208,10 @@ def gate(tree: pathlib.Path, log: Log) -> tuple[int, int]:
 
         begin()
         passed, failed = proofs(running, log, begin)
-        status = running.wait()
+        failed += running.wait() != 0 and failed == 0
         if processors > at_once:
-            room.release()
+            room.widen()
+        failed += failed == 0 and after() != 0
         tried = [must_fail.of_parts([it.result() for it in begun[crate]]) for crate in left if crate in begun]
     for line in [line for it in tried for line in it.lines()]:
         log.say(line)
@@ -183,7 +219,7 @@ def gate(tree: pathlib.Path, log: Log) -> tuple[int, int]:
         log.say(line)
     refused = sum(it.refused() for it in tried)
     every = sum(len(must_fail.edits_of(TOP / "crates" / it)) for it in left)
-    return passed + refused, failed + every - refused + (status != 0 and failed == 0)
+    return passed + refused, failed + every - refused
 
 
 def main() -> None:
@@ -193,17 +229,16 @@ def main() -> None:
     log = Log(TOP / "out" / "gate.log")
     with tempfile.TemporaryDirectory(prefix="srm-gate-") as folder:
         tree = copied(TOP, folder)
-        passed, failed = gate(tree, log)
-        if not failed:
+
+        def after() -> int:
             hand_back(tree)
+            return subprocess.call(options.after, cwd=TOP) if options.after else 0
+
+        passed, failed = gate(tree, log, after)
     for line in log.refusals[-REFUSALS:] if failed else []:
         log.say(line)
-    status = 1 if failed else 0
-    if options.after and not failed:
-        status = subprocess.call(options.after, cwd=TOP)
-        failed += status != 0
     log.say(f"{passed} passed, {failed} failed")
-    sys.exit(status)
+    sys.exit(1 if failed else 0)
 
 
 if __name__ == "__main__":
