@@ -1,6 +1,6 @@
 -- What steps, and pieces of a run, tell.
 use Rattle.std.proofs.Common.{◌≡◌, ◌∙◌, ◌⊎◌, inl, inr, ℕ, ◌<◌, ◌≤◌, ◌+◌, ◌^◌, List, [], ◌∷◌, ◌++◌, length, length-append, Err}
-use Rattle.std.proofs.Common.{refl, sym, ap, subst, append-nil, arith, IsSome}
+use Rattle.std.proofs.Common.{refl, sym, ap, subst, append-nil, arith, IsSome, IfSome}
 use Rattle.std.proofs.lemmas.List.Elements.{All-push}
 use Rattle.srm_net.specs.Network.{Network}
 use Rattle.srm_scenario.specs.Plain.{PlainScenario}
@@ -14,6 +14,7 @@ use Rattle.srm_cell.specs.Views.{HasWork}
 use Rattle.srm_engine.specs.declared.halt.Halt.{Halt}
 use Rattle.srm_engine.specs.declared.halt.Halt.TheVariants as halt
 use Rattle.srm_engine.specs.declared.engine.Engine.{Engine}
+use Rattle.srm_engine.specs.declared.fault.RunFault.TheVariants as fault
 use Rattle.srm_engine.specs.declared.stream_fault.StreamFault.{StreamFault}
 use Rattle.srm_engine.specs.declared.stream_fault.StreamFault.TheVariants.{Run, Stopped}
 use Rattle.srm_engine.specs.declared.step_fault.StepFault.{StepFault}
@@ -24,6 +25,7 @@ use Rattle.srm_model.specs.World.{World, IsReached, step}
 use Rattle.srm_engine.specs.Engines.{MayRefuseStep, HasCounted, traffic_in}
 use Rattle.srm_engine.specs.Faults.{step_refused}
 use Rattle.srm_interfaces.specs.Sinks.{HandsPieces, most_rows, stage_after}
+use Rattle.srm_engine.specs.Outcomes.{MayRefuseRun}
 use Rattle.srm_engine.specs.Streams.{sink_in, stream_fault_of, run_fault_in, stopped_in, MayStop, MeetsRefusal, TakesTraceFront}
 use Rattle.srm_engine.specs.Streams.{TellsHalt}
 use Rattle.srm_engine.specs.RowRuns.{MayLackSteps, UndoneAfter}
@@ -41,9 +43,11 @@ pub countable : (before rows all : List Row) → all ≡ before ++ rows → leng
 countable before rows all e few short = omega (arith, ap length e, length-append before rows)
 
 -- a step that may be refused in a world that steps from an earlier one led to, or in that one
-pub not_stepped : (s : Setting) (w v : World) (x : StepFault) → IsReached s v → (v ≡ w) ⊎ HasWork (step s w) → MayRefuseStep (step s v) x
-    → MayStop s w x
-not_stepped s w v x r h5 h = grind (arith, meets_full)
+pub not_stepped : (most : ℕ) (s : Setting) (w v : World) (rows : List Row) (x : StepFault) → IsReached s v → v.trace ≡ w.trace ++ rows
+    → length rows < most → (v ≡ w) ⊎ HasWork (step s w) → MayRefuseStep (step s v) x → MayStop most s w x
+not_stepped most s w v rows step_fault.NoMemory r e few (inl is) h = inl (subst (λ (x : World). HasWork (step s x)) is h)
+not_stepped most s w v rows step_fault.NoMemory r e few (inr work) h = inl work
+not_stepped most s w v rows step_fault.CountFull r e few h5 h = (v, rows, r, e, few, h)
 
 -- where a step was taken, the first of them was
 pub stepped_from : (s : Setting) (w v u : World) → step s v ≡ Done u → (v ≡ w) ⊎ HasWork (step s w) → HasWork (step s w)
@@ -77,9 +81,22 @@ module _ {S : Type 0} (took part : S → List Row → S → Type 0) where
   halted_front none more may s old (halt.Sink e) new h = h
 
   -- when a run that is not cut into windows, and hands its rows on, is refused
-  pub halts_refuse : (A : Type 0) (s : Setting) (old : S) (x : Halt StepFault) (new : S) → TellsHalt took part (MayStop s) s old x new
-      → MeetsRefusal {A = A} s (Err (stream_fault_of step_refused x))
-  halts_refuse A s old x new h = grind arith
+  pub halts_refuse : (s : Setting) (old : S) (x : Halt StepFault) (new : S) → TellsHalt took part (MayStop most_rows s) s old x new
+      → MeetsRefusal took part s old (stream_fault_of step_refused x) new
+  halts_refuse s old (halt.Run step_fault.NoMemory) new h = tt
+  halts_refuse s old (halt.Run step_fault.CountFull) new h = h
+  halts_refuse s old (halt.Sink sink.NoMemory) new h = tt
+  halts_refuse s old (halt.Sink (sink.Stopped n)) new h = tt
+
+  -- when such a run is refused whose rows are kept
+  pub run_refused : (s : Setting) (old : S) (x : StreamFault) (new : S) → MeetsRefusal took part s old x new
+      → IfSome (run_fault_in x) (MayRefuseRun s)
+  run_refused s old (Run fault.NoMemory) new h = inl refl
+  run_refused s old (Run fault.CountFull) new h = inr (refl, meets_full s h.3.0 h.3.2 h.3.5)
+  run_refused s old (Run fault.ShareFull) new h = absurd h
+  run_refused s old (Run fault.BadCut) new h = absurd h
+  run_refused s old (Run fault.BadWidth) new h = absurd h
+  run_refused s old (Stopped n) new h = tt
 
   -- where the sink is as it was, all is left undone
   pub uncalled : (stage : S → Stage) (may_lack : World → Type 0) (s : Setting) (old : S) (x : StreamFault)
@@ -88,7 +105,7 @@ module _ {S : Type 0} (took part : S → List Row → S → Type 0) where
 
   -- what was left undone where such a run is refused memory
   pub steps_undone : (stage : S → Stage) (A : Type 0) (s : Setting) (old : S) (x : Halt StepFault) (new : S)
-      → TellsHalt took part (MayStop s) s old x new → stage new ≡ stage_after (sink_in {A = A} (Err x))
+      → TellsHalt took part (MayStop most_rows s) s old x new → stage new ≡ stage_after (sink_in {A = A} (Err x))
       → UndoneAfter stage took part (MayLackSteps s) s old (stream_fault_of step_refused x) new
   steps_undone stage A s old (halt.Run step_fault.NoMemory) new h at e = inr (inl h)
   steps_undone stage A s old (halt.Run step_fault.CountFull) new h at e = cc

@@ -41,7 +41,7 @@ use Rattle.srm_engine.specs.declared.halt.Halt.TheVariants as halt
 use Rattle.srm_interfaces.specs.declared.sink.SinkFault.TheVariants as sink
 use Rattle.srm_interfaces.specs.declared.sink.Stage.{Stage}
 use Rattle.srm_interfaces.specs.Sinks.{stage_after}
-use Rattle.srm_model.specs.World.{World, row_cmp, IsReached, IsLast, RunMeetsFull, opening}
+use Rattle.srm_model.specs.World.{World, row_cmp, IsReached, IsLast, opening}
 use Rattle.srm_model.specs.Schedules.{IsSafe, HasNoResult}
 use Rattle.srm_model.specs.WindowRuns.{OwnResult, own_cells, AreOwnRuns, rows_in, cells_in, IsMerge, AreNewInTurn, each_hears}
 use Rattle.srm_model.specs.WindowRuns.{IsWindow, after_window, jobs_of}
@@ -52,7 +52,7 @@ use Rattle.srm_engine.specs.Ends.{BeginsAt, MayEnd, TellsCutting, ends_rule}
 use Rattle.srm_engine.specs.Faults.{window_fault_of, run_fault_of}
 use Rattle.srm_engine.specs.Streams.{sink_in, TellsHalt, stream_fault_of, run_fault_in}
 use Rattle.srm_engine.specs.RowRuns.{MayLackWindow, UndoneAfter}
-use Rattle.srm_engine.specs.WindowStreams.{MeetsWindowRefusal, TellsStreamAsked}
+use Rattle.srm_engine.specs.WindowStreams.{MeetsWindowRefusal, TellsStreamAsked, StopsAtWindow}
 use Rattle.srm_engine.specs.Windowed.{IsCounted, MayCome, TellsRunAsked, rule_of}
 use Rattle.srm_engine.specs.WindowEngines.{ComesTo, IsUnderWay, BeginsNext, EndsNext, frame_of, setting_by, rule_by}
 use Rattle.srm_engine.proofs.CellLists.{from_seen, seen_from, few_groups}
@@ -86,7 +86,8 @@ pub record JobsTell {M : Type 0} (f : M → Record) (e : WindowEngine M) (seed t
   pub placed : map (λ (j : Job M). j.place) js ≡ range_with_len 0 (length js)
   pub seen : AreJobs f js (jobs_of e.groups.cut till w)
   pub not_spent : AnyEnds Spent (jobs_of e.groups.cut till w) → ⊥
-  pub full : AnyEnds Full (jobs_of e.groups.cut till w) → RunMeetsFull (setting_by e seed)
+  pub full : AnyEnds Full (jobs_of e.groups.cut till w)
+      → MayCome (setting_by e seed) (rule_by e seed) e.groups.cut w window.CountFull
   pub past : ((rows : List Row) × AreRowsOfSome (jobs_of e.groups.cut till w) rows
       × IsPast (counted_in (crossings (setting_by e seed).traffic rows)) e.seat)
       → MayCome (setting_by e seed) (rule_by e seed) e.groups.cut w window.ShareFull
@@ -212,9 +213,11 @@ module _ {M : Type 0} (f : M → Record) (e : WindowEngine M) (is : IsUnderWay f
               let r = any_cell Spent cut till w h in
               (never_spent s w fit reached).1 till r.0 r.3.0 r.1 r.2 r.3.1;
           full = λ h.
-              let r = any_cell Full cut till w h in
-              refused_windows_meet_full s (rule_by e seed) begins w v fit rule_is comes.windows is_next r.0
-              (subst (λ n. HasNoResult n w r.0) end_is (r.1, r.2, r.3));
+              let r = any_cell Full cut till w h in (
+                refused_windows_meet_full s (rule_by e seed) begins w v fit rule_is comes.windows is_next r.0
+                    (subst (λ n. HasNoResult n w r.0) end_is (r.1, r.2, r.3)),
+                subst (λ n. AnyEnds Full (jobs_of cut n w)) end_is h,
+              );
           past = λ h. (
             begins,
             comes.windows,
@@ -339,6 +342,16 @@ pub halts_refuse : {C S : Type 0} (took part : S → List Row → S → Type 0) 
     (x : Halt WindowFault) (to : S) (new : C) → TellsHalt took part (MayCome s rule n) s from x to
     → MeetsWindowRefusal s rule n old (stream_fault_of run_fault_of x) new
 halts_refuse took part s rule n old from x to new h = grind arith
+
+-- where such a run is refused for what it counts, the sink took the rows up to that window
+pub halts_stop : {S : Type 0} (took part : S → List Row → S → Type 0) (s : Setting) (rule : World → ℕ) (n : ℕ) (from : S)
+    (x : Halt WindowFault) (to : S) → TellsHalt took part (MayCome s rule n) s from x to
+    → StopsAtWindow took part s rule n from (stream_fault_of run_fault_of x) to
+halts_stop took part s rule n from (halt.Run window.NoMemory) to h = tt
+halts_stop took part s rule n from (halt.Run window.CountFull) to h = h
+halts_stop took part s rule n from (halt.Run window.ShareFull) to h = h
+halts_stop took part s rule n from (halt.Sink sink.NoMemory) to h = tt
+halts_stop took part s rule n from (halt.Sink (sink.Stopped k)) to h = tt
 
 -- what was left undone where such a run is refused memory
 pub windows_undone : {S : Type 0} (took part : S → List Row → S → Type 0) (stage : S → Stage) (A : Type 0) (s : Setting)

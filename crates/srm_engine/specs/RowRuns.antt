@@ -14,9 +14,10 @@ use Rattle.srm_engine.specs.declared.step_fault.StepFault.TheVariants as step_fa
 use Rattle.srm_engine.specs.declared.window_fault.WindowFault.TheVariants as window
 use Rattle.srm_engine.specs.declared.stream_fault.StreamFault.{StreamFault}
 use Rattle.srm_engine.specs.declared.stream_fault.StreamFault.TheVariants.{Run}
-use Rattle.srm_model.specs.World.{World, IsReached, IsLast, IsOutcome}
+use Rattle.srm_model.specs.World.{World, IsLast, IsOutcome}
 use Rattle.srm_engine.specs.Openings.{HoldOpeningRecords}
-use Rattle.srm_engine.specs.Streams.{MayStop, TakesTraceFront}
+use Rattle.srm_interfaces.specs.Sinks.{most_rows}
+use Rattle.srm_engine.specs.Streams.{MayStop, TakesTraceFront, TakesUpTo}
 use Rattle.srm_engine.specs.Windowed.{MayCome}
 
 -- ---- totals
@@ -50,7 +51,7 @@ module _ {S : Type 0} (took part : S → List Row → S → Type 0) where
 
 -- memory may be refused to the steps from a world of a run on
 abbrev pub MayLackSteps : Setting → World → Type 0
-MayLackSteps s w = MayStop s w step_fault.NoMemory
+MayLackSteps s w = MayStop most_rows s w step_fault.NoMemory
 
 -- memory may be refused to the window that begins in a world of a run, where windows end so and jobs are so large
 abbrev pub MayLackWindow : (Setting → World → ℕ) → ℕ → Setting → World → Type 0
@@ -63,7 +64,7 @@ module _ {S : Type 0} (stage : S → Stage) (took part : S → List Row → S �
   abbrev pub IsUndone : (World → Type 0) → Setting → S → S → Type 0
   IsUndone may_lack s old new =
       (new ≡ old)
-      ⊎ (((w : World) × IsReached s w × took old w.trace new × may_lack w)
+      ⊎ (TakesUpTo took part s may_lack old new
       ⊎ ((stage new ≡ Refused sink.NoMemory) × TakesTraceFront took part s old new))
 
   -- so after a refusal that tells that memory was refused

@@ -1,6 +1,6 @@
 -- Runs that hand their rows on as they come, and what they tell.
 use Rattle.std.specs.Prelude.{◌≡◌, ◌⊎◌, ◌<◌, ◌≤◌, ◌^◌, ℕ, List, ◌++◌, length, Option, Some, None, Result, Ok, Err}
-use Rattle.std.specs.Prelude.{MatchResult, IfErr, IfSome}
+use Rattle.std.specs.Prelude.{MatchResult, IfErr}
 use Rattle.std.specs.Global.{Vec}
 use Rattle.srm_net.specs.Network.{Network}
 use Rattle.srm_scenario.specs.Plain.{PlainScenario}
@@ -8,7 +8,7 @@ use Rattle.srm_member.specs.declared.row.Row.{Row}
 use Rattle.srm_member.specs.declared.exit.Exit.{Exit}
 use Rattle.srm_member.specs.Record.{Record}
 use Rattle.srm_cell.specs.Setting.{Setting, setting_of}
-use Rattle.srm_cell.specs.Cells.{Idle}
+use Rattle.srm_cell.specs.Cells.{Idle, Full}
 use Rattle.srm_cell.specs.Views.{HasWork}
 use Rattle.srm_engine.specs.declared.engine.Engine.{Engine}
 use Rattle.srm_engine.specs.declared.fault.RunFault.{RunFault}
@@ -23,9 +23,9 @@ use Rattle.srm_engine.specs.declared.step_fault.StepFault.{StepFault}
 use Rattle.srm_engine.specs.declared.step_fault.StepFault.TheVariants as step_fault
 use Rattle.srm_engine.specs.declared.stream_fault.StreamFault.{StreamFault}
 use Rattle.srm_engine.specs.declared.stream_fault.StreamFault.TheVariants.{Run, Stopped}
-use Rattle.srm_model.specs.World.{World, IsReached, IsLast, IsOutcome, RunMeetsFull, step}
+use Rattle.srm_interfaces.specs.Sinks.{most_rows}
+use Rattle.srm_model.specs.World.{World, IsReached, IsLast, IsOutcome, step}
 use Rattle.srm_engine.specs.Openings.{HoldOpeningRecords}
-use Rattle.srm_engine.specs.Outcomes.{MayRefuseRun}
 use Rattle.srm_engine.specs.Engines.{Shows, IsOpened, setting_in}
 
 -- ---- refusals
@@ -57,29 +57,42 @@ stopped_in (Ok v) = 0
 stopped_in (Err (Run e)) = 0
 stopped_in (Err (Stopped n)) = 1
 
--- a sink stands as this answer says: it took all, or its device failed and it told this number
+-- a sink stands as this answer says: it took all that it was handed, also where the run met what cannot be counted; or
+-- its device failed and it told this number
 abbrev pub StandsAs : {A : Type 0} → Result A StreamFault → Stage → Type 0
 StandsAs (Ok v) at = at ≡ Live
+StandsAs (Err (Run fault.CountFull)) at = at ≡ Live
+StandsAs (Err (Run fault.ShareFull)) at = at ≡ Live
 StandsAs (Err (Run e)) at = Unit {0}
 StandsAs (Err (Stopped n)) at = at ≡ Refused (sink.Stopped n)
 
 -- ---- rows
 
--- when the steps from a world of a run on may be refused: for memory only where there is one to take, or where there
--- were more rows than are counted; and where the run meets one for which the packet count is used up
-abbrev pub MayStop : Setting → World → StepFault → Type 0
-MayStop s w step_fault.NoMemory = HasWork (step s w) ⊎ (2 ^ 62 ≤ length w.trace)
-MayStop s w step_fault.CountFull = RunMeetsFull s
+-- the run meets a step for which the packet count is used up, fewer than so many rows after this world
+abbrev pub MeetsFullWithin : ℕ → Setting → World → Type 0
+MeetsFullWithin most s w =
+    (v : World) × (rows : List Row) × IsReached s v × (v.trace ≡ w.trace ++ rows) × (length rows < most)
+    × (step s v ≡ Full)
+
+-- when up to so many steps from a world of a run on may be refused: for memory only where there is one to take, or
+-- where there were more rows than are counted; and where the run meets one for which the packet count is used up
+abbrev pub MayStop : ℕ → Setting → World → StepFault → Type 0
+MayStop most s w step_fault.NoMemory = HasWork (step s w) ⊎ (2 ^ 62 ≤ length w.trace)
+MayStop most s w step_fault.CountFull = MeetsFullWithin most s w
 
 module _ {S : Type 0} (took part : S → List Row → S → Type 0) where
   -- the sink took no more than a front of the rows of the sequential run
   abbrev pub TakesTraceFront : Setting → S → S → Type 0
   TakesTraceFront s old new = (w : World) × IsReached s w × part old w.trace new
 
+  -- the sink took the rows of the sequential run up to a world of which this holds
+  abbrev pub TakesUpTo : Setting → (World → Type 0) → S → S → Type 0
+  TakesUpTo s holds old new = (w : World) × IsReached s w × took old w.trace new × holds w
+
   -- why the rows of a run were not all handed on: it was refused at a world in which it may be, and the sink took the
   -- rows so far; or the sink refused some, and took no more than a front of the trace
   abbrev pub TellsHalt : {F : Type 0} → (World → F → Type 0) → Setting → S → Halt F → S → Type 0
-  TellsHalt may s old (halt.Run e) new = (w : World) × IsReached s w × took old w.trace new × may w e
+  TellsHalt may s old (halt.Run e) new = TakesUpTo s (λ w. may w e) old new
   TellsHalt may s old (halt.Sink e) new = TakesTraceFront s old new
 
   -- what a run that hands its rows to a sink tells: the exits and crossings of the sequential run, of which the sink
@@ -94,13 +107,18 @@ module _ {S : Type 0} (took part : S → List Row → S → Type 0) where
   StreamsFrom p net rs old r new = (seed : ℕ) → HoldOpeningRecords p net seed rs
       → TellsStream (setting_of p net seed) old r new
 
--- when a run that is not cut into windows is refused: where `step_run` is, or where the sink was
-abbrev pub MeetsRefusal : {A : Type 0} → Setting → Result A StreamFault → Type 0
-MeetsRefusal s r = IfErr r (λ x. IfSome (run_fault_in x) (MayRefuseRun s))
+  -- when a run that is not cut into windows is refused: for memory, or as its sink was; and where the packet count is
+  -- used up less than a piece after the rows that the sink took
+  abbrev pub MeetsRefusal : Setting → S → StreamFault → S → Type 0
+  MeetsRefusal s old (Run fault.NoMemory) new = Unit {0}
+  MeetsRefusal s old (Run fault.CountFull) new = TakesUpTo s (MeetsFullWithin most_rows s) old new
+  MeetsRefusal s old (Run e) new = ⊥
+  MeetsRefusal s old (Stopped n) new = Unit {0}
 
--- so for every seed whose opening records the boxes hold
-abbrev pub RefusedFrom : {A : Type 0} → PlainScenario → Network → List Record → Result A StreamFault → Type 0
-RefusedFrom p net rs r = (seed : ℕ) → HoldOpeningRecords p net seed rs → MeetsRefusal (setting_of p net seed) r
+  -- so for every seed whose opening records the boxes hold
+  abbrev pub RefusedFrom : {A : Type 0} → PlainScenario → Network → List Record → S → Result A StreamFault → S → Type 0
+  RefusedFrom p net rs old r new = (seed : ℕ) → HoldOpeningRecords p net seed rs
+      → IfErr r (λ x. MeetsRefusal (setting_of p net seed) old x new)
 
 -- ---- pieces
 
@@ -116,7 +134,7 @@ module _ {M : Type 0} where
   TellsSteps f s most w r after =
       MatchResult r (λ rows. (v : World) × IsReached s v × (v.trace ≡ w.trace ++ rows.items) × Shows f after v
       × (length rows.items < most → step s v ≡ Idle))
-      (MayStop s w)
+      (MayStop most s w)
 
   -- so of whatever world of a run the engine is seen as, with every seed
   abbrev pub TakesSteps : (M → Record) → ℕ → Engine M → Result (Vec Row) StepFault → Engine M
@@ -132,7 +150,7 @@ module _ {M : Type 0} where
         → Engine M → Type 0
     StepsToEnd f s old r new after =
         MatchResult r (λ _. (w : World) × IsLast s w × took old w.trace new × Shows f after w)
-        (λ x. TellsHalt took part (MayStop s) s old x new)
+        (λ x. TellsHalt took part (MayStop most_rows s) s old x new)
 
     -- so of an engine that is opened, with every seed
     abbrev pub StreamsRows : {A : Type 0} → (M → Record) → Engine M → S → Result A (Halt StepFault)

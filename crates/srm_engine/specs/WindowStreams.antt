@@ -8,12 +8,14 @@ use Rattle.srm_cell.specs.Jobs as cell
 use Rattle.srm_engine.specs.declared.width.Windows.{Windows}
 use Rattle.srm_engine.specs.declared.fault.RunFault.TheVariants as fault
 use Rattle.srm_engine.specs.declared.stream_fault.StreamFault.{StreamFault}
-use Rattle.srm_engine.specs.declared.stream_fault.StreamFault.TheVariants.{Run}
+use Rattle.srm_engine.specs.declared.stream_fault.StreamFault.TheVariants.{Run, Stopped}
+use Rattle.srm_engine.specs.declared.window_fault.WindowFault.TheVariants as window
+use Rattle.srm_member.specs.declared.row.Row.{Row}
 use Rattle.srm_model.specs.World.{World, IsLast}
 use Rattle.srm_model.specs.WindowChains.{AreWindows, window_jobs}
 use Rattle.srm_engine.specs.Openings.{HoldOpeningRecords}
-use Rattle.srm_engine.specs.Streams.{run_fault_in}
-use Rattle.srm_engine.specs.Windowed.{IsCut, MayBeWide, TellsRunAsked, MayRefuse}
+use Rattle.srm_engine.specs.Streams.{run_fault_in, TakesUpTo}
+use Rattle.srm_engine.specs.Windowed.{IsCut, MayBeWide, TellsRunAsked, MayRefuse, MayCome}
 
 -- ---- what is asked for
 
@@ -25,6 +27,25 @@ TellsStreamAsked net asked r = IsCut asked.cut × MayBeWide net asked.width
 -- a sink is left as it was where the cut or the width is refused
 abbrev pub IsLeft : {A S : Type 0} → S → Result A StreamFault → S → Type 0
 IsLeft old r new = IfErr r (λ x. (x ≡ Run fault.BadCut) ⊎ (x ≡ Run fault.BadWidth) → new ≡ old)
+
+-- ---- what is counted
+
+module _ {S : Type 0} (took part : S → List Row → S → Type 0) where
+  -- where a run in windows is refused for what it counts, the sink took the rows up to a window that may be refused so
+  abbrev pub StopsAtWindow : Setting → (World → ℕ) → ℕ → S → StreamFault → S → Type 0
+  StopsAtWindow s rule cut old (Run fault.CountFull) new =
+      TakesUpTo took part s (λ w. MayCome s rule cut w window.CountFull) old new
+  StopsAtWindow s rule cut old (Run fault.ShareFull) new =
+      TakesUpTo took part s (λ w. MayCome s rule cut w window.ShareFull) old new
+  StopsAtWindow s rule cut old (Run e) new = Unit {0}
+  StopsAtWindow s rule cut old (Stopped n) new = Unit {0}
+
+  -- so for every seed whose opening records the boxes hold
+  abbrev pub StopsInWindows : {A : Type 0} → PlainScenario → Network → List Record → (Setting → World → ℕ) → ℕ → S
+      → Result A StreamFault → S → Type 0
+  StopsInWindows p net rs rule cut old r new =
+      (seed : ℕ) → HoldOpeningRecords p net seed rs
+      → IfErr r (λ x. StopsAtWindow (setting_of p net seed) (rule (setting_of p net seed)) cut old x new)
 
 -- ---- calls of a crew
 

@@ -7,10 +7,10 @@ use Rattle.srm_member.specs.Record.{Record}
 use Rattle.srm_ledger.specs.Seats.{LedgerView, SeatView}
 use Rattle.srm_ledger.specs.Weights.{whole_weight}
 use Rattle.srm_cell.specs.Setting.{Traffic, Setting, setting_of}
-use Rattle.srm_cell.specs.Cells.{Event}
+use Rattle.srm_cell.specs.Cells.{Event, Full}
 use Rattle.srm_cell.specs.Crossings.{crossings}
 use Rattle.srm_cell.specs.Jobs as cell
-use Rattle.srm_interfaces.specs.Crews.{counted_in, AreRowsOfSome}
+use Rattle.srm_interfaces.specs.Crews.{counted_in, AreRowsOfSome, AnyEnds}
 use Rattle.srm_options.specs.declared.width.Width.{Width}
 use Rattle.srm_options.specs.declared.width.Width.TheVariants as width
 use Rattle.srm_engine.specs.declared.width.Windows.{Windows}
@@ -57,11 +57,11 @@ pub record IsCounted (t : Traffic) (l : LedgerView) (rows : List Row) (seat : Se
 -- ---- refusals
 
 -- when the window that begins in a world of a run may be refused: for memory only where something is pending; where
--- the run meets a step for which the packet count is used up; and where the crossings up to it, with those of some of
--- its jobs, are too many for a share
+-- one of its jobs, and so the run, meets a step for which the packet count is used up; and where the crossings up to
+-- it, with those of some of its jobs, are too many for a share
 abbrev pub MayCome : Setting → (World → ℕ) → ℕ → World → WindowFault → Type 0
 MayCome s rule cut w window.NoMemory = (e : Event) × IsNext s w e
-MayCome s rule cut w window.CountFull = RunMeetsFull s
+MayCome s rule cut w window.CountFull = RunMeetsFull s × AnyEnds Full (jobs_of cut (rule w) w)
 MayCome s rule cut w window.ShareFull =
     (begins : List World) × AreWindows s rule begins w
     × PassesShare s.traffic w.trace (jobs_of cut (rule w) w)

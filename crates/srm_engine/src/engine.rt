@@ -85,8 +85,8 @@ impl<'a> Engine<'a> {
         ensures pieces { TellsPieces S.handed sink.old result sink.new }
         ensures last { LastFrom S.took S.part (λ _. Shows (λ b. plain b)) start.entry.scenario.now start.entry.net.now
             (map (λ b. plain b) start.entry.members.items) sink.old result sink.new }
-        ensures refused { RefusedFrom start.entry.scenario.now start.entry.net.now
-            (map (λ b. plain b) start.entry.members.items) result }
+        ensures refused { RefusedFrom S.took S.part start.entry.scenario.now start.entry.net.now
+            (map (λ b. plain b) start.entry.members.items) sink.old result sink.new }
         ensures undone { UndoneFrom S.stage S.took S.part MayLackSteps start.entry.scenario.now start.entry.net.now
             (map (λ b. plain b) start.entry.members.items) sink.old result sink.new }
     {

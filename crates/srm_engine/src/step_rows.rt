@@ -42,8 +42,8 @@ pub fn step_rows<S: RowSink>(
     ensures pieces { TellsPieces S.handed sink.old result sink.new }
     ensures totals { TotalsFrom S.took S.part start.entry.scenario.now start.entry.net.now
         (map (λ b. plain b) start.entry.members.items) sink.old result sink.new }
-    ensures refused { RefusedFrom start.entry.scenario.now start.entry.net.now (map (λ b. plain b) start.entry.members.items)
-        result }
+    ensures refused { RefusedFrom S.took S.part start.entry.scenario.now start.entry.net.now
+        (map (λ b. plain b) start.entry.members.items) sink.old result sink.new }
     ensures undone { UndoneFrom S.stage S.took S.part MayLackSteps start.entry.scenario.now start.entry.net.now
         (map (λ b. plain b) start.entry.members.items) sink.old result sink.new }
 {

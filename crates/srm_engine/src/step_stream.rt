@@ -25,11 +25,11 @@ use std::alloc::Global;
 ///
 /// # Errors
 /// As met: `Stopped`, exactly where the device under the sink failed, with the number that the sink told; `Run` with `CountFull`,
-/// only where the run comes to a member that is to send a packet with its packet count used up; `Run` with `NoMemory`, also where
-/// memory was refused to the sink, or there were 2^62 rows.
+/// only where the run comes to a member that is to send a packet with its packet count used up, fewer than 32 rows after those that
+/// the sink took; `Run` with `NoMemory`, also where memory was refused to the sink, or there were 2^62 rows.
 ///
-/// The boxes are then gone. The sink took no more than a front of the trace; after `Stopped` it stands refused, and its count of
-/// failures is one higher.
+/// The boxes are then gone. The sink took no more than a front of the trace. After `CountFull` it may be asked for more; after
+/// `Stopped` it stands refused, and its count of failures is one higher.
 pub fn step_stream<S: RowSink>(
     alloc: Global,
     scenario: &Scenario,
@@ -47,7 +47,8 @@ pub fn step_stream<S: RowSink>(
     ensures pieces { TellsPieces S.handed sink.old result sink.new }
     ensures stream { StreamsFrom S.took S.part scenario.now net.now (map (λ b. plain b) members.items)
         sink.old result sink.new }
-    ensures refused { RefusedFrom scenario.now net.now (map (λ b. plain b) members.items) result }
+    ensures refused { RefusedFrom S.took S.part scenario.now net.now (map (λ b. plain b) members.items)
+        sink.old result sink.new }
 {
     let start = Start {
         scenario,

@@ -5,7 +5,7 @@ ghost use Rattle.srm_engine.specs.Openings.{HoldOpeningRecords};
 ghost use Rattle.srm_interfaces.specs.Sinks.{IsOpen};
 ghost use Rattle.srm_engine.specs.Streams.{StandsAs, stopped_in, StreamsFrom};
 ghost use Rattle.srm_engine.specs.Windowed.{rule_of};
-ghost use Rattle.srm_engine.specs.WindowStreams.{IsLeft, TellsStreamAsked, CallsInWindows};
+ghost use Rattle.srm_engine.specs.WindowStreams.{IsLeft, TellsStreamAsked, CallsInWindows, StopsInWindows};
 
 use crate::start::Start;
 use crate::stream_fault::StreamFault;
@@ -32,9 +32,11 @@ use std::alloc::Global;
 /// 1. `Run` with `BadCut`, and 2. `Run` with `BadWidth`, as of [`window_run`](crate::window_run::window_run): the sink and the
 ///    crew are then as they were.
 /// 3. As met: `Stopped`, exactly where the device under the sink failed, with the number that the sink told; `Run` with
-///    `ShareFull`, `CountFull` or `NoMemory`, the last also where memory was refused to the sink.
+///    `ShareFull` or `CountFull`, only where the window after the rows that the sink took may be refused so; `Run` with `NoMemory`,
+///    also where memory was refused to the sink.
 ///
-/// The members are then gone. The sink stands as after [`step_stream`](crate::step_stream::step_stream).
+/// The members are then gone. The sink stands as after [`step_stream`](crate::step_stream::step_stream), after `ShareFull` as after
+/// `CountFull`.
 pub fn window_stream<M: Participant, C: Crew<M>, S: RowSink>(
     alloc: Global,
     scenario: &Scenario,
@@ -61,6 +63,8 @@ pub fn window_stream<M: Participant, C: Crew<M>, S: RowSink>(
         sink.old result sink.new }
     ensures windows { CallsInWindows C.handed scenario.now net.now (map M.plain members.items)
         (λ s. rule_of s net.now asked.width) asked.cut crew.old result crew.new }
+    ensures stops { StopsInWindows S.took S.part scenario.now net.now (map M.plain members.items)
+        (λ s. rule_of s net.now asked.width) asked.cut sink.old result sink.new }
 {
     let start = Start {
         scenario,

@@ -1,10 +1,11 @@
-use Rattle.std.proofs.Common.{◌≡◌, ◌∙◌, List, Err, inl, inr, refl, sym, subst}
+use Rattle.std.proofs.Common.{◌≡◌, ◌∙◌, List, inl, inr, refl, sym, subst}
 use Rattle.srm_member.specs.declared.row.Row.{Row}
 use Rattle.srm_cell.specs.Setting.{Setting, setting_of}
 use Rattle.srm_model.specs.World.{opening, IsReached, IsLast}
 use Rattle.srm_engine.specs.Engines.{setting_in}
 use Rattle.srm_engine.specs.Faults.{step_refused}
 use Rattle.srm_engine.specs.RowRuns.{MayLackSteps, UndoneAfter}
+use Rattle.srm_interfaces.specs.Sinks.{most_rows}
 use Rattle.srm_engine.specs.Streams.{MayStop, MeetsRefusal, stream_fault_of}
 use Rattle.srm_engine.proofs.Stepping.{opening_reached, opening_trace}
 use Rattle.srm_engine.proofs.StreamLemmas.{halted_front, halts_refuse, steps_undone, uncalled}
@@ -33,7 +34,8 @@ returns-in-Err-stream-clause-last g c = λ seed h.
     let here : setting_in c.in-Ok.engine seed ≡ setting_of c.args.start.scenario.now c.args.start.net.now seed =
     λ k. setting_of (given.0 k) (given.1 k) seed in
     let t = halted_front g.S.RowSink.took g.S.RowSink.part g.met.S.RowSink.part_none g.met.S.RowSink.part_more
-    (MayStop (setting_in c.in-Ok.engine seed)) (setting_in c.in-Ok.engine seed) c.args.sink.now c.in-Err-stream.halt c.stream.new.sink
+    (MayStop most_rows (setting_in c.in-Ok.engine seed)) (setting_in c.in-Ok.engine seed) c.args.sink.now c.in-Err-stream.halt
+    c.stream.new.sink
     (c.in-Err-stream.ensures.rows seed (c.in-Ok.ensures.opened seed h)) in
     (t.0, subst (λ (x : Setting). IsReached x t.0) here t.1, t.2)
 
@@ -43,8 +45,9 @@ returns-in-Err-stream-clause-refused g c = λ seed h.
     let here : setting_in c.in-Ok.engine seed ≡ setting_of c.args.start.scenario.now c.args.start.net.now seed =
     λ k. setting_of (given.0 k) (given.1 k) seed in
     rw c.into-in-Err-stream.ensures
-    (subst (λ (x : Setting). MeetsRefusal {A = Unit {0}} x (Err (stream_fault_of step_refused c.in-Err-stream.halt))) here
-    (halts_refuse g.S.RowSink.took g.S.RowSink.part (Unit {0}) (setting_in c.in-Ok.engine seed) c.args.sink.now
+    (subst (λ (x : Setting). MeetsRefusal g.S.RowSink.took g.S.RowSink.part x c.args.sink.now
+    (stream_fault_of step_refused c.in-Err-stream.halt) c.stream.new.sink) here
+    (halts_refuse g.S.RowSink.took g.S.RowSink.part (setting_in c.in-Ok.engine seed) c.args.sink.now
     c.in-Err-stream.halt c.stream.new.sink (c.in-Err-stream.ensures.rows seed (c.in-Ok.ensures.opened seed h))))
 
 pub returns-in-Err-stream-clause-undone : goal.returns-in-Err-stream-clause-undone

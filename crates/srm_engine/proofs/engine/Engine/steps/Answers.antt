@@ -59,7 +59,9 @@ returns-in-Err-clause-steps g c = λ seed w r h.
     let is = c.loop-alloc.invariant.0 in
     let i = c.loop-alloc.invariant.1 seed w r h in
     let here : step (setting_in c.loop-alloc.self seed) i.0 ≡ step s i.0 = λ k. step (setting_of (is.0 k).now (is.1 k).now seed) i.0 in
-    not_stepped s w i.0 c.in-Err.fault i.1 i.4 (subst (λ o. MayRefuseStep o c.in-Err.fault) here (c.in-Err.ensures.step seed i.0 i.3))
+    let few : length c.loop-alloc.rows.items < c.args.most = omega arith in
+    not_stepped c.args.most s w i.0 c.loop-alloc.rows.items c.in-Err.fault i.1 i.2 few i.4
+    (subst (λ o. MayRefuseStep o c.in-Err.fault) here (c.in-Err.ensures.step seed i.0 i.3))
 
 pub returns-in-Ok-false-clause-steps : goal.returns-in-Ok-false-clause-steps
 returns-in-Ok-false-clause-steps g c = λ seed w r h.

@@ -57,7 +57,7 @@ returns-in-Err-steps-clause-rows g c = λ seed h.
       i.0,
       i.1,
       i.2,
-      subst (λ (x : Setting). MayStop x i.0 c.in-Err-steps.fault) back t,
+      subst (λ (x : Setting). MayStop most_rows x i.0 c.in-Err-steps.fault) back t,
     )
 
 pub returns-in-Err-rows-clause-rows : goal.returns-in-Err-rows-clause-rows
