@@ -7,3 +7,4 @@ mod in_team;
 mod mapped;
 pub(crate) mod seats;
 mod seen;
+pub(crate) mod site;

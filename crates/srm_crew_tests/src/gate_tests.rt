@@ -4,8 +4,9 @@ ghost use denote.Param.Send.{IsSync};
 ghost use Rattle.srm_scenario.specs.Plain.{network_of};
 ghost use Rattle.srm_crew_tests.specs.Handed.{MayMap};
 
-use crate::crew_tests::handing::{add_member, idle_jobs, opened};
+use crate::crew_tests::handing::{add_job, idle_jobs, opened, scripted_cell};
 use crate::crew_tests::seats::ledger_of;
+use crate::crew_tests::site::Site;
 use srm_cell::job::{Done, Job};
 use srm_crew::bag_crew::BagCrew;
 use srm_crew::gate::Gate;
@@ -14,7 +15,6 @@ use srm_examples::counted::Counted;
 use srm_examples::meeting::Meeting;
 use srm_examples::scenarios::TWO_NODES;
 use srm_interfaces::fault::CrewFault;
-use srm_ledger::ledger::Ledger;
 use srm_ledger::seat::Seat;
 use srm_member::member::Member;
 use srm_net::net::Net;
@@ -33,20 +33,18 @@ fn map_jobs<R: Threads + Wait + Sync, G: Gate + Sync>(
     rt: &impl Abort,
     alloc: Global,
     crew: &BagCrew<R, G>,
-    scenario: &Scenario,
-    net: &Net,
-    ledger: &Ledger,
+    site: &Site,
     seat: Seat,
     jobs: Vec<Job>,
 ) -> Result<(Vec<Done>, Seat), AllocError>
     requires ready { IsSync R.row }
-    requires links { ledger.now.links ≡ length net.now.links }
-    requires seat { seat.ledger ≡ ledger.now.name }
+    requires links { site.now.ledger.now.links ≡ length site.now.net.now.links }
+    requires seat { seat.ledger ≡ site.now.ledger.now.name }
     requires jobs { MayMap (λ b. (⟦<dyn Member as Member>⟧ b.vtable).plain b.value)
-        (length net.now.hosts) jobs.items }
-    ensures { IfOk result (λ r. r.1.ledger ≡ ledger.now.name) }
+        (length site.now.net.now.hosts) jobs.items }
+    ensures { IfOk result (λ r. r.1.ledger ≡ site.now.ledger.now.name) }
 {
-    match crew.map_with_gate(alloc, scenario, net, ledger, seat, jobs) {
+    match crew.map_with_gate(alloc, site.scenario, site.net, site.ledger, seat, jobs) {
         Ok(mapped) => Ok(mapped),
         Err(fault) => {
             assert_eq!(rt; fault, CrewFault::NoMemory);
@@ -72,19 +70,17 @@ fn meet<R: Threads + Wait + Sync>(
     rt: &impl Abort,
     alloc: Global,
     crew: &BagCrew<R, MeetingGate>,
-    scenario: &Scenario,
-    net: &Net,
-    ledger: &Ledger,
+    site: &Site,
     seat: Seat,
     count: usize,
 ) -> Result<Seat, AllocError>
     requires ready { IsSync R.row }
-    requires links { ledger.now.links ≡ length net.now.links }
-    requires seat { seat.ledger ≡ ledger.now.name }
-    ensures { IfOk result (λ s. s.ledger ≡ ledger.now.name) }
+    requires links { site.now.ledger.now.links ≡ length site.now.net.now.links }
+    requires seat { seat.ledger ≡ site.now.ledger.now.name }
+    ensures { IfOk result (λ s. s.ledger ≡ site.now.ledger.now.name) }
 {
-    let jobs = idle_jobs(rt, alloc, net, count)?;
-    let (done, seat) = map_jobs(rt, alloc, crew, scenario, net, ledger, seat, jobs)?;
+    let jobs = idle_jobs(rt, alloc, site.net, count)?;
+    let (done, seat) = map_jobs(rt, alloc, crew, site, seat, jobs)?;
     assert_eq!(rt; done.len(), count);
     Ok(seat)
 }
@@ -97,19 +93,17 @@ fn meet_again<R: Threads + Wait + Sync>(
     rt: &impl Abort,
     alloc: Global,
     crew: &BagCrew<R, MeetingGate>,
-    scenario: &Scenario,
-    net: &Net,
-    ledger: &Ledger,
+    site: &Site,
     seat: Seat,
     count: usize,
 ) -> Result<(), AllocError>
     requires ready { IsSync R.row }
-    requires links { ledger.now.links ≡ length net.now.links }
-    requires seat { seat.ledger ≡ ledger.now.name }
+    requires links { site.now.ledger.now.links ≡ length site.now.net.now.links }
+    requires seat { seat.ledger ≡ site.now.ledger.now.name }
 {
     let mut back = seat;
     for _ in 0..TIMES {
-        back = meet(rt, alloc, crew, scenario, net, ledger, back, count)?;
+        back = meet(rt, alloc, crew, site, back, count)?;
     }
     Ok(())
 }
@@ -125,7 +119,12 @@ fn meet_on_two_nodes<R: Threads + Wait + Sync>(
 {
     let (scenario, net) = opened(rt, alloc, TWO_NODES.scenario)?;
     let (ledger, seat) = ledger_of(rt, alloc, &net)?;
-    meet_again(rt, alloc, crew, &scenario, &net, &ledger, seat, count)
+    let site = Site {
+        scenario: &scenario,
+        net: &net,
+        ledger: &ledger,
+    };
+    meet_again(rt, alloc, crew, &site, seat, count)
 }
 
 // So many jobs, with so many workers, again and again. Each time the jobs of this place and of the next one are under way at once.
@@ -246,9 +245,15 @@ fn map_sender<R: Threads + Wait + Sync>(
     assert!(rt; scenario.members() > 0);
     let sender = counting_sender(rt, alloc, &scenario, &net, reacts)?;
     let mut jobs = Vec::new(alloc);
-    add_member(rt, alloc, &scenario, &net, &mut jobs, 1, sender, 0, 0)?;
+    let cells = scripted_cell(rt, alloc, &scenario, &net, sender, 0, 0)?;
+    add_job(rt, &net, &mut jobs, 1, cells)?;
     let (ledger, seat) = ledger_of(rt, alloc, &net)?;
-    map_jobs(rt, alloc, crew, &scenario, &net, &ledger, seat, jobs)?;
+    let site = Site {
+        scenario: &scenario,
+        net: &net,
+        ledger: &ledger,
+    };
+    map_jobs(rt, alloc, crew, &site, seat, jobs)?;
     Ok(())
 }
 

@@ -17,6 +17,7 @@ use crate::misfit_sentence::misfit_sentence;
 use crate::misfits::misfit_of;
 use crate::picture::picture_of;
 use crate::pictures::{picture_of_finding, picture_of_flaw, picture_of_value};
+use crate::reading::Reading;
 use crate::rules_in::{reason_after, rules_in};
 use crate::sentence::sentence_of;
 use crate::span::Span;
@@ -129,7 +130,12 @@ fn explain_misfit(
     let Ok(draft) = Draft::read(alloc, &top) else {
         return general(alloc, fault);
     };
-    let Some(told) = told_of_misfit(alloc, fault, part, place, text, &top, &draft)? else {
+    let reading = Reading {
+        text,
+        top: &top,
+        draft: &draft,
+    };
+    let Some(told) = told_of_misfit(alloc, fault, part, place, reading)? else {
         return general(alloc, fault);
     };
     Ok(told)
@@ -141,22 +147,20 @@ fn told_of_misfit(
     fault: ScenarioFault,
     part: Part,
     place: usize,
-    text: &[u8],
-    top: &Table,
-    draft: &Draft,
+    reading: Reading,
 ) -> Result<Option<String>, AllocError>
-    ensures { IfOk result (λ told. IfSome told (λ t. TellsBroken draft.now fault (written_in part (table_view top.now))
-        place (string_bytes t))) }
+    ensures { IfOk result (λ told. IfSome told (λ t. TellsBroken reading.entry.draft.now fault
+        (written_in part (table_view reading.entry.top.now)) place (string_bytes t))) }
 {
-    let Some(misfit) = misfit_of(draft, fault) else {
+    let Some(misfit) = misfit_of(reading.draft, fault) else {
         return Ok(None);
     };
-    let copied = copied_in(top, part, place);
+    let copied = copied_in(reading.top, part, place);
     let written = place_in_text(copied, place);
-    let picture = picture_of_value(alloc, text, part, written, misfit.key(part))?;
+    let picture = picture_of_value(alloc, reading.text, part, written, misfit.key(part))?;
     let sentence = misfit_sentence(alloc, misfit)?;
     let note = format!(in alloc; "  {sentence}\n")?;
-    let copy = copy_note(alloc, draft, fault, copied)?;
+    let copy = copy_note(alloc, reading.draft, fault, copied)?;
     let told = format!(in alloc; "{picture}{note}{copy}")?;
     Ok(Some(told))
 }

@@ -21,6 +21,7 @@ mod passing;
 mod picture;
 mod pictures;
 mod reached;
+mod reading;
 mod rules_in;
 mod sentence;
 mod span;

@@ -69,23 +69,21 @@ fn lead_beside<
     threads: usize,
     bench: &Bench<Advancing<'a>, Piece<M>, Worked<M>, J>,
     asked: &Asked,
-    members: Vec<M>,
-    crew: C,
+    waiting: (C, Vec<M>),
     sink: &mut S,
 ) -> Result<Totals, LabFault>
-    requires run { MayRunInWindows asked.now.scenario.now asked.now.net.now asked.now.options (map M.plain members.items) }
-    requires ready { C.ready crew }
-    requires serves { C.serves crew asked.now.scenario.now asked.now.net.now }
+    requires run { MayRunInWindows asked.now.scenario.now asked.now.net.now asked.now.options (map M.plain waiting.1.items) }
+    requires ready { C.ready waiting.0 }
+    requires serves { C.serves waiting.0 asked.now.scenario.now asked.now.net.now }
     requires open { IsOpen (S.stage sink.old) }
     requires failures { S.failures sink.old < 2 ^ 64 - 1 }
     ensures { HandsOn S.stage S.failures S.same S.took S.part asked.now.scenario.now asked.now.net.now asked.now.options
-        (map M.plain members.items) sink.old result sink.new }
+        (map M.plain waiting.1.items) sink.old result sink.new }
 {
+    let mut waiting = Some(waiting);
     if threads == 0 {
-        let mut crew = crew;
-        return in_windows(alloc, asked, members, &mut crew, sink);
+        return lead(alloc, asked, &mut waiting, sink);
     }
-    let mut waiting = Some((crew, members));
     // The first closure borrows the other one.
     let own = alloc;
     let ((), answer) = join_mut(
@@ -136,7 +134,7 @@ fn by_team<
     match open_team::<Advancing, Piece<M>, Worked<M>, J>(alloc, opened, PIECES * workers) {
         Ok((team, bench)) => {
             let crew = TeamCrew::new(rt, team, work, ENOUGH);
-            lead_beside(rt, alloc, workers - 1, &bench, asked, members, crew, sink)
+            lead_beside(rt, alloc, workers - 1, &bench, asked, (crew, members), sink)
         }
         Err(_) => in_windows(alloc, asked, members, &mut PlainCrew::new(), sink),
     }

@@ -8,10 +8,11 @@ ghost use Rattle.srm_crew_tests.specs.Handed.{MayMap, AreKnown};
 
 use crate::crew_tests::boxed::BoxCrew;
 use crate::crew_tests::seen::Window;
+use crate::crew_tests::site::Site;
 use srm_cell::cell::Cell;
 use srm_cell::job::{Done, Job};
 use srm_interfaces::fault::CrewFault;
-use srm_ledger::ledger::{Ledger, Seat};
+use srm_ledger::ledger::Seat;
 use srm_member::member::Member;
 use srm_net::net::Net;
 use srm_scenario::fault::ScenarioFault;
@@ -84,8 +85,8 @@ fn cell_of(
     Ok(cells)
 }
 
-// Adds a job of these cells, of which there may be none.
-fn add_job(
+/// Adds a job of these cells, of which there may be none.
+pub(crate) fn add_job(
     rt: &impl Abort,
     net: &Net,
     jobs: &mut Vec<Job>,
@@ -109,31 +110,25 @@ fn add_job(
     Ok(())
 }
 
-/// Adds the job of the cell of member m, alone, with its script.
-pub(crate) fn add_member(
+/// The cell of member m, alone, with its script.
+pub(crate) fn scripted_cell(
     rt: &impl Abort,
     alloc: Global,
     scenario: &Scenario,
     net: &Net,
-    jobs: &mut Vec<Job>,
-    till: u64,
     member: Box<dyn Member>,
     m: u16,
     sent: u64,
-) -> Result<(), AllocError>
-    requires jobs { MayMap (λ b. (⟦<dyn Member as Member>⟧ b.vtable).plain b.value)
-        (length net.now.hosts) jobs.old.items }
-    requires till { till ≤ end_of_time }
+) -> Result<Vec<Cell>, AllocError>
     requires member { m < length scenario.now.members }
     requires sent { sent ≤ most_sent }
-    ensures { IfOk result (λ _. MayMap (λ b. (⟦<dyn Member as Member>⟧ b.vtable).plain b.value)
-        (length net.now.hosts) jobs.new.items) }
+    ensures { IfOk result (λ cells. AreKnown (λ b. (⟦<dyn Member as Member>⟧ b.vtable).plain b.value)
+        (length net.now.hosts) cells.items) }
 {
     let Ok(script) = scenario.script(alloc, m) else {
         return Err(AllocError);
     };
-    let cells = cell_of(rt, alloc, net, member, script, sent)?;
-    add_job(rt, net, jobs, till, cells)
+    cell_of(rt, alloc, net, member, script, sent)
 }
 
 /// Jobs that have no cells.
@@ -181,28 +176,33 @@ pub(crate) fn map_window<C: BoxCrew>(
     rt: &impl Abort,
     alloc: Global,
     crew: &mut C,
-    scenario: &Scenario,
-    net: &Net,
-    ledger: &Ledger,
+    site: &Site,
     seat: Seat,
     jobs: Vec<Job>,
     till: u64,
 ) -> Result<(Vec<Job>, Seat, Window), CrewFault>
     requires ready { C.ready crew.old }
-    requires jobs { MayMap (λ b. (⟦<dyn Member as Member>⟧ b.vtable).plain b.value) (length net.now.hosts) jobs.items }
-    requires links { ledger.now.links ≡ length net.now.links }
-    requires seat { seat.ledger ≡ ledger.now.name }
+    requires jobs { MayMap (λ b. (⟦<dyn Member as Member>⟧ b.vtable).plain b.value) (length site.now.net.now.hosts) jobs.items }
+    requires links { site.now.ledger.now.links ≡ length site.now.net.now.links }
+    requires seat { seat.ledger ≡ site.now.ledger.now.name }
     requires till { till ≤ end_of_time }
     ensures ready { C.ready crew.new }
     ensures jobs { IfOk result (λ r. MayMap (λ b. (⟦<dyn Member as Member>⟧ b.vtable).plain b.value)
-        (length net.now.hosts) r.0.items) }
-    ensures seat { IfOk result (λ r. r.1.ledger ≡ ledger.now.name) }
+        (length site.now.net.now.hosts) r.0.items) }
+    ensures seat { IfOk result (λ r. r.1.ledger ≡ site.now.ledger.now.name) }
 {
-    let (all, seat) = match crew.map_boxes(alloc, scenario, net, ledger, seat, jobs) {
+    let (all, seat) = match crew.map_boxes(
+        alloc,
+        site.scenario,
+        site.net,
+        site.ledger,
+        seat,
+        jobs,
+    ) {
         Ok(mapped) => mapped,
         Err(fault) => return Err(fault),
     };
-    let Ok((next, window)) = next_jobs(rt, alloc, net, all, till) else {
+    let Ok((next, window)) = next_jobs(rt, alloc, site.net, all, till) else {
         return Err(CrewFault::NoMemory);
     };
     Ok((next, seat, window))

@@ -8,6 +8,7 @@ use crate::crew_tests::handing::opened;
 use crate::crew_tests::mapped::first_jobs;
 use crate::crew_tests::seats::{counted, ledger_of};
 use crate::crew_tests::seen::Window;
+use crate::crew_tests::site::Site;
 use srm_cell::job::{Done, Job};
 use srm_crew::advancing::Advancing;
 use srm_crew::piece::Piece;
@@ -16,11 +17,9 @@ use srm_crew::worked::Worked;
 use srm_examples::watched::Watch;
 use srm_interfaces::crew::Crew;
 use srm_interfaces::fault::CrewFault;
-use srm_ledger::ledger::{Ledger, Seat};
+use srm_ledger::ledger::Seat;
 use srm_member::member::Member;
 use srm_member::participant::Participant;
-use srm_net::net::Net;
-use srm_scenario::scenario::Scenario;
 use srm_team::naming::Naming;
 use srm_team::opened::Opened;
 use srm_team::team::open_team;
@@ -37,21 +36,19 @@ fn map_by_team<'a, M: Participant, J: Naming, R: Wait>(
     rt: &R,
     alloc: Global,
     history: Opened<Advancing<'a>, Piece<M>>,
-    scenario: &'a Scenario,
-    net: &'a Net,
-    ledger: &Ledger,
+    site: &Site<'a>,
     seat: Seat,
     jobs: Vec<Job<M>>,
 ) -> Result<(Vec<Done<M>>, Seat), CrewFault>
     requires history { history ≡ J.book }
-    requires jobs { MayMap M.plain (length net.now.hosts) jobs.items }
-    requires links { ledger.now.links ≡ length net.now.links }
-    requires seat { seat.ledger ≡ ledger.now.name }
+    requires jobs { MayMap M.plain (length site.now.net.now.hosts) jobs.items }
+    requires links { site.now.ledger.now.links ≡ length site.now.net.now.links }
+    requires seat { seat.ledger ≡ site.now.ledger.now.name }
 {
     let work = Advancing {
         alloc,
-        scenario,
-        net,
+        scenario: site.scenario,
+        net: site.net,
     };
     let (team, _bench) = match open_team::<Advancing, Piece<M>, Worked<M>, J>(
         alloc, history, ROOM,
@@ -60,7 +57,7 @@ fn map_by_team<'a, M: Participant, J: Naming, R: Wait>(
         Err(AllocError) => return Err(CrewFault::NoMemory),
     };
     let mut crew = TeamCrew::new(rt, team, work, 0);
-    crew.map(alloc, scenario, net, ledger, seat, jobs)
+    crew.map(alloc, site.scenario, site.net, site.ledger, seat, jobs)
 }
 
 // What is done of all jobs of a window.
@@ -84,10 +81,12 @@ fn map_first<R: Wait + Abort>(
     let (ledger, seat) = ledger_of(rt, alloc, &net)?;
     let seat = counted(rt, &ledger, seat, case.counted);
     let history = Opened::new();
-    let told = map_by_team::<Box<dyn Member>, Brand, R>(
-        rt, alloc, history, &scenario, &net, &ledger, seat, jobs,
-    );
-    match told {
+    let site = Site {
+        scenario: &scenario,
+        net: &net,
+        ledger: &ledger,
+    };
+    match map_by_team::<Box<dyn Member>, Brand, R>(rt, alloc, history, &site, seat, jobs) {
         Ok((all, _seat)) => case.expect(rt, 0, &window_of(alloc, all)?),
         Err(fault) => case.expect_fault(rt, 0, fault)?,
     }

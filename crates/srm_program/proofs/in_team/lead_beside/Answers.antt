@@ -5,7 +5,7 @@ pub join_mut-answer-requires-after_bounds : goal.join_mut-answer-requires-after_
 join_mut-answer-requires-after_bounds g c κs within = (
   search,
   (
-    (c.args.crew, c.args.members),
+    c.args.waiting,
     refl,
     c.requires.ready,
     c.requires.serves,
@@ -17,6 +17,6 @@ join_mut-answer-requires-after_bounds g c κs within = (
 
 pub returns : goal.returns
 returns g c =
-    let told = c.join_mut-answer.ensures.1.met.1 (c.args.crew, c.args.members) refl in
+    let told = c.join_mut-answer.ensures.1.met.1 c.args.waiting refl in
     let same : c.join_mut-answer.new.g.3.now ≡ c.sink-1.given.0 = search rules in
     rw same at told
