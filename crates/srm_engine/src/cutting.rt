@@ -20,7 +20,7 @@ pub(crate) struct Cutting {
 }
 
 /// Why a run may not be cut as was asked.
-#[derive(Clone, Copy, Debug, PartialEq, Eq)]
+#[derive(Clone, Copy)]
 pub(crate) enum CuttingFault {
     /// A job was to have no cell, or more than 1,024.
     BadCut,

@@ -2,7 +2,7 @@
 use srm_interfaces::sink::SinkFault;
 
 /// Why a run that hands its rows on comes to no end.
-#[derive(Clone, Copy, Debug, PartialEq, Eq)]
+#[derive(Clone, Copy)]
 pub(crate) enum Halt<F> {
     /// The run is refused.
     Run(F),

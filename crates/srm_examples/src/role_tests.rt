@@ -84,11 +84,8 @@ fn opened(alloc: Global) -> Result<(Scenario, Net), AllocError>
     }
 }
 
-// Asserts that a fixed part is that of member 2.
-fn expect_member_two(rt: &impl Abort, fixed: &Fixed) {
-    assert_eq!(rt; (fixed.member, fixed.role), (2, Role::Late));
-    assert_eq!(rt; fixed.pages.as_slice(), [1].as_slice());
-    assert_eq!(rt; (fixed.seed, fixed.stream), (42, 54));
+// Asserts that the constants of the timers in a fixed part are those of the scenario.
+fn expect_constants(rt: &impl Abort, fixed: &Fixed) {
     for (constant, first) in [
         (fixed.c1, 2000),
         (fixed.c2, 2000),
@@ -97,6 +94,10 @@ fn expect_member_two(rt: &impl Abort, fixed: &Fixed) {
     ] {
         assert_eq!(rt; constant.first(), first, "{constant:?}");
     }
+}
+
+// Asserts that the distances in a fixed part are those of member 2.
+fn expect_distances(rt: &impl Abort, fixed: &Fixed) {
     for (member, distance) in [
         (0, Some(10)),
         (1, Some(5)),
@@ -106,6 +107,15 @@ fn expect_member_two(rt: &impl Abort, fixed: &Fixed) {
     ] {
         assert_eq!(rt; fixed.dist.get(member), distance, "to member {member}");
     }
+}
+
+// Asserts that a fixed part is that of member 2.
+fn expect_member_two(rt: &impl Abort, fixed: &Fixed) {
+    assert_eq!(rt; (fixed.member, fixed.role), (2, Role::Late));
+    assert_eq!(rt; fixed.pages.as_slice(), [1].as_slice());
+    assert_eq!(rt; (fixed.seed, fixed.stream), (42, 54));
+    expect_constants(rt, fixed);
+    expect_distances(rt, fixed);
 }
 
 // The fixed part of member 2.

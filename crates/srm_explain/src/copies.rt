@@ -15,7 +15,7 @@ use std::alloc::{AllocError, Global};
 use toml::Value;
 
 /// Which copy of an element of a text an element of the scenario is.
-#[derive(Clone, Copy, Debug, PartialEq, Eq)]
+#[derive(Clone, Copy)]
 pub struct Copied {
     /// The place of the element in the text.
     pub written: usize,

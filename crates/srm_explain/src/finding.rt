@@ -3,7 +3,7 @@ use srm_scenario::key::Key;
 use srm_scenario::rule::Rule;
 
 /// What is wrong with the keys of a table, or that an element is none.
-#[derive(Debug, Drop)]
+#[derive(Drop)]
 pub enum Finding {
     /// The element is no table.
     NoTable,

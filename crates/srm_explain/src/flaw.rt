@@ -2,7 +2,7 @@
 use srm_scenario::key::Key;
 
 /// Why links make no tree of the nodes.
-#[derive(Debug, PartialEq, Eq, Drop)]
+#[derive(Drop)]
 pub enum Flaw {
     /// An end of a link is no node.
     NoEnd {

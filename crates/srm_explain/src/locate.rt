@@ -3,7 +3,7 @@ use crate::span::Span;
 use crate::token::{Token, TokenKind};
 
 /// What is looked for: a table of a scenario, and a key of it.
-#[derive(Clone, Copy, Debug)]
+#[derive(Clone, Copy)]
 pub(crate) struct Target<'a> {
     /// The array that has the table as an element; none for the top table.
     pub(crate) array: Option<&'a str>,
@@ -14,7 +14,7 @@ pub(crate) struct Target<'a> {
 }
 
 /// What was found.
-#[derive(Clone, Copy, Debug)]
+#[derive(Clone, Copy)]
 pub(crate) struct Found {
     /// The element, or the line with which it begins.
     pub(crate) element: Option<Span>,
@@ -25,7 +25,7 @@ pub(crate) struct Found {
 }
 
 /// What a search is in.
-#[derive(Clone, Copy, Debug, PartialEq, Eq)]
+#[derive(Clone, Copy)]
 enum State {
     /// The beginning of a line outside all values.
     LineStart,
@@ -38,7 +38,7 @@ enum State {
 }
 
 /// A search for a target, over tokens.
-#[derive(Clone, Copy, Debug)]
+#[derive(Clone, Copy)]
 struct Search<'a> {
     text: &'a [u8],
     target: Target<'a>,

@@ -3,7 +3,7 @@ use srm_scenario::fault::Part;
 use srm_scenario::key::Key;
 
 /// Which rule a member, draw, session message, drop or outage breaks beside the rest of the scenario.
-#[derive(Clone, Copy, Debug, PartialEq, Eq)]
+#[derive(Clone, Copy)]
 pub enum Misfit {
     /// Its node is none.
     NoNode {

@@ -82,7 +82,7 @@ fn blank(alloc: Global, number: usize) -> Result<String, AllocError> {
 }
 
 /// A line, and what stands below it.
-#[derive(Debug, Drop)]
+#[derive(Drop)]
 struct Underlined {
     shown: String,
     under: String,

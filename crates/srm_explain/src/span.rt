@@ -1,7 +1,7 @@
 //! Places in a text.
 
 /// A part of a text.
-#[derive(Clone, Copy, Debug, PartialEq, Eq)]
+#[derive(Clone, Copy)]
 pub(crate) struct Span {
     /// Where it begins, in bytes.
     pub(crate) start: usize,

@@ -2,7 +2,7 @@
 use std::alloc::{AllocError, Global};
 
 /// What a token is.
-#[derive(Clone, Copy, Debug, PartialEq, Eq)]
+#[derive(Clone, Copy, PartialEq, Eq)]
 pub(crate) enum TokenKind {
     /// A bracket or a brace that opens.
     Open,
@@ -19,7 +19,7 @@ pub(crate) enum TokenKind {
 }
 
 /// A token of a text.
-#[derive(Clone, Copy, Debug, PartialEq, Eq)]
+#[derive(Clone, Copy)]
 pub(crate) struct Token {
     /// What it is.
     pub(crate) kind: TokenKind,
@@ -30,7 +30,7 @@ pub(crate) struct Token {
 }
 
 /// What a scanner is in.
-#[derive(Clone, Copy, Debug, PartialEq, Eq)]
+#[derive(Clone, Copy)]
 enum State {
     /// Between tokens.
     Between,
@@ -47,7 +47,7 @@ enum State {
 }
 
 /// Takes the tokens out of a text, byte by byte.
-#[derive(Debug, Drop)]
+#[derive(Drop)]
 struct Scanner {
     tokens: Vec<Token>,
     state: State,
@@ -212,7 +212,7 @@ impl Scanner {
 }
 
 /// A string over several lines.
-#[derive(Clone, Copy, Debug)]
+#[derive(Clone, Copy)]
 struct Long {
     quote: u8,
     start: usize,

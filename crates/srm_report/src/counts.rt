@@ -9,7 +9,7 @@ use srm_member::row::Row;
 use srm_member::told::Told;
 
 /// What the rows of a member say of it.
-#[derive(Clone, Copy, Debug, PartialEq, Eq)]
+#[derive(Clone, Copy)]
 pub(crate) struct Counts {
     /// When it joined, in ticks.
     pub joined: Option<u64>,

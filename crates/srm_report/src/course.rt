@@ -1,7 +1,7 @@
 //! What became of losses.
 
 /// What became of a loss, in ticks.
-#[derive(Clone, Copy, Debug, PartialEq, Eq)]
+#[derive(Clone, Copy)]
 pub(crate) struct Course {
     /// When it was detected.
     pub detected: u64,

@@ -2,7 +2,7 @@
 use srm_net::packet::Name;
 
 /// A name that a member found to be missing.
-#[derive(Clone, Copy, Debug, PartialEq, Eq, PartialOrd, Ord)]
+#[derive(Clone, Copy, PartialEq, Eq, PartialOrd, Ord)]
 pub(crate) struct Loss {
     /// The member's number.
     pub member: u16,

@@ -1,7 +1,7 @@
 //! Where a sink of a trace stands.
 
 /// Where a sink of a trace stands.
-#[derive(Clone, Copy, Debug, PartialEq, Eq)]
+#[derive(Clone, Copy)]
 pub(crate) enum Standing {
     /// It was asked nothing yet.
     Fresh,

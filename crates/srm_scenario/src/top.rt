@@ -36,7 +36,7 @@ fn topology(table: &Table) -> Option<Topology>
 }
 
 /// The numbers of the top table.
-#[derive(Clone, Copy, Debug)]
+#[derive(Clone, Copy)]
 pub(crate) struct Numbers {
     /// The version of the format.
     pub(crate) version: Version,
@@ -109,7 +109,7 @@ fn numbers_of(table: &Table) -> Numbers
 }
 
 /// The nodes and links of the top table.
-#[derive(Clone, Copy, Debug)]
+#[derive(Clone, Copy)]
 pub(crate) struct Shape<'a> {
     /// The topology that the table names.
     pub(crate) topology: Option<Topology>,
@@ -155,7 +155,7 @@ fn shape_of(table: &Table) -> Shape<'_>
 }
 
 /// The other arrays of the top table.
-#[derive(Clone, Copy, Debug)]
+#[derive(Clone, Copy)]
 pub(crate) struct Arrays<'a> {
     /// The members.
     pub(crate) members: &'a [Value],
@@ -185,7 +185,7 @@ fn arrays_of(table: &Table) -> Arrays<'_>
 }
 
 /// What the top table holds.
-#[derive(Clone, Copy, Debug)]
+#[derive(Clone, Copy)]
 pub(crate) struct Top<'a> {
     /// Its numbers.
     pub(crate) numbers: Numbers,
