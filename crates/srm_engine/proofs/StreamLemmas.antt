@@ -27,8 +27,8 @@ use Rattle.srm_engine.specs.Faults.{step_refused}
 use Rattle.srm_interfaces.specs.Sinks.{HandsPieces, most_rows, stage_after}
 use Rattle.srm_engine.specs.Outcomes.{MayRefuseRun}
 use Rattle.srm_engine.specs.Streams.{sink_in, stream_fault_of, run_fault_in, stopped_in, MayStop, MeetsRefusal, TakesTraceFront}
-use Rattle.srm_engine.specs.Streams.{TellsHalt}
-use Rattle.srm_engine.specs.RowRuns.{MayLackSteps, UndoneAfter}
+use Rattle.srm_engine.specs.Streams.{TellsHalt, MayLackSteps}
+use Rattle.srm_engine.specs.RowRuns.{UndoneAfter}
 use Rattle.srm_engine.proofs.Opened.{totals_are}
 use Rattle.srm_engine.proofs.Stepping.{meets_full}
 
@@ -88,7 +88,7 @@ module _ {S : Type 0} (took part : S → List Row → S → Type 0) where
   halts_refuse s old (halt.Sink sink.NoMemory) new h = tt
   halts_refuse s old (halt.Sink (sink.Stopped n)) new h = tt
 
-  -- when such a run is refused whose rows are kept
+  -- why such a run is refused, whatever its sink took
   pub run_refused : (s : Setting) (old : S) (x : StreamFault) (new : S) → MeetsRefusal took part s old x new
       → IfSome (run_fault_in x) (MayRefuseRun s)
   run_refused s old (Run fault.NoMemory) new h = inl refl

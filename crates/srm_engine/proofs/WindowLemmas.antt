@@ -52,8 +52,8 @@ use Rattle.srm_engine.specs.Ends.{BeginsAt, MayEnd, TellsCutting, ends_rule}
 use Rattle.srm_engine.specs.Faults.{window_fault_of, run_fault_of}
 use Rattle.srm_engine.specs.Streams.{sink_in, TellsHalt, stream_fault_of, run_fault_in}
 use Rattle.srm_engine.specs.RowRuns.{MayLackWindow, UndoneAfter}
-use Rattle.srm_engine.specs.WindowStreams.{MeetsWindowRefusal, TellsStreamAsked, StopsAtWindow}
-use Rattle.srm_engine.specs.Windowed.{IsCounted, MayCome, TellsRunAsked, rule_of}
+use Rattle.srm_engine.specs.WindowStreams.{MeetsWindowRefusal, TellsStreamAsked, RefusedAtWindow}
+use Rattle.srm_engine.specs.Windowed.{IsCounted, MayCome, MayRefuseWindow, TellsRunAsked, rule_of}
 use Rattle.srm_engine.specs.WindowEngines.{ComesTo, IsUnderWay, BeginsNext, EndsNext, frame_of, setting_by, rule_by}
 use Rattle.srm_engine.proofs.CellLists.{from_seen, seen_from, few_groups}
 use Rattle.srm_engine.proofs.JobLemmas.{any_cell, are_jobs, may_advance, as_many_jobs, places_with, job_results, cuts_kept, joined_some}
@@ -87,11 +87,11 @@ pub record JobsTell {M : Type 0} (f : M → Record) (e : WindowEngine M) (seed t
   pub seen : AreJobs f js (jobs_of e.groups.cut till w)
   pub not_spent : AnyEnds Spent (jobs_of e.groups.cut till w) → ⊥
   pub full : AnyEnds Full (jobs_of e.groups.cut till w)
-      → MayCome (setting_by e seed) (rule_by e seed) e.groups.cut w window.CountFull
+      → MayRefuseWindow (setting_by e seed) (rule_by e seed w) e.groups.cut w window.CountFull
   pub past : ((rows : List Row) × AreRowsOfSome (jobs_of e.groups.cut till w) rows
       × IsPast (counted_in (crossings (setting_by e seed).traffic rows)) e.seat)
-      → MayCome (setting_by e seed) (rule_by e seed) e.groups.cut w window.ShareFull
-  pub pending : MayCome (setting_by e seed) (rule_by e seed) e.groups.cut w window.NoMemory
+      → MayRefuseWindow (setting_by e seed) (rule_by e seed w) e.groups.cut w window.ShareFull
+  pub pending : MayRefuseWindow (setting_by e seed) (rule_by e seed w) e.groups.cut w window.NoMemory
 
 -- a crew's refusal, but for a member that left, is one of a window
 pub of_a_window : (x : CrewFault) → x ≢ crew.Spent → IsSome (window_fault_of x)
@@ -104,7 +104,7 @@ of_a_window crew.Spent ne = absurd (ne refl)
 pub map_refused : {M : Type 0} (f : M → Record) (e : WindowEngine M) (seed till : ℕ) (w : World)
     (js : List (Job M)) → JobsTell f e seed till w js → (x : CrewFault) (y : WindowFault) → window_fault_of x ≡ Some y
     → TellsMap f (setting_by e seed).traffic e.seat (jobs_of e.groups.cut till w) (Err x)
-    → MayCome (setting_by e seed) (rule_by e seed) e.groups.cut w y
+    → MayRefuseWindow (setting_by e seed) (rule_by e seed w) e.groups.cut w y
 map_refused f e seed till w js j x y is h = grind arith
 
 -- what the crew did for the window that ends so
@@ -219,14 +219,10 @@ module _ {M : Type 0} (f : M → Record) (e : WindowEngine M) (is : IsUnderWay f
                 subst (λ n. AnyEnds Full (jobs_of cut n w)) end_is h,
               );
           past = λ h. (
-            begins,
-            comes.windows,
-            (
-              h.0,
-              subst (λ n. AreRowsOfSome (jobs_of cut n w) h.0) end_is h.1,
-              h.2.0,
-              subst (λ n. 2 ^ 47 < n + counted_in (crossings s.traffic h.0) h.2.0) (comes.counted.shares h.2.0) h.2.1,
-            ),
+            h.0,
+            subst (λ n. AreRowsOfSome (jobs_of cut n w) h.0) end_is h.1,
+            h.2.0,
+            subst (λ n. 2 ^ 47 < n + counted_in (crossings s.traffic h.0) h.2.0) (comes.counted.shares h.2.0) h.2.1,
           );
           pending = (at seed begins w comes).0;
         }
@@ -344,14 +340,14 @@ pub halts_refuse : {C S : Type 0} (took part : S → List Row → S → Type 0) 
 halts_refuse took part s rule n old from x to new h = grind arith
 
 -- where such a run is refused for what it counts, the sink took the rows up to that window
-pub halts_stop : {S : Type 0} (took part : S → List Row → S → Type 0) (s : Setting) (rule : World → ℕ) (n : ℕ) (from : S)
+pub refused_at_window : {S : Type 0} (took part : S → List Row → S → Type 0) (s : Setting) (rule : World → ℕ) (n : ℕ) (from : S)
     (x : Halt WindowFault) (to : S) → TellsHalt took part (MayCome s rule n) s from x to
-    → StopsAtWindow took part s rule n from (stream_fault_of run_fault_of x) to
-halts_stop took part s rule n from (halt.Run window.NoMemory) to h = tt
-halts_stop took part s rule n from (halt.Run window.CountFull) to h = h
-halts_stop took part s rule n from (halt.Run window.ShareFull) to h = h
-halts_stop took part s rule n from (halt.Sink sink.NoMemory) to h = tt
-halts_stop took part s rule n from (halt.Sink (sink.Stopped k)) to h = tt
+    → RefusedAtWindow took part s rule n from (stream_fault_of run_fault_of x) to
+refused_at_window took part s rule n from (halt.Run window.NoMemory) to h = tt
+refused_at_window took part s rule n from (halt.Run window.CountFull) to h = h
+refused_at_window took part s rule n from (halt.Run window.ShareFull) to h = h
+refused_at_window took part s rule n from (halt.Sink sink.NoMemory) to h = tt
+refused_at_window took part s rule n from (halt.Sink (sink.Stopped k)) to h = tt
 
 -- what was left undone where such a run is refused memory
 pub windows_undone : {S : Type 0} (took part : S → List Row → S → Type 0) (stage : S → Stage) (A : Type 0) (s : Setting)

@@ -10,14 +10,12 @@ use Rattle.srm_interfaces.specs.declared.sink.SinkFault.TheVariants as sink
 use Rattle.srm_interfaces.specs.declared.sink.Stage.{Stage}
 use Rattle.srm_interfaces.specs.declared.sink.Stage.TheVariants.{Refused}
 use Rattle.srm_engine.specs.declared.fault.RunFault.TheVariants as fault
-use Rattle.srm_engine.specs.declared.step_fault.StepFault.TheVariants as step_fault
 use Rattle.srm_engine.specs.declared.window_fault.WindowFault.TheVariants as window
 use Rattle.srm_engine.specs.declared.stream_fault.StreamFault.{StreamFault}
 use Rattle.srm_engine.specs.declared.stream_fault.StreamFault.TheVariants.{Run}
 use Rattle.srm_model.specs.World.{World, IsLast, IsOutcome}
 use Rattle.srm_engine.specs.Openings.{HoldOpeningRecords}
-use Rattle.srm_interfaces.specs.Sinks.{most_rows}
-use Rattle.srm_engine.specs.Streams.{MayStop, TakesTraceFront, TakesUpTo}
+use Rattle.srm_engine.specs.Streams.{TakesTraceFront, TakesUpTo}
 use Rattle.srm_engine.specs.Windowed.{MayCome}
 
 -- ---- totals
@@ -48,10 +46,6 @@ module _ {S : Type 0} (took part : S → List Row → S → Type 0) where
       → TellsLast (is_seen_as seed) (setting_of p net seed) old r new
 
 -- ---- memory
-
--- memory may be refused to the steps from a world of a run on
-abbrev pub MayLackSteps : Setting → World → Type 0
-MayLackSteps s w = MayStop most_rows s w step_fault.NoMemory
 
 -- memory may be refused to the window that begins in a world of a run, where windows end so and jobs are so large
 abbrev pub MayLackWindow : (Setting → World → ℕ) → ℕ → Setting → World → Type 0

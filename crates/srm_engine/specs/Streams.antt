@@ -57,8 +57,8 @@ stopped_in (Ok v) = 0
 stopped_in (Err (Run e)) = 0
 stopped_in (Err (Stopped n)) = 1
 
--- a sink stands as this answer says: it took all that it was handed, also where the run met what cannot be counted; or
--- its device failed and it told this number
+-- how a sink stands after this answer: it took all that it was handed, also where the run met what cannot be counted;
+-- or its device failed and it told this number. After other refusals it may stand either way
 abbrev pub StandsAs : {A : Type 0} → Result A StreamFault → Stage → Type 0
 StandsAs (Ok v) at = at ≡ Live
 StandsAs (Err (Run fault.CountFull)) at = at ≡ Live
@@ -74,10 +74,14 @@ MeetsFullWithin most s w =
     (v : World) × (rows : List Row) × IsReached s v × (v.trace ≡ w.trace ++ rows) × (length rows < most)
     × (step s v ≡ Full)
 
--- when up to so many steps from a world of a run on may be refused: for memory only where there is one to take, or
--- where there were more rows than are counted; and where the run meets one for which the packet count is used up
+-- memory may be refused to the steps from a world of a run on: there is one to take, or there are 2^62 rows or more
+abbrev pub MayLackSteps : Setting → World → Type 0
+MayLackSteps s w = HasWork (step s w) ⊎ (2 ^ 62 ≤ length w.trace)
+
+-- when up to so many steps from a world of a run on may be refused: for memory; and where the packet count is used up
+-- for one of them
 abbrev pub MayStop : ℕ → Setting → World → StepFault → Type 0
-MayStop most s w step_fault.NoMemory = HasWork (step s w) ⊎ (2 ^ 62 ≤ length w.trace)
+MayStop most s w step_fault.NoMemory = MayLackSteps s w
 MayStop most s w step_fault.CountFull = MeetsFullWithin most s w
 
 module _ {S : Type 0} (took part : S → List Row → S → Type 0) where

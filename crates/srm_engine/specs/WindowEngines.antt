@@ -23,7 +23,7 @@ use Rattle.srm_engine.specs.declared.window_fault.WindowFault.TheVariants.{NoMem
 use Rattle.srm_engine.specs.Ends.{ends_rule, MayEnd}
 use Rattle.srm_engine.specs.Groups.{AreKept}
 use Rattle.srm_engine.specs.Streams.{TellsHalt}
-use Rattle.srm_engine.specs.Windowed.{IsCounted, MayCome}
+use Rattle.srm_engine.specs.Windowed.{IsCounted, MayCome, MayRefuseWindow}
 
 -- the lists of rows in vectors
 abbrev pub lists_in : Vec (Vec Row) → List (List Row)
@@ -111,7 +111,7 @@ module _ {M : Type 0} where
         → MatchResult r (λ v. ((rows : List Row) → IsMerge (lists_in v.1) rows
         → (u : World) × ComesTo f seed v.0 (begins ++ w ∷ []) u × (u.trace ≡ w.trace ++ rows))
         × handed old (jobs_of e.groups.cut (rule_by e seed w) w ∷ []) new)
-        (MayCome (setting_by e seed) (rule_by e seed) e.groups.cut w)
+        (MayRefuseWindow (setting_by e seed) (rule_by e seed w) e.groups.cut w)
 
   module _ {C S : Type 0} (handed : C → List (List cell.PlainJob) → C → Type 0) (took part : S → List Row → S → Type 0)
       (f : M → Record) where

@@ -2,6 +2,7 @@
 use Rattle.std.specs.Prelude.{◌≡◌, ◌⊎◌, ℕ, List, Result, Ok, Err, IfErr, IfSome}
 use Rattle.srm_net.specs.Network.{Network}
 use Rattle.srm_scenario.specs.Plain.{PlainScenario}
+use Rattle.srm_member.specs.declared.row.Row.{Row}
 use Rattle.srm_member.specs.Record.{Record}
 use Rattle.srm_cell.specs.Setting.{Setting, setting_of}
 use Rattle.srm_cell.specs.Jobs as cell
@@ -10,7 +11,6 @@ use Rattle.srm_engine.specs.declared.fault.RunFault.TheVariants as fault
 use Rattle.srm_engine.specs.declared.stream_fault.StreamFault.{StreamFault}
 use Rattle.srm_engine.specs.declared.stream_fault.StreamFault.TheVariants.{Run, Stopped}
 use Rattle.srm_engine.specs.declared.window_fault.WindowFault.TheVariants as window
-use Rattle.srm_member.specs.declared.row.Row.{Row}
 use Rattle.srm_model.specs.World.{World, IsLast}
 use Rattle.srm_model.specs.WindowChains.{AreWindows, window_jobs}
 use Rattle.srm_engine.specs.Openings.{HoldOpeningRecords}
@@ -28,24 +28,25 @@ TellsStreamAsked net asked r = IsCut asked.cut × MayBeWide net asked.width
 abbrev pub IsLeft : {A S : Type 0} → S → Result A StreamFault → S → Type 0
 IsLeft old r new = IfErr r (λ x. (x ≡ Run fault.BadCut) ⊎ (x ≡ Run fault.BadWidth) → new ≡ old)
 
--- ---- what is counted
+-- ---- refusals
 
 module _ {S : Type 0} (took part : S → List Row → S → Type 0) where
-  -- where a run in windows is refused for what it counts, the sink took the rows up to a window that may be refused so
-  abbrev pub StopsAtWindow : Setting → (World → ℕ) → ℕ → S → StreamFault → S → Type 0
-  StopsAtWindow s rule cut old (Run fault.CountFull) new =
+  -- where a run in windows is refused for what it counts, windows come to a world up to which the sink took the rows,
+  -- and the next may be refused so
+  abbrev pub RefusedAtWindow : Setting → (World → ℕ) → ℕ → S → StreamFault → S → Type 0
+  RefusedAtWindow s rule cut old (Run fault.CountFull) new =
       TakesUpTo took part s (λ w. MayCome s rule cut w window.CountFull) old new
-  StopsAtWindow s rule cut old (Run fault.ShareFull) new =
+  RefusedAtWindow s rule cut old (Run fault.ShareFull) new =
       TakesUpTo took part s (λ w. MayCome s rule cut w window.ShareFull) old new
-  StopsAtWindow s rule cut old (Run e) new = Unit {0}
-  StopsAtWindow s rule cut old (Stopped n) new = Unit {0}
+  RefusedAtWindow s rule cut old (Run e) new = Unit {0}
+  RefusedAtWindow s rule cut old (Stopped n) new = Unit {0}
 
   -- so for every seed whose opening records the boxes hold
-  abbrev pub StopsInWindows : {A : Type 0} → PlainScenario → Network → List Record → (Setting → World → ℕ) → ℕ → S
+  abbrev pub RefusedInWindows : {A : Type 0} → PlainScenario → Network → List Record → (Setting → World → ℕ) → ℕ → S
       → Result A StreamFault → S → Type 0
-  StopsInWindows p net rs rule cut old r new =
+  RefusedInWindows p net rs rule cut old r new =
       (seed : ℕ) → HoldOpeningRecords p net seed rs
-      → IfErr r (λ x. StopsAtWindow (setting_of p net seed) (rule (setting_of p net seed)) cut old x new)
+      → IfErr r (λ x. RefusedAtWindow (setting_of p net seed) (rule (setting_of p net seed)) cut old x new)
 
 -- ---- calls of a crew
 

@@ -56,15 +56,17 @@ pub record IsCounted (t : Traffic) (l : LedgerView) (rows : List Row) (seat : Se
 
 -- ---- refusals
 
--- when the window that begins in a world of a run may be refused: for memory only where something is pending; where
--- one of its jobs, and so the run, meets a step for which the packet count is used up; and where the crossings up to
--- it, with those of some of its jobs, are too many for a share
+-- when the window that begins in a world of a run, and ends so, may be refused: for memory only where something is
+-- pending; where one of its jobs, and so the run, meets a step for which the packet count is used up; and where the
+-- crossings up to it, with those of some of its jobs, are too many for a share
+abbrev pub MayRefuseWindow : Setting → ℕ → ℕ → World → WindowFault → Type 0
+MayRefuseWindow s till cut w window.NoMemory = (e : Event) × IsNext s w e
+MayRefuseWindow s till cut w window.CountFull = RunMeetsFull s × AnyEnds Full (jobs_of cut till w)
+MayRefuseWindow s till cut w window.ShareFull = PassesShare s.traffic w.trace (jobs_of cut till w)
+
+-- windows come to this world, and the next may be refused so
 abbrev pub MayCome : Setting → (World → ℕ) → ℕ → World → WindowFault → Type 0
-MayCome s rule cut w window.NoMemory = (e : Event) × IsNext s w e
-MayCome s rule cut w window.CountFull = RunMeetsFull s × AnyEnds Full (jobs_of cut (rule w) w)
-MayCome s rule cut w window.ShareFull =
-    (begins : List World) × AreWindows s rule begins w
-    × PassesShare s.traffic w.trace (jobs_of cut (rule w) w)
+MayCome s rule cut w e = (begins : List World) × AreWindows s rule begins w × MayRefuseWindow s (rule w) cut w e
 
 -- when a run in windows may be refused: for memory; as some window of it; and before any call of the crew, where the
 -- cut or the width is

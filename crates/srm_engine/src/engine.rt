@@ -7,8 +7,9 @@ ghost use Rattle.srm_engine.specs.Openings.{HoldOpeningRecords};
 ghost use Rattle.srm_engine.specs.Engines.{IsSetUp, IsStillOf, MayStep, StepsOn, MaySendNow, Sends, MayDeliver, Delivers, IsOpened, OpensFrom};
 ghost use Rattle.srm_engine.specs.Engines.{Shows};
 ghost use Rattle.srm_interfaces.specs.Sinks.{IsOpen, stage_after, stops_in, HandsPieces, TellsPieces};
-ghost use Rattle.srm_engine.specs.Streams.{sink_in, MayTake, TakesSteps, StreamsRows, StandsAs, stopped_in, RefusedFrom};
-ghost use Rattle.srm_engine.specs.RowRuns.{LastFrom, MayLackSteps, UndoneFrom};
+ghost use Rattle.srm_engine.specs.Streams.{sink_in, MayTake, TakesSteps, StreamsRows, StandsAs, stopped_in, MayLackSteps};
+ghost use Rattle.srm_engine.specs.Streams.{RefusedFrom};
+ghost use Rattle.srm_engine.specs.RowRuns.{LastFrom, UndoneFrom};
 
 use crate::cells::{Cells, open_cells};
 use crate::halt::Halt;

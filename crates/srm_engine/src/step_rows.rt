@@ -3,8 +3,8 @@ ghost use Rattle.std.specs.Prelude.{◌≡◌, ◌<◌, ◌+◌, ◌-◌, ◌^�
 ghost use Rattle.srm_scenario.specs.Plain.{network_of};
 ghost use Rattle.srm_engine.specs.Openings.{HoldOpeningRecords};
 ghost use Rattle.srm_interfaces.specs.Sinks.{IsOpen, TellsPieces};
-ghost use Rattle.srm_engine.specs.Streams.{StandsAs, stopped_in, RefusedFrom};
-ghost use Rattle.srm_engine.specs.RowRuns.{TotalsFrom, MayLackSteps, UndoneFrom};
+ghost use Rattle.srm_engine.specs.Streams.{StandsAs, stopped_in, MayLackSteps, RefusedFrom};
+ghost use Rattle.srm_engine.specs.RowRuns.{TotalsFrom, UndoneFrom};
 
 use crate::engine::Engine;
 use crate::start::Start;

@@ -7,7 +7,7 @@ ghost use Rattle.srm_engine.specs.Ends.{MayCut};
 ghost use Rattle.srm_interfaces.specs.Sinks.{IsOpen, stage_after, stops_in};
 ghost use Rattle.srm_engine.specs.Streams.{sink_in, StandsAs, stopped_in};
 ghost use Rattle.srm_engine.specs.Windowed.{rule_of};
-ghost use Rattle.srm_engine.specs.WindowStreams.{IsLeft, TellsStreamAsked, CallsInWindows, StopsInWindows};
+ghost use Rattle.srm_engine.specs.WindowStreams.{IsLeft, TellsStreamAsked, CallsInWindows, RefusedInWindows};
 ghost use Rattle.srm_engine.specs.RowRuns.{LastFrom, MayLackWindow, UndoneFrom};
 ghost use Rattle.srm_engine.specs.WindowEngines.{IsUnderWay, IsAt, frame_of, OpensAt, BeginsNext, EndsNext, TellsWindow, TellsWindows};
 ghost use Rattle.srm_engine.specs.WindowEngines.{TellsCounted, TellsEnd, lists_in};
@@ -112,7 +112,7 @@ impl<'a, M: Participant> WindowEngine<'a, M> {
         ensures windows { CallsInWindows C.handed start.entry.scenario.now start.entry.net.now
             (map M.plain start.entry.members.items) (λ s. rule_of s start.entry.net.now asked.width) asked.cut crew.old result
             crew.new }
-        ensures stops { StopsInWindows S.took S.part start.entry.scenario.now start.entry.net.now
+        ensures refused { RefusedInWindows S.took S.part start.entry.scenario.now start.entry.net.now
             (map M.plain start.entry.members.items) (λ s. rule_of s start.entry.net.now asked.width) asked.cut sink.old result
             sink.new }
         ensures undone { UndoneFrom S.stage S.took S.part

@@ -5,7 +5,7 @@ ghost use Rattle.srm_engine.specs.Openings.{HoldOpeningRecords};
 ghost use Rattle.srm_interfaces.specs.Sinks.{IsOpen};
 ghost use Rattle.srm_engine.specs.Streams.{StandsAs, stopped_in};
 ghost use Rattle.srm_engine.specs.Windowed.{rule_of};
-ghost use Rattle.srm_engine.specs.WindowStreams.{IsLeft, TellsStreamAsked, CallsInWindows, StopsInWindows};
+ghost use Rattle.srm_engine.specs.WindowStreams.{IsLeft, TellsStreamAsked, CallsInWindows, RefusedInWindows};
 ghost use Rattle.srm_engine.specs.RowRuns.{TotalsFrom, MayLackWindow, UndoneFrom};
 
 use crate::start::Start;
@@ -56,7 +56,7 @@ pub fn window_rows<M: Participant, C: Crew<M>, S: RowSink>(
     ensures windows { CallsInWindows C.handed start.entry.scenario.now start.entry.net.now
         (map M.plain start.entry.members.items) (λ s. rule_of s start.entry.net.now asked.width) asked.cut crew.old result
         crew.new }
-    ensures stops { StopsInWindows S.took S.part start.entry.scenario.now start.entry.net.now
+    ensures refused { RefusedInWindows S.took S.part start.entry.scenario.now start.entry.net.now
         (map M.plain start.entry.members.items) (λ s. rule_of s start.entry.net.now asked.width) asked.cut sink.old result
         sink.new }
     ensures undone { UndoneFrom S.stage S.took S.part (MayLackWindow (λ s. rule_of s start.entry.net.now asked.width) asked.cut)

@@ -25,7 +25,7 @@ use std::alloc::Global;
 /// 1. `BadCut`: exactly where the cut is none of 1 to 1,024 members.
 /// 2. `BadWidth`: exactly where the width is none that the network allows.
 /// 3. As met: `ShareFull`, only where the crossings up to a window, with those of some of its jobs, are more than 2^47 of a kind
-///    at some link; `CountFull`, only where the sequential run answers it; and `NoMemory`.
+///    at some link; `CountFull`, only where the sequential run meets a packet count that is used up; and `NoMemory`.
 ///
 /// The first two come before any work and whatever the memory, and the crew is then as it was; after the others it may be called
 /// again. The members are gone.

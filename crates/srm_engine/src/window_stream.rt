@@ -5,7 +5,7 @@ ghost use Rattle.srm_engine.specs.Openings.{HoldOpeningRecords};
 ghost use Rattle.srm_interfaces.specs.Sinks.{IsOpen};
 ghost use Rattle.srm_engine.specs.Streams.{StandsAs, stopped_in, StreamsFrom};
 ghost use Rattle.srm_engine.specs.Windowed.{rule_of};
-ghost use Rattle.srm_engine.specs.WindowStreams.{IsLeft, TellsStreamAsked, CallsInWindows, StopsInWindows};
+ghost use Rattle.srm_engine.specs.WindowStreams.{IsLeft, TellsStreamAsked, CallsInWindows, RefusedInWindows};
 
 use crate::start::Start;
 use crate::stream_fault::StreamFault;
@@ -31,9 +31,10 @@ use std::alloc::Global;
 /// # Errors
 /// 1. `Run` with `BadCut`, and 2. `Run` with `BadWidth`, as of [`window_run`](crate::window_run::window_run): the sink and the
 ///    crew are then as they were.
-/// 3. As met: `Stopped`, exactly where the device under the sink failed, with the number that the sink told; `Run` with
-///    `ShareFull` or `CountFull`, only where the window after the rows that the sink took may be refused so; `Run` with `NoMemory`,
-///    also where memory was refused to the sink.
+/// 3. As met: `Stopped`, exactly where the device under the sink failed, with the number that the sink told; `Run` with `ShareFull`,
+///    only where the crossings of the rows that the sink took, all of the windows so far, with those of some jobs of the next
+///    window are more than 2^47 of a kind at some link; `Run` with `CountFull`, only where a job of that window meets a packet
+///    count that is used up; `Run` with `NoMemory`, also where memory was refused to the sink.
 ///
 /// The members are then gone. The sink stands as after [`step_stream`](crate::step_stream::step_stream), after `ShareFull` as after
 /// `CountFull`.
@@ -63,7 +64,7 @@ pub fn window_stream<M: Participant, C: Crew<M>, S: RowSink>(
         sink.old result sink.new }
     ensures windows { CallsInWindows C.handed scenario.now net.now (map M.plain members.items)
         (λ s. rule_of s net.now asked.width) asked.cut crew.old result crew.new }
-    ensures stops { StopsInWindows S.took S.part scenario.now net.now (map M.plain members.items)
+    ensures refused { RefusedInWindows S.took S.part scenario.now net.now (map M.plain members.items)
         (λ s. rule_of s net.now asked.width) asked.cut sink.old result sink.new }
 {
     let start = Start {

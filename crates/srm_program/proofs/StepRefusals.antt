@@ -12,8 +12,8 @@ use Rattle.srm_engine.specs.Streams.{run_fault_in, TakesTraceFront}
 use Rattle.srm_program.specs.Runs.{fault_of_stream, TellsRows}
 
 -- why it is refused, and what its sink took
-pub step_refused : {S : Type 0} (took part : S → List Row → S → Type 0) (p : PlainScenario) (net : Network) (seed : ℕ) (o : Options)
+pub step_rows_refused : {S : Type 0} (took part : S → List Row → S → Type 0) (p : PlainScenario) (net : Network) (seed : ℕ) (o : Options)
     (old : S) (x : StreamFault) (new : S) → o.engine ≡ Step → IfSome (run_fault_in x) (MayRefuseRun (setting_of p net seed))
     → TakesTraceFront took part (setting_of p net seed) old new
     → TellsRows took part p net seed o old (Err (fault_of_stream x)) new
-step_refused took part p net seed o old x new step why front = grind arith
+step_rows_refused took part p net seed o old x new step why front = grind arith

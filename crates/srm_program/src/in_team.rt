@@ -35,7 +35,8 @@ pub(crate) const PIECES: usize = 4;
 // How many rows the window before has at least where the workers are woken.
 const ENOUGH: usize = 1_000;
 
-// The run led by the crew that waits with its members.
+// The run led by this crew with these members. They are taken out of an `Option`, since a closure that calls this cannot give them
+// away.
 fn lead<M: Participant, C: Crew<M> + Drop, S: RowSink>(
     alloc: Global,
     asked: &Asked,
@@ -84,7 +85,7 @@ fn lead_beside<
     if threads == 0 {
         return lead(alloc, asked, &mut waiting, sink);
     }
-    // The first closure borrows the other one.
+    // The first closure borrows `alloc`.
     let own = alloc;
     let ((), answer) = join_mut(
         rt,

@@ -4,9 +4,9 @@ use Rattle.srm_cell.specs.Setting.{Setting, setting_of}
 use Rattle.srm_model.specs.World.{opening, IsReached, IsLast}
 use Rattle.srm_engine.specs.Engines.{setting_in}
 use Rattle.srm_engine.specs.Faults.{step_refused}
-use Rattle.srm_engine.specs.RowRuns.{MayLackSteps, UndoneAfter}
+use Rattle.srm_engine.specs.RowRuns.{UndoneAfter}
 use Rattle.srm_interfaces.specs.Sinks.{most_rows}
-use Rattle.srm_engine.specs.Streams.{MayStop, MeetsRefusal, stream_fault_of}
+use Rattle.srm_engine.specs.Streams.{MayLackSteps, MayStop, MeetsRefusal, stream_fault_of}
 use Rattle.srm_engine.proofs.Stepping.{opening_reached, opening_trace}
 use Rattle.srm_engine.proofs.StreamLemmas.{halted_front, halts_refuse, steps_undone, uncalled}
 use Rattle.srm_engine.proofs.engine.Engine.run.Goals as goal

@@ -11,7 +11,7 @@ use Rattle.srm_engine.specs.RowRuns.{MayLackWindow}
 use Rattle.srm_engine.specs.Windowed.{MayCome, rule_of}
 use Rattle.srm_engine.proofs.Stepping.{opening_reached, opening_trace}
 use Rattle.srm_engine.proofs.StreamLemmas.{halted_front, uncalled}
-use Rattle.srm_engine.proofs.WindowLemmas.{as_asked, halts_refuse, halts_stop, windows_undone}
+use Rattle.srm_engine.proofs.WindowLemmas.{as_asked, halts_refuse, refused_at_window, windows_undone}
 use Rattle.srm_engine.proofs.window_engine.WindowEngine.run.Goals as goal
 
 pub returns-in-Err-clause-last : goal.returns-in-Err-clause-last
@@ -64,11 +64,11 @@ returns-in-Err-stream-clause-windows g c = λ seed h.
     c.stream.new.sink) c.in-Ok-open.opened c.args.start.scenario.now c.args.start.net.now c.in-Ok.cutting c.args.asked seed
     c.in-Ok-open.ensures.frame c.in-Ok.ensures (c.in-Err-stream.ensures.windows seed (c.in-Ok-open.ensures.opened seed h))))
 
-pub returns-in-Err-stream-clause-stops : goal.returns-in-Err-stream-clause-stops
-returns-in-Err-stream-clause-stops g c = λ seed h.
+pub returns-in-Err-stream-clause-refused : goal.returns-in-Err-stream-clause-refused
+returns-in-Err-stream-clause-refused g c = λ seed h.
     let s = setting_of c.args.start.scenario.now c.args.start.net.now seed in
     rw c.into-in-Err-stream.ensures
-    (halts_stop g.S.RowSink.took g.S.RowSink.part s (rule_of s c.args.start.net.now c.args.asked.width) c.args.asked.cut
+    (refused_at_window g.S.RowSink.took g.S.RowSink.part s (rule_of s c.args.start.net.now c.args.asked.width) c.args.asked.cut
     c.args.sink.now c.in-Err-stream.halt c.stream.new.sink
     (as_asked (λ s rule cut. TellsHalt g.S.RowSink.took g.S.RowSink.part (MayCome s rule cut) s c.args.sink.now c.in-Err-stream.halt
     c.stream.new.sink) c.in-Ok-open.opened c.args.start.scenario.now c.args.start.net.now c.in-Ok.cutting c.args.asked seed

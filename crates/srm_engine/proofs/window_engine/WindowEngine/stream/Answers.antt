@@ -78,7 +78,7 @@ returns-in-Err-window-clause-windows g c = λ seed h.
           (reached g.M.Participant.plain c.loop-begin.engine v.stands seed i.0 i.1 i.2),
       i.3,
       subst (λ (k : PlainScenario × Network × ℕ × Ends). MayCome (setting_of k.0 k.1 seed) (ends_rule (setting_of k.0 k.1 seed) k.3) k.2
-          i.1 x) v.frame (c.in-Err-window.ensures.window seed i.0 i.1 i.2),
+          i.1 x) v.frame (i.0, i.2.windows, c.in-Err-window.ensures.window seed i.0 i.1 i.2),
     )
 
 -- why not all rows of a window were handed on
@@ -110,7 +110,7 @@ returns-in-Err-hand_lists-clause-windows g c = λ seed h.
     c.args.sink.now x c.hand_lists.new.sink) v.frame
     (halted g.S.RowSink.took g.S.RowSink.part g.met.S.RowSink.part_more (setting_by e seed)
     (MayCome (setting_by e seed) (rule_by e seed) e.groups.cut) (lists_in c.in-Ok.ran.1) c.args.sink.now c.loop-begin.sink
-    c.hand_lists.new.sink i.1 (reached g.M.Participant.plain e v.stands seed i.0 i.1 i.2) pending i.3
+    c.hand_lists.new.sink i.1 (reached g.M.Participant.plain e v.stands seed i.0 i.1 i.2) (i.0, i.2.windows, pending) i.3
     (λ rows merge.
     let u = both.0 rows merge in (
       u.0,
