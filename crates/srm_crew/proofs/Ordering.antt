@@ -13,7 +13,7 @@ use Rattle.srm_crew.specs.declared.bag_fault.EmptyFault.TheVariants as empty
 use Rattle.srm_crew.specs.declared.taken.Taken.{Taken}
 use Rattle.srm_crew.specs.Passes.{BagView, PassView, RefusesEmpty, TellsEmpty}
 use Rattle.srm_interfaces.specs.Crews.{HasGrown}
-use Rattle.srm_crew.specs.Shared.{HoldsAt, sum_of, InOrder, ComeOf, Worked}
+use Rattle.srm_crew.specs.Shared.{HoldsAt, sum_of, InOrder, ComeOf, HasWorked}
 use Rattle.srm_crew.proofs.Peeling.{once_length, sum_same}
 use Rattle.std.proofs.lemmas.Option.{same_Some}
 use Rattle.srm_net.proofs.Lists.{below_get}
@@ -202,7 +202,7 @@ module _ {D : Type 0} where
 module _ {T D : Type 0} (R : T → Result D CellFault → Type 0) (numbers : D → List ℕ) where
   -- what workers did, where every index was taken once and the results are in order
   pub all_told : (items : List T) (P p : PassView T) (S s : SeatView) (r v : List D) (indices : List ℕ) → P.put ≡ items → P.taken ≡ []
-      → Worked R numbers P S [] p s r → indices ≡ p.taken → EachOnce indices (length items) → InOrder indices r v
+      → HasWorked R numbers P S [] p s r → indices ≡ p.taken → EachOnce indices (length items) → InOrder indices r v
       → AllZip (λ x d. R x (Ok d)) items v × HasGrown (λ k. sum_of numbers k v) S s
   all_told items P p S s r v indices put none w is once order =
       let same : indices ≡ w.indices = is ∙ ap (λ q. q.taken) w.taken ∙ ap (λ l. l ++ w.indices) none in
@@ -241,7 +241,7 @@ module _ {T D : Type 0} (R : T → Result D CellFault → Type 0) (numbers : D �
     pub whole : EachOnce indices (length items)
 
   pub all_indexed : (items : List T) (P p : PassView T) (S s : SeatView) (r : List D) (indices : List ℕ) → P.put ≡ items → P.taken ≡ []
-      → Worked R numbers P S [] p s r → indices ≡ p.taken → EachOnce p.taken (length p.put) → Indexed items r indices
+      → HasWorked R numbers P S [] p s r → indices ≡ p.taken → EachOnce p.taken (length p.put) → Indexed items r indices
   all_indexed items P p S s r indices put none w is once =
       let put2 : p.put ≡ items = ap (λ q. q.put) w.taken ∙ put in
       let same : indices ≡ w.indices = is ∙ ap (λ q. q.taken) w.taken ∙ ap (λ l. l ++ w.indices) none in
@@ -251,7 +251,7 @@ module _ {T D : Type 0} (R : T → Result D CellFault → Type 0) (numbers : D �
       ∙ sym (ap length w.gave) in
       record { once = subst (EachOnce indices) (sym (once_length (length items) indices whole) ∙ many) whole; many = many; whole = whole }
 
-  not_refused : (P p : PassView T) (S s : SeatView) (r : List D) (e : EmptyFault) → P.weight ≡ 65536 → Worked R numbers P S [] p s r
+  not_refused : (P p : PassView T) (S s : SeatView) (r : List D) (e : EmptyFault) → P.weight ≡ 65536 → HasWorked R numbers P S [] p s r
       → (p.weight ≡ 65536 → EachOnce p.taken (length p.put)) → RefusesEmpty p e → ⊥
   not_refused P p S s r empty.NotWhole is w whole h = let weight : p.weight ≡ 65536 = ap (λ q. q.weight) w.taken
       ∙ is in omega (arith, weight, h)
@@ -260,7 +260,7 @@ module _ {T D : Type 0} (R : T → Result D CellFault → Type 0) (numbers : D �
 
   -- the bag is emptied
   pub emptied : (b : BagView) (P p : PassView T) (S s : SeatView) (r : List D) (t : Result Taken (BagView × PassView T × EmptyFault))
-      → P.weight ≡ 65536 → Worked R numbers P S [] p s r → (p.weight ≡ 65536 → EachOnce p.taken (length p.put))
+      → P.weight ≡ 65536 → HasWorked R numbers P S [] p s r → (p.weight ≡ 65536 → EachOnce p.taken (length p.put))
       → TellsEmpty b p t → IsOk t
   emptied b P p S s r (Ok t) is w whole h = refl
   emptied b P p S s r (Err e) is w whole h = absurd (not_refused P p S s r e.2 is w whole h.2)

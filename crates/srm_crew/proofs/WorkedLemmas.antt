@@ -14,7 +14,7 @@ use Rattle.srm_interfaces.specs.declared.fault.CrewFault.{CrewFault}
 use Rattle.srm_interfaces.specs.declared.fault.CrewFault.TheVariants as fault
 use Rattle.srm_crew.specs.Indices.{EachAtMostOnce}
 use Rattle.srm_crew.specs.Passes.{PassView, half_with_list, half_without_list, both_passes, TellsTake}
-use Rattle.srm_crew.specs.Shared.{HoldsAt, sum_of, ComeOf, Stops, Worked, TellsWork, TellsItem, TellsBoth}
+use Rattle.srm_crew.specs.Shared.{HoldsAt, sum_of, ComeOf, Stops, HasWorked, TellsWork, TellsItem, TellsBoth}
 
 pub sum_of-append : {D : Type 0} (numbers : D → List ℕ) (k : ℕ) (xs ys : List D) → sum_of numbers k (xs ++ ys)
     ≡ sum_of numbers k xs + sum_of numbers k ys
@@ -27,7 +27,7 @@ pub ready_at : {T : Type 0} (P : T → Type 0) (put : List T) (p q : PassView T)
 ready_at P put p q x same all take = grind (arith, get_or_from_slice_get, slice_get_within)
 
 module _ {T D : Type 0} (R : T → Result D CellFault → Type 0) (numbers : D → List ℕ) where
-  pub worked_none : (p : PassView T) (s : SeatView) (r : List D) → Worked R numbers p s r p s r
+  pub worked_none : (p : PassView T) (s : SeatView) (r : List D) → HasWorked R numbers p s r p s r
   worked_none p s r = record {
     indices = [];
     more = [];
@@ -38,12 +38,12 @@ module _ {T D : Type 0} (R : T → Result D CellFault → Type 0) (numbers : D �
   }
 
   -- work after work
-  pub worked_more : (P p q : PassView T) (S s t : SeatView) (U u v : List D) → Worked R numbers P S U p s u → Worked R numbers p s u q t v
-      → Worked R numbers P S U q t v
+  pub worked_more : (P p q : PassView T) (S s t : SeatView) (U u v : List D) → HasWorked R numbers P S U p s u
+      → HasWorked R numbers p s u q t v → HasWorked R numbers P S U q t v
   worked_more P p q S s t U u v a b = grind (arith, append_assoc, zip_append, sum_of-append)
 
   -- a fault after work
-  pub stops_after : (P p : PassView T) (S s : SeatView) (U u : List D) (e : CrewFault) → Worked R numbers P S U p s u
+  pub stops_after : (P p : PassView T) (S s : SeatView) (U u : List D) (e : CrewFault) → HasWorked R numbers P S U p s u
       → Stops R numbers p.put p.taken s e → Stops R numbers P.put P.taken S e
   stops_after P p S s U u fault.NoMemory a h = tt
   stops_after P p S s U u fault.Spent a h = (h.0, subst (λ l. HoldsAt (λ x. R x (Err cell.Spent)) l h.0) (ap (λ x. x.put) a.taken) h.1)
@@ -68,13 +68,13 @@ module _ {T D : Type 0} (R : T → Result D CellFault → Type 0) (numbers : D �
 
   -- more work, or a fault, after work
   pub tells_after : (P p : PassView T) (S s : SeatView) (u : List D) (x : Result (PassView T × SeatView × Vec D) CrewFault)
-      → Worked R numbers P S [] p s u → TellsWork R numbers p s u x → TellsWork R numbers P S [] x
+      → HasWorked R numbers P S [] p s u → TellsWork R numbers p s u x → TellsWork R numbers P S [] x
   tells_after P p S s u (Ok v) a b = worked_more P p v.0 S s v.1 [] u v.2.items a b
   tells_after P p S s u (Err e) a b = stops_after P p S s [] u e a b
 
   -- one item
   pub item_worked : (p q : PassView T) (s t : SeatView) (u v : Vec D) (x : T) → TellsTake p (Some x) q
-      → TellsItem (λ r. R x r) numbers s u (Ok tt) t v → Worked R numbers p s u.items q t v.items
+      → TellsItem (λ r. R x r) numbers s u (Ok tt) t v → HasWorked R numbers p s u.items q t v.items
   item_worked p q s t u v x take item = grind arith
 
   pub item_stops : (p q : PassView T) (s t : SeatView) (u v : Vec D) (x : T) (e : CrewFault) → TellsTake p (Some x) q
@@ -101,9 +101,9 @@ module _ {T D : Type 0} (R : T → Result D CellFault → Type 0) (numbers : D �
   second_stops P S e none h = grind (arith, replicate_zero)
 
   both_worked : (P p q m : PassView T) (S s t n : SeatView) (u v w : List D)
-      → Worked R numbers (half_with_list P) (half_with_shares S) [] p s u
-      → Worked R numbers (half_without_list P) (seats.half_without S) [] q t v
-      → m ≡ both_passes p q → n ≡ both_seats s t → w ≡ u ++ v → Worked R numbers P S [] m n w
+      → HasWorked R numbers (half_with_list P) (half_with_shares S) [] p s u
+      → HasWorked R numbers (half_without_list P) (seats.half_without S) [] q t v
+      → m ≡ both_passes p q → n ≡ both_seats s t → w ≡ u ++ v → HasWorked R numbers P S [] m n w
   both_worked P p q m S s t n u v w a b passes seats' results =
       grind (arith, append_assoc, zip_append, added_at, replicate_zero, sum_of-append)
 

@@ -69,8 +69,9 @@ module _ {T D : Type 0} where
       × ComeOf R items indices results × IsPast (λ k. sum_of numbers k results) seat
 
   -- more items were taken, what came of them stands behind the other results, and the seat has grown by their numbers
-  pub record Worked (R : T → Result D CellFault → Type 0) (numbers : D → List ℕ) (pass : PassView T) (seat : SeatView)
-      (results : List D) (new_pass : PassView T) (new_seat : SeatView) (new_results : List D) : Type 0 where
+  pub record HasWorked (R : T → Result D CellFault → Type 0) (numbers : D → List ℕ) (pass : PassView T)
+      (seat : SeatView) (results : List D) (new_pass : PassView T) (new_seat : SeatView) (new_results : List D)
+      : Type 0 where
     pub indices : List ℕ
     pub more : List D
     pub taken : new_pass ≡ with_list pass (pass.taken ++ indices)
@@ -81,7 +82,7 @@ module _ {T D : Type 0} where
   -- what workers tell
   abbrev pub TellsWork : (T → Result D CellFault → Type 0) → (D → List ℕ) → PassView T → SeatView → List D
       → Result (PassView T × SeatView × Vec D) CrewFault → Type 0
-  TellsWork R numbers pass seat results (Ok v) = Worked R numbers pass seat results v.0 v.1 v.2.items
+  TellsWork R numbers pass seat results (Ok v) = HasWorked R numbers pass seat results v.0 v.1 v.2.items
   TellsWork R numbers pass seat results (Err e) = Stops R numbers pass.put pass.taken seat e
 
   -- what work on every item tells: what came of each, in order, and a seat that has grown by the numbers of all

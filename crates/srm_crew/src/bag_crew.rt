@@ -47,7 +47,9 @@ impl<R: Threads + Wait + Sync, G: Gate + Sync> BagCrew<R, G> {
     /// A crew of 1 to 64 workers. It does not allocate.
     pub fn new(rt: R, gate: G, workers: u8) -> BagCrew<R, G>
         requires { (1 ≤ workers) × (workers ≤ 64) }
-        ensures { IsSync R.row }
+        ensures shared { IsSync R.row }
+        ensures gate { result.gate ≡ gate }
+        ensures workers { result.workers ≡ workers }
     {
         BagCrew { rt, gate, workers }
     }

@@ -34,7 +34,11 @@ impl<R: Wait + Drop, L: Listing + Copy, J: Naming> TeamListing<R, L, J> {
         team: Team<Lining<L>, Vec<Row>, Result<Vec<u8>, ReportFault>, J>,
         listing: L,
         few: usize,
-    ) -> TeamListing<R, L, J> {
+    ) -> TeamListing<R, L, J>
+        ensures team { result.team ≡ team }
+        ensures listing { result.listing ≡ listing }
+        ensures few { result.few ≡ few }
+    {
         TeamListing {
             rt,
             team,
