@@ -5,6 +5,6 @@ mod cases;
 pub(crate) mod handing;
 mod in_team;
 mod mapped;
+pub(crate) mod run_context;
 pub(crate) mod seats;
 mod seen;
-pub(crate) mod site;

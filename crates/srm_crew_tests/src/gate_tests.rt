@@ -4,9 +4,9 @@ ghost use denote.Param.Send.{IsSync};
 ghost use Rattle.srm_scenario.specs.Plain.{network_of};
 ghost use Rattle.srm_crew_tests.specs.Handed.{MayMap};
 
-use crate::crew_tests::handing::{add_job, idle_jobs, opened, scripted_cell};
+use crate::crew_tests::handing::{add_job, cells_of_member, idle_jobs, opened};
+use crate::crew_tests::run_context::RunContext;
 use crate::crew_tests::seats::ledger_of;
-use crate::crew_tests::site::Site;
 use srm_cell::job::{Done, Job};
 use srm_crew::bag_crew::BagCrew;
 use srm_crew::gate::Gate;
@@ -33,18 +33,25 @@ fn map_jobs<R: Threads + Wait + Sync, G: Gate + Sync>(
     rt: &impl Abort,
     alloc: Global,
     crew: &BagCrew<R, G>,
-    site: &Site,
+    context: &RunContext,
     seat: Seat,
     jobs: Vec<Job>,
 ) -> Result<(Vec<Done>, Seat), AllocError>
     requires ready { IsSync R.row }
-    requires links { site.now.ledger.now.links ≡ length site.now.net.now.links }
-    requires seat { seat.ledger ≡ site.now.ledger.now.name }
+    requires links { context.now.ledger.now.links ≡ length context.now.net.now.links }
+    requires seat { seat.ledger ≡ context.now.ledger.now.name }
     requires jobs { MayMap (λ b. (⟦<dyn Member as Member>⟧ b.vtable).plain b.value)
-        (length site.now.net.now.hosts) jobs.items }
-    ensures { IfOk result (λ r. r.1.ledger ≡ site.now.ledger.now.name) }
+        (length context.now.net.now.hosts) jobs.items }
+    ensures { IfOk result (λ r. r.1.ledger ≡ context.now.ledger.now.name) }
 {
-    match crew.map_with_gate(alloc, site.scenario, site.net, site.ledger, seat, jobs) {
+    match crew.map_with_gate(
+        alloc,
+        context.scenario,
+        context.net,
+        context.ledger,
+        seat,
+        jobs,
+    ) {
         Ok(mapped) => Ok(mapped),
         Err(fault) => {
             assert_eq!(rt; fault, CrewFault::NoMemory);
@@ -70,17 +77,17 @@ fn meet<R: Threads + Wait + Sync>(
     rt: &impl Abort,
     alloc: Global,
     crew: &BagCrew<R, MeetingGate>,
-    site: &Site,
+    context: &RunContext,
     seat: Seat,
     count: usize,
 ) -> Result<Seat, AllocError>
     requires ready { IsSync R.row }
-    requires links { site.now.ledger.now.links ≡ length site.now.net.now.links }
-    requires seat { seat.ledger ≡ site.now.ledger.now.name }
-    ensures { IfOk result (λ s. s.ledger ≡ site.now.ledger.now.name) }
+    requires links { context.now.ledger.now.links ≡ length context.now.net.now.links }
+    requires seat { seat.ledger ≡ context.now.ledger.now.name }
+    ensures { IfOk result (λ s. s.ledger ≡ context.now.ledger.now.name) }
 {
-    let jobs = idle_jobs(rt, alloc, site.net, count)?;
-    let (done, seat) = map_jobs(rt, alloc, crew, site, seat, jobs)?;
+    let jobs = idle_jobs(rt, alloc, context.net, count)?;
+    let (done, seat) = map_jobs(rt, alloc, crew, context, seat, jobs)?;
     assert_eq!(rt; done.len(), count);
     Ok(seat)
 }
@@ -93,17 +100,17 @@ fn meet_again<R: Threads + Wait + Sync>(
     rt: &impl Abort,
     alloc: Global,
     crew: &BagCrew<R, MeetingGate>,
-    site: &Site,
+    context: &RunContext,
     seat: Seat,
     count: usize,
 ) -> Result<(), AllocError>
     requires ready { IsSync R.row }
-    requires links { site.now.ledger.now.links ≡ length site.now.net.now.links }
-    requires seat { seat.ledger ≡ site.now.ledger.now.name }
+    requires links { context.now.ledger.now.links ≡ length context.now.net.now.links }
+    requires seat { seat.ledger ≡ context.now.ledger.now.name }
 {
     let mut back = seat;
     for _ in 0..TIMES {
-        back = meet(rt, alloc, crew, site, back, count)?;
+        back = meet(rt, alloc, crew, context, back, count)?;
     }
     Ok(())
 }
@@ -119,12 +126,12 @@ fn meet_on_two_nodes<R: Threads + Wait + Sync>(
 {
     let (scenario, net) = opened(rt, alloc, TWO_NODES.scenario)?;
     let (ledger, seat) = ledger_of(rt, alloc, &net)?;
-    let site = Site {
+    let context = RunContext {
         scenario: &scenario,
         net: &net,
         ledger: &ledger,
     };
-    meet_again(rt, alloc, crew, &site, seat, count)
+    meet_again(rt, alloc, crew, &context, seat, count)
 }
 
 // So many jobs, with so many workers, again and again. Each time the jobs of this place and of the next one are under way at once.
@@ -245,15 +252,15 @@ fn map_sender<R: Threads + Wait + Sync>(
     assert!(rt; scenario.members() > 0);
     let sender = counting_sender(rt, alloc, &scenario, &net, reacts)?;
     let mut jobs = Vec::new(alloc);
-    let cells = scripted_cell(rt, alloc, &scenario, &net, sender, 0, 0)?;
+    let cells = cells_of_member(rt, alloc, &scenario, &net, sender, 0, 0)?;
     add_job(rt, &net, &mut jobs, 1, cells)?;
     let (ledger, seat) = ledger_of(rt, alloc, &net)?;
-    let site = Site {
+    let context = RunContext {
         scenario: &scenario,
         net: &net,
         ledger: &ledger,
     };
-    map_jobs(rt, alloc, crew, &site, seat, jobs)?;
+    map_jobs(rt, alloc, crew, &context, seat, jobs)?;
     Ok(())
 }
 

@@ -15,9 +15,9 @@ use crate::general::general_sentence;
 use crate::keys::{array_key, finding_at};
 use crate::misfit_sentence::misfit_sentence;
 use crate::misfits::misfit_of;
+use crate::parsed_text::ParsedText;
 use crate::picture::picture_of;
 use crate::pictures::{picture_of_finding, picture_of_flaw, picture_of_value};
-use crate::reading::Reading;
 use crate::rules_in::{reason_after, rules_in};
 use crate::sentence::sentence_of;
 use crate::span::Span;
@@ -130,12 +130,12 @@ fn explain_misfit(
     let Ok(draft) = Draft::read(alloc, &top) else {
         return general(alloc, fault);
     };
-    let reading = Reading {
+    let parsed = ParsedText {
         text,
         top: &top,
         draft: &draft,
     };
-    let Some(told) = told_of_misfit(alloc, fault, part, place, reading)? else {
+    let Some(told) = told_of_misfit(alloc, fault, part, place, parsed)? else {
         return general(alloc, fault);
     };
     Ok(told)
@@ -147,20 +147,20 @@ fn told_of_misfit(
     fault: ScenarioFault,
     part: Part,
     place: usize,
-    reading: Reading,
+    parsed: ParsedText,
 ) -> Result<Option<String>, AllocError>
-    ensures { IfOk result (λ told. IfSome told (λ t. TellsBroken reading.entry.draft.now fault
-        (written_in part (table_view reading.entry.top.now)) place (string_bytes t))) }
+    ensures { IfOk result (λ told. IfSome told (λ t. TellsBroken parsed.entry.draft.now fault
+        (written_in part (table_view parsed.entry.top.now)) place (string_bytes t))) }
 {
-    let Some(misfit) = misfit_of(reading.draft, fault) else {
+    let Some(misfit) = misfit_of(parsed.draft, fault) else {
         return Ok(None);
     };
-    let copied = copied_in(reading.top, part, place);
+    let copied = copied_in(parsed.top, part, place);
     let written = place_in_text(copied, place);
-    let picture = picture_of_value(alloc, reading.text, part, written, misfit.key(part))?;
+    let picture = picture_of_value(alloc, parsed.text, part, written, misfit.key(part))?;
     let sentence = misfit_sentence(alloc, misfit)?;
     let note = format!(in alloc; "  {sentence}\n")?;
-    let copy = copy_note(alloc, reading.draft, fault, copied)?;
+    let copy = copy_note(alloc, parsed.draft, fault, copied)?;
     let told = format!(in alloc; "{picture}{note}{copy}")?;
     Ok(Some(told))
 }

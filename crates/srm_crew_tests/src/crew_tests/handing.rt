@@ -7,8 +7,8 @@ ghost use Rattle.srm_member.specs.Record.{fixed_part};
 ghost use Rattle.srm_crew_tests.specs.Handed.{MayMap, AreKnown};
 
 use crate::crew_tests::boxed::BoxCrew;
+use crate::crew_tests::run_context::RunContext;
 use crate::crew_tests::seen::Window;
-use crate::crew_tests::site::Site;
 use srm_cell::cell::Cell;
 use srm_cell::job::{Done, Job};
 use srm_interfaces::fault::CrewFault;
@@ -110,8 +110,8 @@ pub(crate) fn add_job(
     Ok(())
 }
 
-/// The cell of member m, alone, with its script.
-pub(crate) fn scripted_cell(
+/// The cells of a job of member m alone: its own, with its script.
+pub(crate) fn cells_of_member(
     rt: &impl Abort,
     alloc: Global,
     scenario: &Scenario,
@@ -176,33 +176,33 @@ pub(crate) fn map_window<C: BoxCrew>(
     rt: &impl Abort,
     alloc: Global,
     crew: &mut C,
-    site: &Site,
+    context: &RunContext,
     seat: Seat,
     jobs: Vec<Job>,
     till: u64,
 ) -> Result<(Vec<Job>, Seat, Window), CrewFault>
     requires ready { C.ready crew.old }
-    requires jobs { MayMap (λ b. (⟦<dyn Member as Member>⟧ b.vtable).plain b.value) (length site.now.net.now.hosts) jobs.items }
-    requires links { site.now.ledger.now.links ≡ length site.now.net.now.links }
-    requires seat { seat.ledger ≡ site.now.ledger.now.name }
+    requires jobs { MayMap (λ b. (⟦<dyn Member as Member>⟧ b.vtable).plain b.value) (length context.now.net.now.hosts) jobs.items }
+    requires links { context.now.ledger.now.links ≡ length context.now.net.now.links }
+    requires seat { seat.ledger ≡ context.now.ledger.now.name }
     requires till { till ≤ end_of_time }
     ensures ready { C.ready crew.new }
     ensures jobs { IfOk result (λ r. MayMap (λ b. (⟦<dyn Member as Member>⟧ b.vtable).plain b.value)
-        (length site.now.net.now.hosts) r.0.items) }
-    ensures seat { IfOk result (λ r. r.1.ledger ≡ site.now.ledger.now.name) }
+        (length context.now.net.now.hosts) r.0.items) }
+    ensures seat { IfOk result (λ r. r.1.ledger ≡ context.now.ledger.now.name) }
 {
     let (all, seat) = match crew.map_boxes(
         alloc,
-        site.scenario,
-        site.net,
-        site.ledger,
+        context.scenario,
+        context.net,
+        context.ledger,
         seat,
         jobs,
     ) {
         Ok(mapped) => mapped,
         Err(fault) => return Err(fault),
     };
-    let Ok((next, window)) = next_jobs(rt, alloc, site.net, all, till) else {
+    let Ok((next, window)) = next_jobs(rt, alloc, context.net, all, till) else {
         return Err(CrewFault::NoMemory);
     };
     Ok((next, seat, window))

@@ -6,9 +6,9 @@ use crate::crew_tests::case::Case;
 use crate::crew_tests::cases::CASES;
 use crate::crew_tests::handing::opened;
 use crate::crew_tests::mapped::first_jobs;
+use crate::crew_tests::run_context::RunContext;
 use crate::crew_tests::seats::{counted, ledger_of};
 use crate::crew_tests::seen::Window;
-use crate::crew_tests::site::Site;
 use srm_cell::job::{Done, Job};
 use srm_crew::advancing::Advancing;
 use srm_crew::piece::Piece;
@@ -36,19 +36,19 @@ fn map_by_team<'a, M: Participant, J: Naming, R: Wait>(
     rt: &R,
     alloc: Global,
     history: Opened<Advancing<'a>, Piece<M>>,
-    site: &Site<'a>,
+    context: &RunContext<'a>,
     seat: Seat,
     jobs: Vec<Job<M>>,
 ) -> Result<(Vec<Done<M>>, Seat), CrewFault>
     requires history { history ≡ J.book }
-    requires jobs { MayMap M.plain (length site.now.net.now.hosts) jobs.items }
-    requires links { site.now.ledger.now.links ≡ length site.now.net.now.links }
-    requires seat { seat.ledger ≡ site.now.ledger.now.name }
+    requires jobs { MayMap M.plain (length context.now.net.now.hosts) jobs.items }
+    requires links { context.now.ledger.now.links ≡ length context.now.net.now.links }
+    requires seat { seat.ledger ≡ context.now.ledger.now.name }
 {
     let work = Advancing {
         alloc,
-        scenario: site.scenario,
-        net: site.net,
+        scenario: context.scenario,
+        net: context.net,
     };
     let (team, _bench) = match open_team::<Advancing, Piece<M>, Worked<M>, J>(
         alloc, history, ROOM,
@@ -57,7 +57,14 @@ fn map_by_team<'a, M: Participant, J: Naming, R: Wait>(
         Err(AllocError) => return Err(CrewFault::NoMemory),
     };
     let mut crew = TeamCrew::new(rt, team, work, 0);
-    crew.map(alloc, site.scenario, site.net, site.ledger, seat, jobs)
+    crew.map(
+        alloc,
+        context.scenario,
+        context.net,
+        context.ledger,
+        seat,
+        jobs,
+    )
 }
 
 // What is done of all jobs of a window.
@@ -81,12 +88,12 @@ fn map_first<R: Wait + Abort>(
     let (ledger, seat) = ledger_of(rt, alloc, &net)?;
     let seat = counted(rt, &ledger, seat, case.counted);
     let history = Opened::new();
-    let site = Site {
+    let context = RunContext {
         scenario: &scenario,
         net: &net,
         ledger: &ledger,
     };
-    match map_by_team::<Box<dyn Member>, Brand, R>(rt, alloc, history, &site, seat, jobs) {
+    match map_by_team::<Box<dyn Member>, Brand, R>(rt, alloc, history, &context, seat, jobs) {
         Ok((all, _seat)) => case.expect(rt, 0, &window_of(alloc, all)?),
         Err(fault) => case.expect_fault(rt, 0, fault)?,
     }

@@ -7,9 +7,9 @@ ghost use Rattle.srm_crew_tests.specs.Handed.{MayMap};
 use crate::crew_tests::boxed::BoxCrew;
 use crate::crew_tests::case::Case;
 use crate::crew_tests::cases::{CASES, LEAST_SEAT};
-use crate::crew_tests::handing::{add_job, map_window, opened, scripted_cell};
+use crate::crew_tests::handing::{add_job, cells_of_member, map_window, opened};
+use crate::crew_tests::run_context::RunContext;
 use crate::crew_tests::seats::{counted, halved, joined, ledger_of};
-use crate::crew_tests::site::Site;
 use srm_cell::job::Job;
 use srm_crew::bag_crew::BagCrew;
 use srm_crew::gate::OpenGate;
@@ -115,7 +115,7 @@ pub(crate) fn first_jobs(
     let mut jobs = Vec::new(alloc);
     for m in 0..scenario.members() {
         let member = first_member(rt, alloc, scenario, net, m, case, watch)?;
-        let cells = scripted_cell(rt, alloc, scenario, net, member, m, case.sent)?;
+        let cells = cells_of_member(rt, alloc, scenario, net, member, m, case.sent)?;
         add_job(rt, net, &mut jobs, till, cells)?;
     }
     Ok(jobs)
@@ -127,24 +127,24 @@ fn map_next<C: BoxCrew>(
     rt: &impl Abort,
     alloc: Global,
     crew: &mut C,
-    site: &Site,
-    handed: (Vec<Job>, Seat),
+    context: &RunContext,
+    jobs_and_seat: (Vec<Job>, Seat),
     case: &Case,
     index: usize,
 ) -> Result<Option<(Vec<Job>, Seat)>, AllocError>
     requires ready { C.ready crew.old }
-    requires jobs { MayMap (λ b. (⟦<dyn Member as Member>⟧ b.vtable).plain b.value) (length site.now.net.now.hosts) handed.0.items }
-    requires links { site.now.ledger.now.links ≡ length site.now.net.now.links }
-    requires seat { handed.1.ledger ≡ site.now.ledger.now.name }
+    requires jobs { MayMap (λ b. (⟦<dyn Member as Member>⟧ b.vtable).plain b.value) (length context.now.net.now.hosts) jobs_and_seat.0.items }
+    requires links { context.now.ledger.now.links ≡ length context.now.net.now.links }
+    requires seat { jobs_and_seat.1.ledger ≡ context.now.ledger.now.name }
     ensures ready { C.ready crew.new }
     ensures jobs { IfOk result (λ left. IfSome left (λ r. MayMap (λ b. (⟦<dyn Member as Member>⟧ b.vtable).plain b.value)
-        (length site.now.net.now.hosts) r.0.items)) }
-    ensures seat { IfOk result (λ left. IfSome left (λ r. r.1.ledger ≡ site.now.ledger.now.name)) }
+        (length context.now.net.now.hosts) r.0.items)) }
+    ensures seat { IfOk result (λ left. IfSome left (λ r. r.1.ledger ≡ context.now.ledger.now.name)) }
 {
-    let (jobs, seat) = handed;
+    let (jobs, seat) = jobs_and_seat;
     let [_, till] = case.ends;
     assert!(rt; till <= LAST_END);
-    match map_window(rt, alloc, crew, site, seat, jobs, till) {
+    match map_window(rt, alloc, crew, context, seat, jobs, till) {
         Ok((jobs, seat, window)) => {
             case.expect(rt, index, &window);
             Ok(Some((jobs, seat)))
@@ -161,21 +161,21 @@ fn map_both<C: BoxCrew>(
     rt: &impl Abort,
     alloc: Global,
     crew: &mut C,
-    site: &Site,
-    handed: (Vec<Job>, Seat),
+    context: &RunContext,
+    jobs_and_seat: (Vec<Job>, Seat),
     case: &Case,
 ) -> Result<Option<Seat>, AllocError>
     requires ready { C.ready crew.old }
-    requires jobs { MayMap (λ b. (⟦<dyn Member as Member>⟧ b.vtable).plain b.value) (length site.now.net.now.hosts) handed.0.items }
-    requires links { site.now.ledger.now.links ≡ length site.now.net.now.links }
-    requires seat { handed.1.ledger ≡ site.now.ledger.now.name }
+    requires jobs { MayMap (λ b. (⟦<dyn Member as Member>⟧ b.vtable).plain b.value) (length context.now.net.now.hosts) jobs_and_seat.0.items }
+    requires links { context.now.ledger.now.links ≡ length context.now.net.now.links }
+    requires seat { jobs_and_seat.1.ledger ≡ context.now.ledger.now.name }
     ensures ready { C.ready crew.new }
-    ensures seat { IfOk result (λ left. IfSome left (λ s. s.ledger ≡ site.now.ledger.now.name)) }
+    ensures seat { IfOk result (λ left. IfSome left (λ s. s.ledger ≡ context.now.ledger.now.name)) }
 {
-    let Some(next) = map_next(rt, alloc, crew, site, handed, case, 0)? else {
+    let Some(next) = map_next(rt, alloc, crew, context, jobs_and_seat, case, 0)? else {
         return Ok(None);
     };
-    let Some((_jobs, seat)) = map_next(rt, alloc, crew, site, next, case, 1)? else {
+    let Some((_jobs, seat)) = map_next(rt, alloc, crew, context, next, case, 1)? else {
         return Ok(None);
     };
     Ok(Some(seat))
@@ -211,12 +211,12 @@ fn map_members<C: BoxCrew>(
     let (ledger, seat) = ledger_of(rt, alloc, net)?;
     let seat = counted(rt, &ledger, seat, case.counted);
     let (seat, others) = halved(alloc, &ledger, seat, case.splits)?;
-    let site = Site {
+    let context = RunContext {
         scenario,
         net,
         ledger: &ledger,
     };
-    if let Some(seat) = map_both(rt, alloc, crew, &site, (jobs, seat), case)? {
+    if let Some(seat) = map_both(rt, alloc, crew, &context, (jobs, seat), case)? {
         expect_end(rt, ledger, seat, others, case);
     }
     Ok(())

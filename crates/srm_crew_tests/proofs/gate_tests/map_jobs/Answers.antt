@@ -10,7 +10,7 @@ map_with_gate-requires-clause-many g c κs within = c.requires.jobs.few
 
 pub returns-in-Ok : goal.returns-in-Ok
 returns-in-Ok g c =
-    same_ledger _ (length c.args.site.now.net.now.hosts) c.args.site.now.scenario.now c.args.site.now.net.now c.args.seat _ c.in-Ok.mapped
-    c.requires.jobs
+    same_ledger _ (length c.args.context.now.net.now.hosts) c.args.context.now.scenario.now c.args.context.now.net.now c.args.seat _
+    c.in-Ok.mapped c.requires.jobs
     c.in-Ok.ensures
     ∙ c.requires.seat

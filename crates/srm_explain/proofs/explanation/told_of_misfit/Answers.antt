@@ -6,8 +6,8 @@ use Rattle.srm_explain.proofs.explanation.told_of_misfit.Goals as goal
 
 pub returns : goal.returns
 returns c =
-    let l = c.args.reading.draft.now in
-    let ds = written_in c.args.part (table_view c.args.reading.top.now) in
+    let l = c.args.parsed.draft.now in
+    let ds = written_in c.args.part (table_view c.args.parsed.top.now) in
     let copy = string_bytes c.in_ok-copy.copy in
     let breaks : Breaks l c.args.fault c.in-Some.misfit = search rules in
     let tells : TellsCopy l c.args.fault ds c.args.place copy =

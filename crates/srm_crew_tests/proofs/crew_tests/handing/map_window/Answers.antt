@@ -13,11 +13,13 @@ map_boxes-requires-clause-places g c = c.requires.jobs.places
 
 pub next_jobs-requires-clause-known : goal.next_jobs-requires-clause-known
 next_jobs-requires-clause-known g c =
-    known_done (λ b. (goal.Member-dyn g (b.vtable, b.value)).plain b.value) (length c.args.site.now.net.now.hosts)
-    c.args.site.now.scenario.now c.args.site.now.net.now c.args.seat c.args.jobs.items c.in-Ok.mapped c.requires.jobs c.in-Ok.ensures.done
+    known_done (λ b. (goal.Member-dyn g (b.vtable, b.value)).plain b.value) (length c.args.context.now.net.now.hosts)
+    c.args.context.now.scenario.now c.args.context.now.net.now c.args.seat c.args.jobs.items c.in-Ok.mapped c.requires.jobs
+    c.in-Ok.ensures.done
 
 pub returns-clause-seat : goal.returns-clause-seat
 returns-clause-seat g c =
-    same_ledger (λ b. (goal.Member-dyn g (b.vtable, b.value)).plain b.value) (length c.args.site.now.net.now.hosts)
-    c.args.site.now.scenario.now c.args.site.now.net.now c.args.seat c.args.jobs.items c.in-Ok.mapped c.requires.jobs c.in-Ok.ensures.done
+    same_ledger (λ b. (goal.Member-dyn g (b.vtable, b.value)).plain b.value) (length c.args.context.now.net.now.hosts)
+    c.args.context.now.scenario.now c.args.context.now.net.now c.args.seat c.args.jobs.items c.in-Ok.mapped c.requires.jobs
+    c.in-Ok.ensures.done
     ∙ c.requires.seat

@@ -2,9 +2,9 @@
 use srm_scenario::draft::Draft;
 use toml::Table;
 
-/// A scenario's text, the table that it is in TOML, and the draft that was read of that.
+/// A scenario's text, the table of TOML that it parses to, and the draft that was read from that table.
 #[derive(Clone, Copy)]
-pub(crate) struct Reading<'a> {
+pub(crate) struct ParsedText<'a> {
     pub(crate) text: &'a [u8],
     pub(crate) top: &'a Table,
     pub(crate) draft: &'a Draft,
