@@ -42,6 +42,7 @@ try: ## the same program, unproved: compiled in one to four minutes, and run aga
 
 check: ## what an edit needs: proves each crate that changed, or CRATE=srm_net with the crates below it; checks scripts and documents
 	@tests/tools_tests.py -q
+	@tests/gate_tests.py -q
 	@tests/fuzz_tests.py -q
 	@tests/where_tests.py -q
 	@tests/architecture.py
@@ -59,6 +60,7 @@ check: ## what an edit needs: proves each crate that changed, or CRATE=srm_net w
 
 test: ## the merge gate: proves everything from nothing, with tests and must-fail edits, and checks the program that this made; tells the times
 	@tests/tools_tests.py -q
+	@tests/gate_tests.py -q
 	@tests/fuzz_tests.py -q
 	@tests/where_tests.py -q
 	@tests/architecture.py

@@ -3,19 +3,19 @@
 
 usage: tools/gate.py [-- COMMAND ..]
 
-Runs `rt ci` on a copy of the repository that has no must-fail edits, so every proof, each test and each program from nothing.
+Runs `rt ci` on a copy of the repository that has no must-fail edits, so that it proves, tests and builds all from nothing.
 Once the crates below a crate are proved there, its edits are tried beside the proofs, many in one check (tools/must_fail.py),
-with less right to the processors. Hands on all that `rt ci` prints, and keeps it in out/gate.log too. Where `rt ci` ends well,
-the programs that it built are copied to crates/NAME/out/, and the command is run, which may use them, beside the edits that are
-left. Then come a line for each edit, the table of times, and each line that tells what failed once more. The last line is
-'N passed, M failed', of crates and edits, and a command that fails. Ends with status 1 where anything failed. The environment's
-RT is the command to call in place of `rt`.
+with less right to the processors. Hands on what `rt ci` prints, but for its counts, and keeps it in out/gate.log too. Where
+`rt ci` ends well, the programs that it built are copied to crates/NAME/out/, and the command is run, which may use them, beside
+the edits that are left. Then come a line for each edit, the table of times, and once more the last 20 of the lines that tell
+what failed. The last line is 'N passed, M failed', of crates and edits, and a command that fails. Ends with status 1 where
+anything failed. The environment's RT is the command to call in place of `rt`.
 
 `rt ci` begins a proof only where the most memory that it may take is free, so that a long one may wait for others, and
 processors stand idle. Where 5 GB are free for each processor, RT_JOBS is set to the number of processors, if the environment
-has none: so many proofs are then run side by side. Edits are tried of one crate fewer at a time until `rt ci` has ended, and of
-as many after that. Of the crates whose edits wait for room, the one that crates.txt lists last comes first, since its edits take
-longest. Those of the crate that is begun last are tried in parts, side by side.
+has none: so many proofs are then run side by side. Until `rt ci` has ended, edits are tried in one check fewer at a time than
+there are processors, and after that in as many. Where crates wait, the one with the longest proofs comes first. The edits of the
+crate that is ready last are tried in parts, side by side.
 """
 import argparse
 import contextlib
@@ -147,39 +147,45 @@ def ready(crates: Mapping[str, Crate], names: Iterable[str], proved: set[str]) -
     return [it for it in names if proved.issuperset(below(crates, it))]
 
 
-class Room:
-    """Room for so many at a time: of those that wait for it, the one of the highest rank comes first."""
+def proof_lines(crate: pathlib.Path) -> int:
+    """How many lines a crate's proofs have: how long its edits take goes by them."""
+    return sum(it.read_bytes().count(b"\n") for it in (crate / "proofs").rglob("*.antt"))
 
-    def __init__(self, places: int) -> None:
-        self.places = places
+
+class PrioritySemaphore:
+    """A semaphore: of those that wait, the one of the highest priority comes first."""
+
+    def __init__(self, free: int) -> None:
+        self.free = free
         self.waiting: list[int] = []
         self.changed = threading.Condition()
 
     @contextlib.contextmanager
-    def taken(self, rank: int) -> Iterator[None]:
-        """Waits for a place, and holds it."""
+    def held(self, priority: int) -> Iterator[None]:
+        """Waits for the semaphore, and holds it."""
         with self.changed:
-            heapq.heappush(self.waiting, -rank)
-            self.changed.wait_for(lambda: self.places > 0 and self.waiting[0] == -rank)
+            heapq.heappush(self.waiting, -priority)
+            self.changed.wait_for(lambda: self.free > 0 and self.waiting[0] == -priority)
             heapq.heappop(self.waiting)
-            self.places -= 1
+            self.free -= 1
             self.changed.notify_all()
         try:
             yield
         finally:
-            self.widen()
+            self.release()
 
-    def widen(self) -> None:
-        """Gives a place more."""
+    def release(self) -> None:
+        """Lets one more hold it."""
         with self.changed:
-            self.places += 1
+            self.free += 1
             self.changed.notify_all()
 
 
-def gate(tree: pathlib.Path, log: Log, after: Callable[[], int]) -> tuple[int, int]:
+def gate(tree: pathlib.Path, log: Log, test_program: Callable[[], int]) -> tuple[int, int]:
     """Proves the copy of the repository and tries the edits, and gives how many crates and edits passed and failed.
 
-    Where the proofs end well, `after` is called beside the edits that are left, and a status of it that is not 0 has failed too.
+    Where the proofs end well, `test_program` is called beside the edits that are left, and counts as one failure if its status
+    is not 0.
     """
     began = time.monotonic()
     processors = len(os.sched_getaffinity(0))
@@ -191,10 +197,10 @@ def gate(tree: pathlib.Path, log: Log, after: Callable[[], int]) -> tuple[int, i
     proved: set[str] = set()
     begun: dict[str, list[Future[must_fail.Tried]]] = {}
     at_once = max(1, processors - 1)
-    room = Room(at_once)
+    checks = PrioritySemaphore(at_once)
 
     def try_part(name: str, part: int, parts: int) -> must_fail.Tried:
-        with room.taken(list(crates).index(name)):
+        with checks.held(proof_lines(TOP / "crates" / name)):
             return must_fail.try_crate(tree, name, part, parts)
 
     with ThreadPoolExecutor(len(left) + at_once) as pool:
@@ -208,10 +214,12 @@ def gate(tree: pathlib.Path, log: Log, after: Callable[[], int]) -> tuple[int, i
 
         begin()
         passed, failed = proofs(running, log, begin)
-        failed += running.wait() != 0 and failed == 0
+        if running.wait() != 0 and failed == 0:
+            failed = 1
         if processors > at_once:
-            room.widen()
-        failed += failed == 0 and after() != 0
+            checks.release()
+        if failed == 0 and test_program() != 0:
+            failed = 1
         tried = [must_fail.of_parts([it.result() for it in begun[crate]]) for crate in left if crate in begun]
     for line in [line for it in tried for line in it.lines()]:
         log.say(line)
@@ -230,11 +238,11 @@ def main() -> None:
     with tempfile.TemporaryDirectory(prefix="srm-gate-") as folder:
         tree = copied(TOP, folder)
 
-        def after() -> int:
+        def test_program() -> int:
             hand_back(tree)
             return subprocess.call(options.after, cwd=TOP) if options.after else 0
 
-        passed, failed = gate(tree, log, after)
+        passed, failed = gate(tree, log, test_program)
     for line in log.refusals[-REFUSALS:] if failed else []:
         log.say(line)
     log.say(f"{passed} passed, {failed} failed")
