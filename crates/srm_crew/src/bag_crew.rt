@@ -154,16 +154,18 @@ impl<R: Threads + Wait + Sync> Crew<Box<dyn Member>> for BagCrew<R, OpenGate> {
     ) -> Result<(Vec<Done>, Seat), CrewFault>
         requires ready { IsSync R.row }
         requires serves { Unit {0} }
-        requires jobs { All (λ j. MayAdvance (λ b. (⟦<dyn Member as Member>⟧ b.vtable).plain b.value) (length net.now.hosts) j) jobs.items }
+        requires jobs { All (λ j. MayAdvance (λ b. (⟦<dyn Member as Member>⟧ b.vtable).plain b.value)
+            (length net.now.hosts) j) jobs.items }
         requires many { length jobs.items ≤ most_nodes }
         requires places { map (λ j. j.place) jobs.items ≡ range_with_len 0 (length jobs.items) }
         requires links { ledger.now.links ≡ length net.now.links }
         requires seat { seat.ledger ≡ ledger.now.name }
         ensures ready { IsSync R.row }
         ensures serves { Unit {0} }
-        ensures done { Maps (λ b. (⟦<dyn Member as Member>⟧ b.vtable).plain b.value) scenario.now net.now seat jobs.items result }
-        ensures handed { IfOk result (λ _. (ps : List PlainJob) → AreJobs (λ b. (⟦<dyn Member as Member>⟧ b.vtable).plain b.value) jobs.items ps
-            → Unit {0}) }
+        ensures done { Maps (λ b. (⟦<dyn Member as Member>⟧ b.vtable).plain b.value) scenario.now net.now seat
+            jobs.items result }
+        ensures handed { IfOk result (λ _. (ps : List PlainJob)
+            → AreJobs (λ b. (⟦<dyn Member as Member>⟧ b.vtable).plain b.value) jobs.items ps → Unit {0}) }
     {
         self.map_with_gate(alloc, scenario, net, ledger, seat, jobs)
     }

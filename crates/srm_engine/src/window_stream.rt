@@ -31,10 +31,10 @@ use std::alloc::Global;
 /// # Errors
 /// 1. `Run` with `BadCut`, and 2. `Run` with `BadWidth`, as of [`window_run`](crate::window_run::window_run): the sink and the
 ///    crew are then as they were.
-/// 3. As met: `Stopped`, exactly where the device under the sink failed, with the number that the sink told; `Run` with `ShareFull`,
-///    only where the crossings of the rows that the sink took, all of the windows so far, with those of some jobs of the next
-///    window are more than 2^47 of a kind at some link; `Run` with `CountFull`, only where a job of that window meets a packet
-///    count that is used up; `Run` with `NoMemory`, also where memory was refused to the sink.
+/// 3. As met: `Stopped`, exactly where the device under the sink failed, with the number that the sink told; `Run` with
+///    `ShareFull`, only where the crossings of the rows that the sink took, all of the windows so far, with those of some jobs
+///    of the next window are more than 2^47 of a kind at some link; `Run` with `CountFull`, only where a job of that window
+///    meets a packet count that is used up; `Run` with `NoMemory`, also where memory was refused to the sink.
 ///
 /// The members are then gone. The sink stands as after [`step_stream`](crate::step_stream::step_stream), after `ShareFull` as after
 /// `CountFull`.

@@ -70,10 +70,9 @@ TakesFront text p net seed old new out =
     (w : World) × IsReached (setting_of p net seed) w
     × ((rest : List ℕ) × (text w.trace ≡ out ++ rest)) × Appends old new out
 
--- what an outlet took of a table of a scenario's sequential run which lists its rows in this text, and is written as
--- the run goes: all of it, or a front of it, of as many bytes as a fault of the outlet tells, up to 2^64 - 1; and
--- nothing where the run was refused before any work. CountFull says that the run meets a step for which the packet
--- count is used up
+-- what an outlet took of a table of a scenario's sequential run which lists its rows in this text: all of it, or a
+-- front of it, of as many bytes as a fault of the outlet tells, up to 2^64 - 1; and nothing where the cut or the width
+-- was refused. CountFull says that the run meets a step for which the packet count is used up
 abbrev pub TellsListing : {T : Type 0} → (List Row → List ℕ) → PlainScenario → Network → ℕ
     → Option (List ℕ) → Option (List ℕ) → Result T LabFault → Type 0
 TellsListing text p net seed old new (Ok v) =

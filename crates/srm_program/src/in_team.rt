@@ -152,7 +152,8 @@ pub(crate) fn in_team<R: Threads + Wait + Sync, S: RowSink>(
 ) -> Result<Totals, LabFault>
     requires engine { asked.now.options.engine ≡ Engine.Window }
     requires network { asked.now.net.now ≡ network_of asked.now.scenario.now }
-    requires boxes { (seed : ℕ) × HoldOpeningRecords asked.now.scenario.now asked.now.net.now seed (map (λ b. plain b) members.items) }
+    requires boxes { (seed : ℕ) × HoldOpeningRecords asked.now.scenario.now asked.now.net.now seed
+        (map (λ b. plain b) members.items) }
     requires workers { MayShareBag asked.now.options.workers }
     requires open { IsOpen (S.stage sink.old) }
     requires failures { S.failures sink.old < 2 ^ 64 - 1 }

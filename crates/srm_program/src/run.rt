@@ -28,14 +28,14 @@ use std::sync::Wait;
 use std::thread::Threads;
 
 /// Runs the members of a scenario with the engine that is asked for, and writes the report of the run. Both engines write the
-/// same bytes: the report is that of the sequential run, for every seed whose opening records the boxes hold. The trace and the table
-/// of timers are written as rows come, some 8 KiB at a time (`GATHERED`), and each other table at the end.
+/// same bytes: the report is that of the sequential run, for every seed whose opening records the boxes hold. As it is written, the
+/// trace and the table of timers are written as rows come, some 8 KiB at a time (`GATHERED`), and each other table at the end.
 ///
 /// There is one box for each member, in order of their numbers. Each holds its opening record for this scenario, all for one
 /// seed.
 ///
 /// # Errors
-/// 1. `BadCut` and 2. `BadWidth`, with the engine of windows alone, exactly where they are so, before any work.
+/// 1. `BadCut` and 2. `BadWidth`, with the engine of windows alone, exactly where they are so.
 /// 3. As met: `ShareFull`, only with that engine; `CountFull`, only where the sequential run meets it; and `NoMemory`.
 /// 4. `WriteFault`: exactly where the outlet failed in the call.
 ///

@@ -24,7 +24,7 @@ use std::thread::Threads;
 pub struct Session {
     /// Whether it was refused, and why.
     pub done: Result<(), Fault>,
-    /// The text that was read, so that a refusal can be explained; empty where none was read whole.
+    /// The text that was read, so that a refusal can be explained; as it is written, empty where none was read whole.
     pub text: Vec<u8>,
 }
 

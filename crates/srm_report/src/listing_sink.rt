@@ -14,9 +14,9 @@ use srm_interfaces::sink::{RowSink, SinkFault};
 use srm_member::row::Row;
 use std::alloc::Global;
 
-/// Writes a table that lists rows, such as a trace, to an outlet as the rows come, with the header before the first of them. The
-/// header and the first rows are written at once, so that a long run is seen to go. Short pieces after them may be gathered before
-/// they are written. `flush` writes what is left at the end.
+/// Writes a table that lists rows, such as a trace, to an outlet as the rows come, with the header before the first of them. Short
+/// pieces may be gathered before they are written; as it is written, not the header and the first rows, so that a long run is seen to
+/// go. `flush` writes what is left at the end.
 #[derive(Drop)]
 pub struct ListingSink<'a, L, O> {
     // Which table.

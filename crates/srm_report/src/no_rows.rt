@@ -6,7 +6,7 @@ use srm_interfaces::sink::{RowSink, SinkFault, Stage};
 use srm_member::row::Row;
 use std::alloc::Global;
 
-/// Takes rows, and keeps nothing of them: for a table that is made of a run's totals alone. It refuses nothing.
+/// Takes rows, and keeps nothing of them: for a table that is made of a run's totals alone. As it is written, it refuses nothing.
 #[derive(Drop)]
 pub struct NoRows {
     stage: Stage,

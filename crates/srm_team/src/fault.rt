@@ -5,9 +5,9 @@
 pub enum TeamFault {
     /// Memory was refused.
     NoMemory,
-    /// There are more items than the team has room for. None was worked on.
+    /// There are more items than the team has room for. As it is written, none was worked on.
     TooMany,
-    /// The team has been called 2^62 times. None of the items was worked on.
+    /// As it is written, the team has been called 2^62 times, and none of the items was worked on.
     Worn,
     /// A channel was closed, or a place stayed empty, while results were still to come. A worker ends only when its team is dropped, so
     /// this is met nowhere; but no proof says so, since a channel promises nothing of when it is closed.

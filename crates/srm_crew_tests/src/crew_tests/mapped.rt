@@ -133,7 +133,8 @@ fn map_next<C: BoxCrew>(
     index: usize,
 ) -> Result<Option<(Vec<Job>, Seat)>, AllocError>
     requires ready { C.ready crew.old }
-    requires jobs { MayMap (λ b. (⟦<dyn Member as Member>⟧ b.vtable).plain b.value) (length context.now.net.now.hosts) jobs_and_seat.0.items }
+    requires jobs { MayMap (λ b. (⟦<dyn Member as Member>⟧ b.vtable).plain b.value)
+        (length context.now.net.now.hosts) jobs_and_seat.0.items }
     requires links { context.now.ledger.now.links ≡ length context.now.net.now.links }
     requires seat { jobs_and_seat.1.ledger ≡ context.now.ledger.now.name }
     ensures ready { C.ready crew.new }
@@ -166,7 +167,8 @@ fn map_both<C: BoxCrew>(
     case: &Case,
 ) -> Result<Option<Seat>, AllocError>
     requires ready { C.ready crew.old }
-    requires jobs { MayMap (λ b. (⟦<dyn Member as Member>⟧ b.vtable).plain b.value) (length context.now.net.now.hosts) jobs_and_seat.0.items }
+    requires jobs { MayMap (λ b. (⟦<dyn Member as Member>⟧ b.vtable).plain b.value)
+        (length context.now.net.now.hosts) jobs_and_seat.0.items }
     requires links { context.now.ledger.now.links ≡ length context.now.net.now.links }
     requires seat { jobs_and_seat.1.ledger ≡ context.now.ledger.now.name }
     ensures ready { C.ready crew.new }
