@@ -27,6 +27,7 @@ import must_fail
 import order
 import program
 import prove
+import stubs
 import versions
 import watch
 
@@ -240,6 +241,75 @@ class MustFail(unittest.TestCase):
             self.assertIsNotNone(must_fail.Told(status, lines, {}).unread())
         read = ["src/pair.rt:9:5: error: `returns`: the two types differ", "only=1 proved=0"]
         self.assertIsNone(must_fail.Told(1, read, {}).unread())
+
+
+class Stubs(unittest.TestCase):
+    def stubbed(self, text: str, *kept: edits.Edit) -> tuple[list[str], list[str]]:
+        """The lines of a file that are not those of the text, and the functions that are stubs, where what edits change is kept."""
+        texts = {"src/pair.rt": text}
+        made, found = stubs.stubbed(texts, {function for edit in kept for function in edit.functions(texts)})
+        pairs = zip(text.split("\n"), made["src/pair.rt"].split("\n"), strict=True)
+        return [new for old, new in pairs if new != old], [it.name for it in found]
+
+    def test_each_function_is_a_stub_but_those_that_are_kept_and_those_of_a_trait(self) -> None:
+        self.assertEqual(self.stubbed(SOURCE), ([stubs.BODY], ["half"]))
+        self.assertEqual(self.stubbed(SOURCE, HALF), ([], []))
+        self.assertEqual(self.stubbed(SOURCE.replace("const ", "")), ([stubs.BODY] * 2, ["half", "first"]))
+
+    def test_a_longer_body_keeps_its_lines(self) -> None:
+        text = SOURCE.replace("    number / 2\n", "    let two = 2;\n    number / two\n")
+        self.assertEqual(self.stubbed(text), ([stubs.BODY, ""], ["half"]))
+
+    def test_a_body_begins_where_the_parameters_or_the_clauses_end(self) -> None:
+        heads = ("fn f(a: u8) -> u8 {", "fn f(\n    a: u8,\n) -> u8 {", "fn f(a: u8) -> u8\n    ensures { result ≡ { a } }\n{")
+        for head in heads:
+            self.assertEqual(self.stubbed(f"{head}\n    a\n}}\n"), ([stubs.BODY], ["f"]))
+
+    def test_a_law_and_a_function_of_a_cycle_are_left(self) -> None:
+        for text in ("fn law()\n    ensures { Law }\n{\n}\n", "#[cycle(even)]\nfn f(a: u8) -> u8 {\n    a\n}\n"):
+            self.assertEqual(self.stubbed(text), ([], []))
+
+    def test_the_function_around_one_that_is_kept_is_left(self) -> None:
+        text = "fn outer() -> u8 {\n    fn inner() -> u8 {\n        1\n    }\n    inner()\n}\n"
+        inner = edits.Edit("two", [edits.Change("src/pair.rt", "        1", "        2")])
+        self.assertEqual(self.stubbed(text, inner), ([], []))
+        self.assertEqual(self.stubbed(text)[1], ["outer"])
+
+    def test_a_stub_has_a_proof_with_a_hole_and_no_other(self) -> None:
+        (first,) = FIRST.functions({"src/pair.rt": SOURCE})
+        with tempfile.TemporaryDirectory() as folder:
+            proofs = pathlib.Path(folder, "proofs/pair/Pair/first")
+            proofs.mkdir(parents=True)
+            (proofs / "Invariants.antt").write_text("-- of a loop that is gone\n")
+            stubs.leave_open(pathlib.Path(folder), "low", first)
+            self.assertEqual([it.name for it in proofs.iterdir()], ["Answers.antt"])
+            lines = (proofs / "Answers.antt").read_text().splitlines()
+        self.assertEqual(lines[0], "use Rattle.low.proofs.pair.Pair.first.Goals as goal")
+        self.assertTrue(lines[-1].endswith("= ?"))
+
+
+class Beside(unittest.TestCase):
+    def trial(self, *said: str) -> must_fail.Trial:
+        """A trial of a crate that is one file, whose checks tell these lines."""
+        trial = must_fail.Trial("no_such_crate", [])
+        trial.texts = {"src/pair.rt": SOURCE}
+        self.told = mock.Mock(return_value=must_fail.Told(1, [*said], {"pair::half": "no proof: expected answers"}))
+        self.enterContext(mock.patch.object(trial, "told", self.told))
+        return trial
+
+    def test_edits_are_tried_beside_stubs_and_alone_without(self) -> None:
+        trial = self.trial("note: src/pair.rt:4:5: it is not proved that it holds (`returns`)", "only=1 holes=0")
+        self.assertEqual(list(trial.refused_together([HALF])), [HALF.name])
+        trial.refused_together([CLONE])
+        trial.alone(HALF)
+        open_stubs = [[it.name for it in (*call.args[2:], [])[0]] for call in self.told.call_args_list]
+        self.assertEqual(open_stubs, [[], ["half"], []])
+
+    def test_what_stubs_refuse_with_no_edit_is_told(self) -> None:
+        goal = "note: src/pair.rt:4:5: it is not proved that it holds (`returns`)"
+        self.assertEqual(self.trial(goal, "only=1 holes=0").refused_by_stubs([HALF]), {"pair::half": goal})
+        self.assertEqual(self.trial("only=1 holes=0").refused_by_stubs([HALF]), {})
+        self.assertEqual(list(self.trial("killed").refused_by_stubs([HALF])), ["no_such_crate"])
 
 
 class CratesTxt(unittest.TestCase):

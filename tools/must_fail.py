@@ -1,13 +1,17 @@
 #!/usr/bin/env python3
 """Tries the must-fail edits of crates, many of them in one check.
 
-usage: tools/must_fail.py [--tree FOLDER] [--jobs N] [CRATE ..]
+usage: tools/must_fail.py [--tree FOLDER] [--jobs N] [--control] [CRATE ..]
 
 A function is proved against the contracts of what it calls, and never against their bodies. So wrong bodies of several functions
-can be planted in one copy of a crate: each is refused, or not, as if it were alone. The check says of a function that calls an
-unproved one just that, and such an edit is tried again, without those that were refused. So is one that the check refuses for
-nothing but a name that a proof file misses, one that changes no function, and one that the prover cannot read: these are tried
-alone, as `rt ci` tries each.
+can be planted in one copy of a crate: each is refused, or not, as if it were alone. Functions that no edit of the check changes
+are stubs there (tools/stubs.py). The check says of a function that calls an unproved one just that, and such an edit is tried
+again, without those that were refused. An edit that no such check refuses for itself, that the check refuses for nothing but a
+name that a proof file misses, that changes no function or that the prover cannot read is tried alone in a crate without stubs,
+as `rt ci` tries each.
+
+With --control the same functions are checked beside the same stubs with no edit in them. None of them may then be refused, since
+it would be the stubs that refuse it.
 
 The libraries below a crate have to be proved: their rlibs stand in FOLDER/crates/NAME/out/rlib, by default of this repository,
 where `make check` or `rt ci` leaves them. N crates are tried at a time, by default as many as there are processors. Prints a line
@@ -15,6 +19,7 @@ for each edit, and how many checks and minutes each crate took. Ends with status
 tried. The environment's RT is the command to call in place of `rt`.
 """
 import argparse
+import contextlib
 import functools
 import os
 import pathlib
@@ -24,11 +29,12 @@ import subprocess
 import sys
 import tempfile
 import time
-from collections.abc import Iterable, Mapping, Sequence
+from collections.abc import Collection, Iterable, Iterator, Mapping, Sequence
 from concurrent.futures import ThreadPoolExecutor
 from typing import Any, NamedTuple
 
 import prover
+import stubs
 import watch
 from crates import below, crates_in
 from edits import Edit, Function, edits_of
@@ -134,8 +140,11 @@ class Trial:
         self.texts = {str(it.relative_to(self.folder)): it.read_text(encoding="utf-8") for it in files}
         self.checks = 0
 
-    def told(self, texts: Mapping[str, str], only: Iterable[str]) -> Told:
-        """What a check of the crate tells with these texts, of the functions and modules named, or of all where none is."""
+    def told(self, texts: Mapping[str, str], only: Iterable[str], open_stubs: Sequence[Function] = ()) -> Told:
+        """What a check of the crate tells with these texts, of the functions and modules named, or of all where none is.
+
+        What is told of stubs in the texts is no refusal.
+        """
         self.checks += 1
         with tempfile.TemporaryDirectory(prefix="srm-edit-") as room:
             for part in PARTS:
@@ -143,7 +152,10 @@ class Trial:
                     shutil.copytree(self.folder / part, f"{room}/{part}")
             for path, text in texts.items():
                 pathlib.Path(room, path).write_text(text, encoding="utf-8")
-            words = [*self.command, *[word for it in only for word in ("--only", it)]]
+            for stub in open_stubs:
+                stubs.leave_open(pathlib.Path(room), self.crate, stub)
+            words = [*self.command, *(["--allow-holes"] if open_stubs else [])]
+            words += [word for it in only for word in ("--only", it)]
             how: dict[str, Any] = {"stdin": subprocess.DEVNULL, "stdout": subprocess.PIPE, "stderr": subprocess.STDOUT}
             ran = subprocess.run(words, cwd=room, text=True, errors="replace", check=False, **how)
         lines = ran.stdout.splitlines()
@@ -164,6 +176,11 @@ class Trial:
                 planted.append(edit)
         return planted
 
+    def beside_stubs(self, texts: Mapping[str, str], functions: Collection[Function]) -> Told:
+        """What a check tells of these functions with these texts, where the crate's other functions are stubs."""
+        made, open_stubs = stubs.stubbed(texts, functions)
+        return self.told(made, sorted({it.asked_for for it in functions}), open_stubs)
+
     def refused_together(self, edits: list[Edit]) -> dict[str, str]:
         """Of edits that can be planted together, what refuses each that a check of all refuses for itself.
 
@@ -173,7 +190,7 @@ class Trial:
         for edit in edits:
             texts = edit.applied(texts) or texts
         functions = {edit.name: edit.functions(self.texts) for edit in edits}
-        told = self.told(texts, sorted({it.asked_for for found in functions.values() for it in found}))
+        told = self.beside_stubs(texts, {it for found in functions.values() for it in found})
         if not told.has_ended() and len(edits) > 1:
             half = len(edits) // 2
             return self.refused_together(edits[:half]) | self.refused_together(edits[half:])
@@ -197,6 +214,15 @@ class Trial:
         if first and OF_NAMES.search(first):
             return True, f"refused, as it must be (only because a proof file names what the edit took away): {first}"
         return True, f"refused, as it must be: {first}"
+
+    def refused_by_stubs(self, edits: Iterable[Edit]) -> dict[str, str]:
+        """Of the functions that edits change, what refuses each that is refused with no edit in it, beside stubs."""
+        functions = {it for edit in edits for it in edit.functions(self.texts)}
+        told = self.beside_stubs(self.texts, functions)
+        if not told.has_ended():
+            return {self.crate: told.unread() or "the check did not end"}
+        refusals = {it.asked_for: told.refusal_of(it) for it in functions}
+        return {name: why for name, why in refusals.items() if why}
 
     def all(self, tried_here: Iterable[Edit]) -> dict[str, tuple[bool, str]]:
         """Whether each of the edits is refused, and what to say."""
@@ -231,13 +257,28 @@ class Tried(NamedTuple):
         return [*lines, f"{self.crate}: {self.refused()} of {len(self.edits)} edits refused, in {took}"]
 
 
+@contextlib.contextmanager
+def trial_of(tree: pathlib.Path, name: str) -> Iterator[Trial]:
+    """A trial of a crate over the libraries that are proved in a folder; what its checks prove is kept as long as it lasts."""
+    with tempfile.TemporaryDirectory(prefix="srm-edits-") as kept:
+        yield Trial(name, [*command_of(tree, name), "--incremental", kept])
+
+
 def try_crate(tree: pathlib.Path, name: str, part: int = 0, parts: int = 1) -> Tried:
     """Tries a part of so many, from 0, of the edits of a crate, over the libraries that are proved in a folder."""
     began = time.monotonic()
-    with tempfile.TemporaryDirectory(prefix="srm-edits-") as kept:
-        trial = Trial(name, [*command_of(tree, name), "--incremental", kept])
+    with trial_of(tree, name) as trial:
         edits = trial.all(edits_of(trial.folder)[part::parts])
     return Tried(name, edits, trial.checks, time.monotonic() - began)
+
+
+def control_crate(tree: pathlib.Path, name: str) -> Tried:
+    """Checks the functions that a crate's edits change beside the stubs of the edits, with no edit in them."""
+    began = time.monotonic()
+    with trial_of(tree, name) as trial:
+        refused = trial.refused_by_stubs(edits_of(trial.folder))
+    told = {function: (False, f"REFUSED WITH NO EDIT: {why[:SHOWN]}") for function, why in refused.items()}
+    return Tried(name, told, trial.checks, time.monotonic() - began)
 
 
 def of_parts(parts: Sequence[Tried]) -> Tried:
@@ -250,6 +291,7 @@ def main() -> None:
     parser = argparse.ArgumentParser(description=__doc__, formatter_class=argparse.RawDescriptionHelpFormatter)
     parser.add_argument("--tree", type=pathlib.Path, default=TOP)
     parser.add_argument("--jobs", type=int, default=len(os.sched_getaffinity(0)))
+    parser.add_argument("--control", action="store_true")
     parser.add_argument("crates", nargs="*", metavar="CRATE")
     options = parser.parse_args()
     tree = options.tree.resolve()
@@ -259,12 +301,13 @@ def main() -> None:
     if lacking:
         sys.exit(f"Not proved yet: {', '.join(lacking)}. `make check` proves what edits stand on.")
     refused = failed = 0
+    of_crate = control_crate if options.control else try_crate
     with ThreadPoolExecutor(options.jobs) as pool:
-        for tried in pool.map(lambda it: try_crate(tree, it), names):
+        for tried in pool.map(lambda it: of_crate(tree, it), names):
             print("\n".join(tried.lines()), flush=True)
             refused += tried.refused()
             failed += len(tried.edits) - tried.refused()
-    print(f"{refused} edits refused, {failed} not")
+    print(f"{failed} functions refused with no edit" if options.control else f"{refused} edits refused, {failed} not")
     sys.exit(1 if failed else 0)
 
 
