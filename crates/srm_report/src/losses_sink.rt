@@ -95,6 +95,10 @@ impl RowSink for LossesSink {
 
     ghost part_longer = { λ a b xs ys p. tt };
 
+    /// Takes in what the rows say of losses.
+    ///
+    /// # Errors
+    /// `NoMemory`.
     fn rows(&mut self, _alloc: Global, rows: Vec<Row>) -> Result<(), SinkFault> {
         match self.take(rows.as_slice()) {
             Ok(()) => {
