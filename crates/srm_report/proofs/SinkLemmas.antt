@@ -16,12 +16,14 @@ use Rattle.srm_report.specs.SinkLaws.{all_more, front_more}
 pub written_after : {L O A E : Type 0} (taken : O → Option (List ℕ)) (a b c : ListingSink L O) (text : List ℕ) (r : Result A E)
     → gathered_by b ≡ [] → gathered_by c ≡ gathered_by b → PutsAll taken a [] b
     → TakesText taken (outlet_under b) (written_by b) text r (outlet_under c) (written_by c) → WritesThrough taken a text r c
-written_after taken a b c text (Ok v) none same h k =
-    all_more taken a b c [] text h (
-      text,
-      ap (λ (l : List ℕ). l ++ text) none ∙ sym (append-nil text) ∙ ap (λ (l : List ℕ). text ++ l) (sym (same ∙ none)),
-      record { bytes = k.0; counted = k.1 },
-    )
+written_after taken a b c text (Ok v) none same h k = (
+  same ∙ none,
+  all_more taken a b c [] text h (
+    text,
+    ap (λ (l : List ℕ). l ++ text) none ∙ sym (append-nil text) ∙ ap (λ (l : List ℕ). text ++ l) (sym (same ∙ none)),
+    record { bytes = k.0; counted = k.1 },
+  ),
+)
 written_after taken a b c text (Err e) none same h k =
     front_more taken a b c [] text h (k.0, k.1, ap (λ (l : List ℕ). l ++ text) none ∙ k.2, record { bytes = k.3; counted = k.4 })
 

@@ -1,5 +1,5 @@
 -- A table that lists rows, written as they come.
-use Rattle.std.specs.Prelude.{◌≡◌, ℕ, List, [], ◌++◌, length, Option, Result, Ok, Err}
+use Rattle.std.specs.Prelude.{◌≡◌, ◌⊎◌, ℕ, Bool, IsTrue, List, [], ◌++◌, length, Option, Result, Ok, Err}
 use Rattle.std.specs.Io.KnownBytes.{Appends}
 use Rattle.srm_member.specs.declared.row.Row.{Row}
 use Rattle.srm_interfaces.specs.declared.sink.SinkFault.{SinkFault}
@@ -29,6 +29,10 @@ module _ {L O : Type 0} where
   abbrev pub standing_of : ListingSink L O → Standing
   standing_of s = s.standing
 
+  -- whether it was given rows, at least one
+  abbrev pub has_begun : ListingSink L O → Bool
+  has_begun s = s.has_begun
+
   -- the outlet
   abbrev pub outlet_under : ListingSink L O → O
   outlet_under s = s.outlet.now
@@ -48,6 +52,14 @@ module _ {L O : Type 0} where
   -- both write to one outlet, and may gather as much
   abbrev pub AreOverOne : ListingSink L O → ListingSink L O → Type 0
   AreOverOne a b = (b.outlet.ghost_name ≡ a.outlet.ghost_name) × (gathering_room b ≡ gathering_room a)
+
+  -- it stands as it stood, and has begun where it had
+  abbrev pub StandsAsBefore : ListingSink L O → ListingSink L O → Type 0
+  StandsAsBefore a b = (standing_of b ≡ standing_of a) × (has_begun b ≡ has_begun a)
+
+  -- nothing is gathered now; or the sink had begun, and all that was gathered is so still, with this text after it
+  abbrev pub Gathers : ListingSink L O → List ℕ → ListingSink L O → Type 0
+  Gathers a text b = (gathered_by b ≡ []) ⊎ (IsTrue (has_begun a) × (gathered_by b ≡ gathered_by a ++ text))
 
   module _ (taken : O → Option (List ℕ)) where
     -- between these two values the outlet took these bytes, and they were counted
@@ -79,7 +91,7 @@ module _ {L O : Type 0} where
 
     -- so was a text after it
     abbrev pub WritesThrough : {A E : Type 0} → ListingSink L O → List ℕ → Result A E → ListingSink L O → Type 0
-    WritesThrough a text (Ok v) b = PutsAll a text b
+    WritesThrough a text (Ok v) b = (gathered_by b ≡ []) × PutsAll a text b
     WritesThrough a text (Err e) b = PutsFront a text b
 
     -- a text was put, or else no more than a front of it; a fault of the outlet tells how many bytes it took in all

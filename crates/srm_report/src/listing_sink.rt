@@ -1,5 +1,5 @@
 //! A table that lists rows, written as they come.
-ghost use Rattle.std.specs.Prelude.{◌≡◌, ◌<◌, ◌+◌, ◌-◌, ◌^◌, ◌≤◌, [], is_ok, if◌then◌else◌, length, IfOk};
+ghost use Rattle.std.specs.Prelude.{◌≡◌, ◌<◌, ◌+◌, ◌-◌, ◌^◌, ◌≤◌, ◌==◌, ◌||◌, [], false, is_ok, not, if◌then◌else◌, length, IfOk};
 ghost use Rattle.srm_report.specs.Standings.{text_next, after_answer, TakesText};
 ghost use Rattle.srm_report.specs.Pieces.{joined_pieces};
 ghost use Rattle.srm_report.specs.Texts.{bytes_of};
@@ -15,8 +15,8 @@ use srm_member::row::Row;
 use std::alloc::Global;
 
 /// Writes a table that lists rows, such as a trace, to an outlet as the rows come, with the header before the first of them. Short
-/// pieces may be gathered before they are written; as it is written, not the header and the first rows, so that a long run is seen to
-/// go. `flush` writes what is left at the end.
+/// pieces may be gathered before they are written, but not the header and the first rows, so that a long run is seen to go. `flush`
+/// writes what is left at the end.
 #[derive(Drop)]
 pub struct ListingSink<'a, L, O> {
     // Which table.
@@ -25,7 +25,7 @@ pub struct ListingSink<'a, L, O> {
     // What is still to be written, and how long that may be.
     gathered: Vec<u8>,
     room: usize,
-    // Whether it took rows: the first of them are not gathered.
+    // Whether it was given rows: the first of them are not gathered.
     has_begun: bool,
     // How many bytes the outlet took, up to 2^64 - 1.
     written: u64,
@@ -105,7 +105,7 @@ fn write_each<O: Outlet>(
 impl<'a, L: Listing, O: Outlet> ListingSink<'a, L, O> {
     ghost use Rattle.srm_interfaces.specs.declared.sink.Stage.{Stage as AStage};
     ghost use Rattle.srm_interfaces.specs.Sinks.{IsOpen, stops_in};
-    ghost use Rattle.srm_report.specs.ListingSinks.{stage_of, standing_of, outlet_under, gathered_by, gathering_room, written_by, AreOverOne, PutsText, LeavesOutlet, WritesGathered, WritesThrough, Flushes};
+    ghost use Rattle.srm_report.specs.ListingSinks.{stage_of, standing_of, has_begun, outlet_under, gathered_by, gathering_room, written_by, AreOverOne, StandsAsBefore, Gathers, PutsText, LeavesOutlet, WritesGathered, WritesThrough, Flushes};
 
     /// A sink of this table over this outlet, which took no rows yet. It writes each piece of the table as it comes. It does not
     /// allocate.
@@ -116,6 +116,7 @@ impl<'a, L: Listing, O: Outlet> ListingSink<'a, L, O> {
         ensures gathered { gathered_by result ≡ [] }
         ensures room { gathering_room result ≡ 0 }
         ensures written { written_by result ≡ 0 }
+        ensures begun { has_begun result ≡ false }
     {
         ListingSink::gathering(alloc, listing, outlet, 0)
     }
@@ -128,6 +129,7 @@ impl<'a, L: Listing, O: Outlet> ListingSink<'a, L, O> {
         ensures gathered { gathered_by result ≡ [] }
         ensures room { gathering_room result ≡ room }
         ensures written { written_by result ≡ 0 }
+        ensures begun { has_begun result ≡ false }
     {
         ListingSink {
             listing,
@@ -153,6 +155,7 @@ impl<'a, L: Listing, O: Outlet> ListingSink<'a, L, O> {
         ensures failures { O.failures (outlet_under self.new)
             ≡ (if is_ok result then O.failures (outlet_under self.old) else O.failures (outlet_under self.old) + 1) }
         ensures flushed { Flushes O.taken self.old result self.new }
+        ensures begun { has_begun self.new ≡ has_begun self.old }
     {
         match self.write_gathered() {
             Ok(()) => Ok(()),
@@ -177,7 +180,7 @@ impl<'a, L: Listing, O: Outlet> ListingSink<'a, L, O> {
     fn write_gathered(&mut self) -> Result<(), OutFault>
         requires failures { O.failures (outlet_under self.old) < 2 ^ 64 - 1 }
         ensures outlet { AreOverOne self.old self.new }
-        ensures standing { standing_of self.new ≡ standing_of self.old }
+        ensures standing { StandsAsBefore self.old self.new }
         ensures failures { O.failures (outlet_under self.new)
             ≡ (if is_ok result then O.failures (outlet_under self.old) else O.failures (outlet_under self.old) + 1) }
         ensures written { WritesGathered O.taken self.old result self.new }
@@ -191,10 +194,11 @@ impl<'a, L: Listing, O: Outlet> ListingSink<'a, L, O> {
     fn put_rows(&mut self, alloc: Global, rows: Vec<Row>) -> Result<(), SinkFault>
         requires failures { O.failures (outlet_under self.old) < 2 ^ 64 - 1 }
         ensures outlet { AreOverOne self.old self.new }
-        ensures standing { standing_of self.new ≡ standing_of self.old }
+        ensures standing { StandsAsBefore self.old self.new }
         ensures failures { O.failures (outlet_under self.new) ≡ O.failures (outlet_under self.old) + stops_in result }
         ensures text { PutsText O.taken self.old (text_next L.form (standing_of self.old) rows.items) result self.new }
         ensures left { LeavesOutlet self.old result self.new }
+        ensures gathered { IfOk result (λ _. Gathers self.old (text_next L.form (standing_of self.old) rows.items) self.new) }
     {
         match text_of(alloc, &mut self.listing, self.standing, rows) {
             Ok(Text::Whole(text)) => self.put(text.as_slice()),
@@ -207,10 +211,11 @@ impl<'a, L: Listing, O: Outlet> ListingSink<'a, L, O> {
     fn put(&mut self, text: &[u8]) -> Result<(), SinkFault>
         requires failures { O.failures (outlet_under self.old) < 2 ^ 64 - 1 }
         ensures outlet { AreOverOne self.old self.new }
-        ensures standing { standing_of self.new ≡ standing_of self.old }
+        ensures standing { StandsAsBefore self.old self.new }
         ensures failures { O.failures (outlet_under self.new) ≡ O.failures (outlet_under self.old) + stops_in result }
         ensures text { PutsText O.taken self.old text.now result self.new }
         ensures left { LeavesOutlet self.old result self.new }
+        ensures gathered { IfOk result (λ _. Gathers self.old text.now self.new) }
     {
         if self.has_begun && self.gathered.len() + text.len() <= self.room {
             return match self.gathered.extend_from_slice(text) {
@@ -231,10 +236,11 @@ impl<'a, L: Listing, O: Outlet> ListingSink<'a, L, O> {
     fn put_pieces(&mut self, pieces: &[Vec<u8>]) -> Result<(), SinkFault>
         requires failures { O.failures (outlet_under self.old) < 2 ^ 64 - 1 }
         ensures outlet { AreOverOne self.old self.new }
-        ensures standing { standing_of self.new ≡ standing_of self.old }
+        ensures standing { StandsAsBefore self.old self.new }
         ensures failures { O.failures (outlet_under self.new) ≡ O.failures (outlet_under self.old) + stops_in result }
         ensures text { PutsText O.taken self.old (joined_pieces pieces.now) result self.new }
         ensures left { LeavesOutlet self.old result self.new }
+        ensures gathered { IfOk result (λ _. Gathers self.old (joined_pieces pieces.now) self.new) }
     {
         match self.write_pieces(pieces) {
             Ok(()) => Ok(()),
@@ -249,7 +255,7 @@ impl<'a, L: Listing, O: Outlet> ListingSink<'a, L, O> {
     fn write_pieces(&mut self, pieces: &[Vec<u8>]) -> Result<(), OutFault>
         requires failures { O.failures (outlet_under self.old) < 2 ^ 64 - 1 }
         ensures outlet { AreOverOne self.old self.new }
-        ensures standing { standing_of self.new ≡ standing_of self.old }
+        ensures standing { StandsAsBefore self.old self.new }
         ensures failures { O.failures (outlet_under self.new)
             ≡ (if is_ok result then O.failures (outlet_under self.old) else O.failures (outlet_under self.old) + 1) }
         ensures text { WritesThrough O.taken self.old (joined_pieces pieces.now) result self.new }
@@ -264,7 +270,7 @@ impl<'a, L: Listing, O: Outlet> ListingSink<'a, L, O> {
     fn write_through(&mut self, text: &[u8]) -> Result<(), OutFault>
         requires failures { O.failures (outlet_under self.old) < 2 ^ 64 - 1 }
         ensures outlet { AreOverOne self.old self.new }
-        ensures standing { standing_of self.new ≡ standing_of self.old }
+        ensures standing { StandsAsBefore self.old self.new }
         ensures failures { O.failures (outlet_under self.new)
             ≡ (if is_ok result then O.failures (outlet_under self.old) else O.failures (outlet_under self.old) + 1) }
         ensures text { WritesThrough O.taken self.old text.now result self.new }
@@ -281,7 +287,7 @@ impl<'a, L: Listing, O: Outlet> RowSink for ListingSink<'a, L, O> {
     ghost use Rattle.std.proofs.Common.{◌∙◌};
     ghost use Rattle.std.specs.Prelude.{MatchResult};
     ghost use Rattle.srm_interfaces.specs.Sinks.{IsOpen, stage_after, stops_in};
-    ghost use Rattle.srm_report.specs.ListingSinks.{stage_of, outlet_under, AreOverOne, LeavesOutlet, PutsRows, PutsPart};
+    ghost use Rattle.srm_report.specs.ListingSinks.{stage_of, standing_of, has_begun, outlet_under, AreOverOne, Gathers, LeavesOutlet, PutsRows, PutsPart};
     ghost use Rattle.srm_report.specs.SinkLaws.{one_self, over_one_more, rows_none, rows_more, part_none, part_more, part_longer};
 
     ghost stage = { stage_of };
@@ -315,7 +321,8 @@ impl<'a, L: Listing, O: Outlet> RowSink for ListingSink<'a, L, O> {
     ghost part_longer = { part_longer O.taken L.form };
 
     /// Writes the rows after those before, or gathers them. The first call puts the header before its rows, also where it has
-    /// none.
+    /// none. Where it answers `Ok`, it wrote all that was gathered, and these rows; or it wrote nothing, and gathers these rows too,
+    /// which is so only of a sink that was given rows before.
     ///
     /// # Errors
     /// `Stopped` exactly where the outlet failed, with how many bytes it took by this sink in all, the header's too, up to 2^64 - 1.
@@ -329,6 +336,8 @@ impl<'a, L: Listing, O: Outlet> RowSink for ListingSink<'a, L, O> {
         ensures rows { MatchResult result (λ _. PutsRows O.taken L.form self.old rows.items self.new)
             (λ _. PutsPart O.taken L.form self.old rows.items self.new) }
         ensures left { LeavesOutlet self.old result self.new }
+        ensures gathered { IfOk result (λ _. Gathers self.old (text_next L.form (standing_of self.old) rows.items) self.new) }
+        ensures begun { has_begun self.new ≡ (has_begun self.old || not (length rows.items == 0)) }
     {
         let has_rows = !rows.is_empty();
         let answer = self.put_rows(alloc, rows);

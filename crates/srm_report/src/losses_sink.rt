@@ -1,5 +1,5 @@
 //! What became of each loss, taken in as the rows come.
-ghost use Rattle.std.specs.Prelude.{◌≡◌};
+ghost use Rattle.std.specs.Prelude.{◌≡◌, ◌<◌};
 
 use crate::by_loss::ByLoss;
 use crate::course::Course;
@@ -19,7 +19,7 @@ pub struct LossesSink {
 }
 
 impl LossesSink {
-    ghost use Rattle.std.specs.Prelude.{ℕ, List, [], length, IfOk, OnOk};
+    ghost use Rattle.std.specs.Prelude.{ℕ, List, [], length, IfOk, OnOk, OnErr};
     ghost use Rattle.srm_member.specs.declared.row.Row.{Row as R};
     ghost use Rattle.srm_member.specs.Orderly.{IsOrderly};
     ghost use Rattle.srm_interfaces.specs.declared.sink.Stage.{Stage as AStage};
@@ -52,7 +52,8 @@ impl LossesSink {
 
     // Takes in what these rows say of losses.
     pub(crate) fn take(&mut self, rows: &[Row]) -> Result<(), AllocError>
-        ensures { OnOk result (FindsLosses self.old rows.now self.new) }
+        ensures taken { OnOk result (FindsLosses self.old rows.now self.new) }
+        ensures some { OnErr result (0 < length rows.now) }
     {
         for row in rows {
             note(&mut self.losses, row)?;
@@ -62,7 +63,8 @@ impl LossesSink {
 }
 
 impl RowSink for LossesSink {
-    ghost use Rattle.std.specs.Prelude.{refl, List, ◌++◌};
+    ghost use Rattle.std.specs.Prelude.{refl, List, ◌++◌, ◌<◌, length, OnOk, IfErr};
+    ghost use Rattle.srm_interfaces.specs.Sinks.{stage_after};
     ghost use Rattle.srm_report.specs.LossesSinks.{stage_of_losses, FindsLosses, finds_none, finds_more};
 
     ghost stage = { stage_of_losses };
@@ -95,7 +97,15 @@ impl RowSink for LossesSink {
 
     ghost part_longer = { λ a b xs ys p. tt };
 
-    fn rows(&mut self, _alloc: Global, rows: Vec<Row>) -> Result<(), SinkFault> {
+    /// Takes in what the rows say of losses.
+    ///
+    /// # Errors
+    /// `NoMemory`. There are rows then: a call without rows is not refused.
+    fn rows(&mut self, _alloc: Global, rows: Vec<Row>) -> Result<(), SinkFault>
+        ensures stage { stage_of_losses self.new ≡ stage_after result }
+        ensures rows { OnOk result (FindsLosses self.old rows.items self.new) }
+        ensures fault { IfErr result (λ e. (e ≡ SinkFault.NoMemory) × (0 < length rows.items)) }
+    {
         match self.take(rows.as_slice()) {
             Ok(()) => {
                 self.stage = Stage::Live;

@@ -26,7 +26,7 @@ pub struct MembersSink {
 }
 
 impl MembersSink {
-    ghost use Rattle.std.specs.Prelude.{ℕ, List, [], ◌∷◌, ◌++◌, length, IfOk, OnOk};
+    ghost use Rattle.std.specs.Prelude.{ℕ, List, [], ◌∷◌, ◌++◌, length, IfOk, OnOk, OnErr};
     ghost use Rattle.srm_member.specs.declared.row.Row.{Row as R};
     ghost use Rattle.srm_interfaces.specs.declared.sink.Stage.{Stage as AStage};
     ghost use Rattle.srm_report.specs.Members.{members_table};
@@ -57,7 +57,8 @@ impl MembersSink {
 
     // Counts these rows. It answers no memory also where they would be more than [`MOST_ROWS`] in all.
     pub(crate) fn take(&mut self, rows: &[Row]) -> Result<(), AllocError>
-        ensures { OnOk result (CountsRows self.old rows.now self.new) }
+        ensures taken { OnOk result (CountsRows self.old rows.now self.new) }
+        ensures some { OnErr result (0 < length rows.now) }
     {
         for row in rows {
             self.count(row)?;
@@ -93,7 +94,8 @@ impl MembersSink {
 }
 
 impl RowSink for MembersSink {
-    ghost use Rattle.std.specs.Prelude.{refl, List, ◌++◌};
+    ghost use Rattle.std.specs.Prelude.{refl, List, ◌++◌, ◌<◌, length, OnOk, IfErr};
+    ghost use Rattle.srm_interfaces.specs.Sinks.{stage_after};
     ghost use Rattle.srm_report.specs.MembersSinks.{stage_of_members, CountsRows, counts_none, counts_more};
 
     ghost stage = { stage_of_members };
@@ -129,8 +131,12 @@ impl RowSink for MembersSink {
     /// Counts the rows.
     ///
     /// # Errors
-    /// `NoMemory`, also where they would be more than 2^63 rows in all (`MOST_ROWS`).
-    fn rows(&mut self, _alloc: Global, rows: Vec<Row>) -> Result<(), SinkFault> {
+    /// `NoMemory`, also where they would be more than 2^63 rows in all (`MOST_ROWS`). There are rows then: a call without rows is not refused.
+    fn rows(&mut self, _alloc: Global, rows: Vec<Row>) -> Result<(), SinkFault>
+        ensures stage { stage_of_members self.new ≡ stage_after result }
+        ensures rows { OnOk result (CountsRows self.old rows.items self.new) }
+        ensures fault { IfErr result (λ e. (e ≡ SinkFault.NoMemory) × (0 < length rows.items)) }
+    {
         match self.take(rows.as_slice()) {
             Ok(()) => {
                 self.stage = Stage::Live;

@@ -1,12 +1,12 @@
 //! A sink that keeps nothing.
-ghost use Rattle.std.specs.Prelude.{◌≡◌};
+ghost use Rattle.std.specs.Prelude.{◌≡◌, Ok};
 ghost use Rattle.srm_interfaces.specs.declared.sink.Stage.{Stage as AStage};
 
 use srm_interfaces::sink::{RowSink, SinkFault, Stage};
 use srm_member::row::Row;
 use std::alloc::Global;
 
-/// Takes rows, and keeps nothing of them: for a table that is made of a run's totals alone. As it is written, it refuses nothing.
+/// Takes rows, and keeps nothing of them: for a table that is made of a run's totals alone. It refuses nothing.
 #[derive(Drop)]
 pub struct NoRows {
     stage: Stage,
@@ -27,6 +27,7 @@ impl NoRows {
 
 impl RowSink for NoRows {
     ghost use Rattle.std.specs.Prelude.{refl, List, ◌++◌};
+    ghost use Rattle.srm_interfaces.specs.Sinks.{stage_after};
     ghost use Rattle.srm_report.specs.NoRows.{stage_of_none};
 
     ghost stage = { stage_of_none };
@@ -59,7 +60,11 @@ impl RowSink for NoRows {
 
     ghost part_longer = { λ a b xs ys p. tt };
 
-    fn rows(&mut self, _alloc: Global, _rows: Vec<Row>) -> Result<(), SinkFault> {
+    /// Takes the rows. It never refuses.
+    fn rows(&mut self, _alloc: Global, _rows: Vec<Row>) -> Result<(), SinkFault>
+        ensures answer { result ≡ Ok tt }
+        ensures stage { stage_of_none self.new ≡ stage_after result }
+    {
         self.stage = Stage::Live;
         Ok(())
     }

@@ -1,7 +1,7 @@
 //! The leader's ends of the channels, and the history.
-ghost use Rattle.std.specs.Prelude.{◌≡◌, ◌<◌, ◌≢◌, Some, length, slice_get, map, All, IfOk, IfErr};
+ghost use Rattle.std.specs.Prelude.{◌≡◌, ◌<◌, ◌≤◌, ◌+◌, ◌^◌, Some, length, slice_get, map, All, IfOk, IfErr};
 ghost use Rattle.std.specs.List.{AllZip};
-ghost use Rattle.srm_team.specs.Tells.{Filled, AllNone};
+ghost use Rattle.srm_team.specs.Tells.{IsMidway, Filled, AllNone};
 
 use crate::answer::Answer;
 use crate::batch::Batch;
@@ -41,7 +41,7 @@ fn empty_slots<D: Drop>(alloc: Global, count: usize) -> Result<Vec<Option<D>>, A
 // What the slots hold; or one is empty, or memory was refused.
 fn collect<D: Drop>(alloc: Global, slots: Vec<Option<D>>) -> Result<Vec<D>, TeamFault>
     ensures held { IfOk result (λ v. map Some v.items ≡ slots.items) }
-    ensures fault { IfErr result (λ e. e ≢ TeamFault.TooMany) }
+    ensures fault { IfErr result IsMidway }
 {
     let mut all: Vec<D> = Vec::new(alloc);
     for slot in slots {
@@ -94,7 +94,7 @@ impl<W: Work<T, D> + Copy, T: Drop, D: Drop, J: Naming> Ends<W, T, D, J> {
         requires asked { slice_get self.now.front number ≡ Some asked.now.value }
         requires batch { batch ≡ asked.now.value }
         requires ready { All (λ x. W.ready batch.work x) batch.items.items }
-        ensures { IfErr result (λ e. e ≢ TeamFault.TooMany) }
+        ensures { IfErr result IsMidway }
     {
         let Batch { work, items } = batch;
         let mut place = 0;
@@ -110,7 +110,7 @@ impl<W: Work<T, D> + Copy, T: Drop, D: Drop, J: Naming> Ends<W, T, D, J> {
 
     // The next answer. The leader works on orders that nobody has taken.
     fn next<R: Wait>(&self, rt: &R) -> Result<Answer<W, T, D, J>, TeamFault>
-        ensures { IfErr result (λ e. e ≢ TeamFault.TooMany) }
+        ensures { IfErr result IsMidway }
     {
         if let Ok(order) = self.orders.try_recv(rt) {
             return Ok(order.carry_out());
@@ -132,7 +132,7 @@ impl<W: Work<T, D> + Copy, T: Drop, D: Drop, J: Naming> Ends<W, T, D, J> {
         requires asked { slice_get self.now.front number ≡ Some asked.now.value }
         requires filled { Filled (λ x d. W.gives asked.now.value.work x d) asked.now.value.items.items slots.old.items }
         ensures filled { Filled (λ x d. W.gives asked.now.value.work x d) asked.now.value.items.items slots.new.items }
-        ensures fault { IfErr result (λ e. e ≢ TeamFault.TooMany) }
+        ensures fault { IfErr result IsMidway }
     {
         let mut left = slots.len();
         for _ in rt.forever() {
@@ -153,7 +153,7 @@ impl<W: Work<T, D> + Copy, T: Drop, D: Drop, J: Naming> Ends<W, T, D, J> {
     /// What comes of each item, in order of places.
     ///
     /// # Errors
-    /// Each fault but `TooMany`.
+    /// `NoMemory` or `Left`.
     pub(crate) fn map<R: Wait>(
         &mut self,
         rt: &R,
@@ -161,17 +161,19 @@ impl<W: Work<T, D> + Copy, T: Drop, D: Drop, J: Naming> Ends<W, T, D, J> {
         work: W,
         items: Vec<T>,
     ) -> Result<Vec<D>, TeamFault>
-        requires { All (λ x. W.ready work x) items.items }
+        requires ready { All (λ x. W.ready work x) items.items }
+        requires lists { length self.old.front < 2 ^ 62 }
         ensures given { IfOk result (λ v. AllZip (λ x d. W.gives work x d) items.items v.items) }
-        ensures fault { IfErr result (λ e. e ≢ TeamFault.TooMany) }
+        ensures fault { IfErr result IsMidway }
+        ensures lists { length self.new.front ≤ length self.old.front + 1 }
     {
         let Ok(mut slots) = empty_slots(alloc, items.len()) else {
             return Err(TeamFault::NoMemory);
         };
         let batch = Batch { work, items };
         let asked = Snapshot::of(&batch);
-        let Some(number) = self.front.ask(rt, &self.book, &batch) else {
-            return Err(TeamFault::Worn);
+        let Some(number) = self.front.ask(&self.book, &batch) else {
+            return Err(TeamFault::Left);
         };
         match self.send_all(rt, number, batch, &asked) {
             Ok(()) => {}

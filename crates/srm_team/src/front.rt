@@ -1,6 +1,5 @@
 //! Beginnings of a history that were seen.
-ghost use Rattle.std.specs.Prelude.{◌≡◌, ◌<◌, ◌≤◌, ◌^◌, ◌++◌, ◌∷◌, [], Some, length, slice_get, IfSome, IfNone, MatchBool};
-ghost use mathlib.Core.List.{IsPrefix};
+ghost use Rattle.std.specs.Prelude.{◌≡◌, ◌<◌, ◌^◌, ◌++◌, ◌∷◌, [], length, MatchOption};
 ghost use Rattle.srm_team.specs.Rules.{Agree};
 
 use crate::batch::Batch;
@@ -9,10 +8,6 @@ use crate::law::{Add, Law, Nothing};
 use crate::naming::Naming;
 use logbook::{Offer, Seen};
 use std::marker::{Model, PhantomData};
-use std::sync::Wait;
-
-// How many lists a history may have: the next call of a team is refused.
-const MOST: u64 = 1 << 62;
 
 /// A beginning of the history that was seen. Clauses see its lists.
 #[derive(Drop)]
@@ -66,48 +61,29 @@ impl<W, T, J: Naming> Front<W, T, J> {
         both.learn(&other.seen);
     }
 
-    // Adds a list behind all that was seen, and says whether it did. It did not where the history is longer.
-    fn add(&mut self, book: &Book<W, T, J>, batch: &Batch<W, T>) -> bool
+    /// Adds a list behind all that was seen, and gives its number; or does nothing, where the history is longer. Only a team's leader
+    /// adds to its history, so it never is; but no proof says so.
+    pub(crate) fn ask(&mut self, book: &Book<W, T, J>, batch: &Batch<W, T>) -> Option<u64>
         requires { length self.old < 2 ^ 62 }
-        ensures { MatchBool result (self.new ≡ self.old ++ batch.now ∷ []) (IsPrefix self.old self.new) }
+        ensures { MatchOption result (self.new ≡ self.old)
+            (λ n. (n ≡ length self.old) × (self.new ≡ self.old ++ batch.now ∷ [])) }
     {
-        let mut offer: Offer<Batch<W, T>, u64, Law, Nothing> = self
-            .seen
-            .plain::<Nothing, Batch<W, T>, Add>(batch);
-        let mut pen = self.seen.no_pen();
-        let lists = self.lists;
+        let number = self.lists;
+        let mut seen = self.seen.again();
+        let mut offer: Offer<Batch<W, T>, u64, Law, Nothing> = seen.plain::<
+            Nothing,
+            Batch<W, T>,
+            Add,
+        >(batch);
+        let mut pen = seen.no_pen();
         let found = book
             .head
-            .compare_exchange::<Add, Nothing>(
-                lists,
-                lists + 1,
-                &mut self.seen,
-                &mut offer,
-                &mut pen,
-            );
-        self.lists = if found == lists { lists + 1 } else { found };
-        found == lists
-    }
-
-    /// Adds a list, and gives its number; or, once 2^62 lists were added, nothing.
-    pub(crate) fn ask<R: Wait>(
-        &mut self,
-        rt: &R,
-        book: &Book<W, T, J>,
-        batch: &Batch<W, T>,
-    ) -> Option<u64>
-        ensures added { IfSome result (λ n. slice_get self.new n ≡ Some batch.now) }
-        ensures worn { IfNone result (2 ^ 62 ≤ length self.new) }
-    {
-        for _ in rt.forever() {
-            if self.lists >= MOST {
-                return None;
-            }
-            let number = self.lists;
-            if self.add(book, batch) {
-                return Some(number);
-            }
+            .compare_exchange::<Add, Nothing>(number, number + 1, &mut seen, &mut offer, &mut pen);
+        if found != number {
+            return None;
         }
-        unreachable!()
+        self.seen = seen;
+        self.lists = number + 1;
+        Some(number)
     }
 }

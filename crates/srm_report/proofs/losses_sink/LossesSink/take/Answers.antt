@@ -19,8 +19,8 @@ loop-row-preserved c =
     subst (λ l. FindsLosses c.args.self.now l after) (sym one)
     (finds_more c.args.self.now c.loop-row.self after (take i rows) (r ∷ []) c.loop-row.invariant next)
 
-pub returns : goal.returns
-returns c =
+pub returns-clause-taken : goal.returns-clause-taken
+returns-clause-taken c =
     let whole : c.loop-row.row-index ≡ length c.args.rows.now = omega arith in
     subst (λ l. FindsLosses c.args.self.now l c.loop-row.self)
     (ap (λ n. take n c.args.rows.now) whole ∙ take-length c.args.rows.now) c.loop-row.invariant

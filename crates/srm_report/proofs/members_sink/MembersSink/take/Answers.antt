@@ -14,8 +14,8 @@ loop-row-preserved c =
     subst (λ l. CountsRows c.args.self.now l c.count.new.self) (sym one)
     (counts_more c.args.self.now c.loop-row.self c.count.new.self (take i rows) (r ∷ []) c.loop-row.invariant c.in_ok-count.ensures)
 
-pub returns : goal.returns
-returns c =
+pub returns-clause-taken : goal.returns-clause-taken
+returns-clause-taken c =
     let whole : c.loop-row.row-index ≡ length c.args.rows.now = omega arith in
     subst (λ l. CountsRows c.args.self.now l c.loop-row.self)
     (ap (λ n. take n c.args.rows.now) whole ∙ take-length c.args.rows.now) c.loop-row.invariant

@@ -9,10 +9,7 @@ fill-requires-clause-filled g c =
     subst (λ b. Filled (λ x d. g.W.Work.gives b.work x d) b.items.items c.in-Ok.slots.items) (sym c.of-asked.ensures)
     (long, λ p d h. absurd (c.in-Ok.ensures.1 p d h))
 
-pub returns : goal.returns
-returns g c = record {
-  given = if_ok _ _ c.collect.result c.collect.ensures.held (λ v same.
-      told (λ w x d. g.W.Work.gives w x d) c.of-asked.result.value (record { work = c.args.work; items = c.args.items })
-      c.of-asked.ensures c.fill.new.slots.items v.items c.fill.ensures.filled same);
-  fault = c.collect.ensures.fault;
-}
+pub returns-clause-given : goal.returns-clause-given
+returns-clause-given g c = if_ok _ _ c.collect.result c.collect.ensures.held (λ v same.
+    told (λ w x d. g.W.Work.gives w x d) c.of-asked.result.value (record { work = c.args.work; items = c.args.items })
+    c.of-asked.ensures c.fill.new.slots.items v.items c.fill.ensures.filled same)
