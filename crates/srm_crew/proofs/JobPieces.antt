@@ -1,6 +1,10 @@
 -- Jobs that were advanced in pieces.
-use Rattle.std.proofs.Common.{◌≡◌, ◌<◌, ℕ, zero, suc, List, [], ◌∷◌, ◌++◌, map, length, get_or, Result, Ok, Err}
-use Rattle.std.proofs.Common.{refl, sym, ap, ◌∙◌, subst, inl, inr, append_assoc, append-nil, arith}
+use Rattle.std.proofs.Common.{◌≡◌, ◌<◌, ◌≤◌, ◌⊎◌, ◌+◌, ◌-◌, ◌*◌, ◌/◌, ℕ, zero, suc, List, [], ◌∷◌, ◌++◌, map, length, get_or}
+use Rattle.std.proofs.Common.{Result, Ok, Err, refl, sym, ap, ◌∙◌, subst, inl, inr, ⊎_elim, append_assoc, append-nil}
+use Rattle.std.proofs.Common.{length-append, lt_of_not-le, arith}
+use Rattle.std.proofs.Math.Nat.{suc-mul, mul-le-mul_right, lt-mul-div-succ}
+use mathlib.Core.Logic.{dite}
+use native.Mathlib.Decide.{dec_le}
 use Rattle.std.proofs.lemmas.List.{map-append}
 use Rattle.std.proofs.lemmas.List.Elements.{Contains-append_right, Contains-get_or}
 use Rattle.std.specs.List.{AllZip, Contains}
@@ -137,6 +141,46 @@ module _ {A : Type 0} where
   pub last_piece : (ps more : List (Vec A)) (own : Vec A) (left whole : List A) → more ≡ ps ++ own ∷ [] → left ≡ []
       → (all_in ps ++ own.items) ++ left ≡ whole → all_in more ≡ whole
   last_piece ps more own left whole is none h = grind (arith, all_in_more, append-nil)
+
+  -- ---- how many pieces there are
+
+  pub one_piece_more : (ps more : List (Vec A)) (own : Vec A) → more ≡ ps ++ own ∷ [] → length more ≡ suc (length ps)
+  one_piece_more ps more own is = let e = ap length is in let l = length-append ps (own ∷ []) in omega (arith, e, l)
+
+  pub has_one : (xs more : List A) (x : A) → more ≡ xs ++ x ∷ [] → 1 ≤ length more
+  has_one xs more x is = let e = ap length is in let l = length-append xs (x ∷ []) in omega (arith, e, l)
+
+  -- each piece that has ended has so many items at least
+  pub sized_more : (size : ℕ) (ps more : List (Vec A)) (own : Vec A) → more ≡ ps ++ own ∷ [] → size ≤ length own.items
+      → length ps * size ≤ length (all_in ps) → length more * size ≤ length (all_in more)
+  sized_more size ps more own is enough h =
+      let whole : length (all_in more) ≡ length (all_in ps) + length own.items = ap (λ l. length (all_in l)) is
+      ∙ ap length (all_in_more ps own) ∙ length-append (all_in ps) own.items in
+      subst (λ n. n * size ≤ length (all_in more)) (sym (one_piece_more ps more own is))
+      (let m = suc-mul (length ps) size in omega (arith, m, whole, enough, h))
+
+  -- so all but the last have no more items than all but one, where the last has one, or is alone
+  pub few_pieces : (size : ℕ) (ps more : List (Vec A)) (own : Vec A) (left whole : List A) → more ≡ ps ++ own ∷ [] → left ≡ []
+      → (all_in ps ++ own.items) ++ left ≡ whole → length ps * size ≤ length (all_in ps)
+      → (length ps ≡ 0) ⊎ (1 ≤ length own.items) → (length more - 1) * size ≤ length whole - 1
+  few_pieces size ps more own left whole is none h sized last =
+      let long : length more - 1 ≡ length ps = let e = one_piece_more ps more own is in omega (arith, e) in
+      let rest = ap length none in
+      let all = ap length h in
+      let both = length-append (all_in ps ++ own.items) left in
+      let each = length-append (all_in ps) own.items in
+      subst (λ n. n * size ≤ length whole - 1) (sym long)
+      (⊎_elim (λ alone. subst (λ n. n * size ≤ length whole - 1) (sym alone) (omega arith))
+      (λ some. omega (arith, some, sized, rest, all, both, each)) last)
+
+-- pieces of so many items, and at least one, are no more than there is room for
+pub few_enough : (n room pieces : ℕ) → 0 < room → (pieces - 1) * (n / room + 1) ≤ n - 1 → pieces ≤ room
+few_enough n room pieces some few = dite (dec_le pieces room) (λ near. near)
+    (λ far. absurd (
+    let past = lt-mul-div-succ n some in
+    let most : room * (n / room + 1) ≤ (pieces - 1) * (n / room + 1) =
+    mul-le-mul_right (n / room + 1) (let l = lt_of_not-le far in omega (arith, l)) in
+    omega (arith, past, most, few)))
 
 -- what advancing jobs tells of one scenario and network it tells of the same under other names
 pub as_given : {M : Type 0} (f : M → Record) (own given : PlainScenario) (own_net net : Network) (js : List (Job M))

@@ -107,6 +107,7 @@ module _ {M : Type 0} where
             weight = t.1.weight;
             shares = λ w. t.1.shares w ∙ ap (λ n. slice_index seat.shares w + n)
                 (sum_of_is w v.0.items ∙ sum_is f (traffic_of k net) ps v.0.items done w);
+            seen = t.1.seen;
           },
         );
   }

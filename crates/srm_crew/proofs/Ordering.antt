@@ -231,6 +231,7 @@ module _ {T D : Type 0} (R : T → Result D CellFault → Type 0) (numbers : D �
               let e = w.grown.shares k in
               let a = sums k in
               let b : sum_of numbers k r ≡ sum_of numbers k w.more = ap (sum_of numbers k) w.gave in omega (arith, e, a, b);
+          seen = w.grown.seen;
         },
       )
 

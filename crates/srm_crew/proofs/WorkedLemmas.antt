@@ -1,11 +1,12 @@
 -- What workers did, put together: one item more, more work with the same pass, and the work of two.
-use Rattle.std.proofs.Common.{◌≡◌, ℕ, ◌+◌, List, [], ◌∷◌, ◌++◌, length, Some, All, Result, Ok}
+use Rattle.std.proofs.Common.{◌≡◌, ℕ, ◌+◌, List, [], ◌∷◌, ◌++◌, length, max, Some, All, Result, Ok}
 use Rattle.std.proofs.Common.{Err, refl, sym, ap, ◌∙◌, subst, arith, append_assoc, append-nil}
 use Rattle.std.proofs.lemmas.Option.{get_or_from_slice_get, slice_get_within}
 use Rattle.std.specs.Global.{Vec}
 use Rattle.srm_net.proofs.Basics.{zip_append}
 use Rattle.srm_ledger.specs.Seats.{SeatView, half_with_shares, both_seats}
 use Rattle.srm_ledger.specs.Seats as seats
+use Rattle.srm_ledger.specs.Tally.{larger}
 use Rattle.srm_ledger.proofs.Zips.{added_at}
 use Rattle.srm_ledger.proofs.Keeps.{replicate_zero}
 use Rattle.srm_cell.specs.declared.fault.CellFault.{CellFault}
@@ -21,6 +22,11 @@ pub sum_of-append : {D : Type 0} (numbers : D → List ℕ) (k : ℕ) (xs ys : L
 sum_of-append numbers k [] ys = omega arith
 sum_of-append numbers k (x ∷ xs) ys = let e = sum_of-append numbers k xs ys in omega (arith, e)
 
+-- halves that have read the same come back as a seat that has read just that
+larger_same : (xs : List ℕ) → larger xs xs ≡ xs
+larger_same [] = refl
+larger_same (x ∷ xs) = ap (λ l. max x x ∷ l) (larger_same xs) ∙ ap (λ n. n ∷ xs) (omega arith)
+
 -- what holds of each item that was put holds of one that is taken
 pub ready_at : {T : Type 0} (P : T → Type 0) (put : List T) (p q : PassView T) (x : T) → p.put ≡ put → All P put → TellsTake p (Some x) q
     → P x
@@ -34,7 +40,7 @@ module _ {T D : Type 0} (R : T → Result D CellFault → Type 0) (numbers : D �
     taken = λ i. record { bag = p.bag; weight = p.weight; put = p.put; taken = sym (append-nil p.taken) i };
     gave = sym (append-nil r);
     come = tt;
-    grown = record { ledger = refl; weight = refl; shares = λ k. omega arith };
+    grown = record { ledger = refl; weight = refl; shares = λ k. omega arith; seen = refl };
   }
 
   -- work after work
@@ -105,7 +111,7 @@ module _ {T D : Type 0} (R : T → Result D CellFault → Type 0) (numbers : D �
       → HasWorked R numbers (half_without_list P) (seats.half_without S) [] q t v
       → m ≡ both_passes p q → n ≡ both_seats s t → w ≡ u ++ v → HasWorked R numbers P S [] m n w
   both_worked P p q m S s t n u v w a b passes seats' results =
-      grind (arith, append_assoc, zip_append, added_at, replicate_zero, sum_of-append)
+      grind (arith, append_assoc, zip_append, added_at, larger_same, replicate_zero, sum_of-append)
 
   pub halves_tell : (P : PassView T) (S : SeatView) (a b r : Result (PassView T × SeatView × Vec D) CrewFault) → P.taken ≡ []
       → TellsWork R numbers (half_with_list P) (half_with_shares S) [] a

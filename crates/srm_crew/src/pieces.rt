@@ -1,5 +1,5 @@
 //! The work of a call in pieces, and what comes of them.
-ghost use Rattle.std.specs.Prelude.{◌≡◌, IfOk, map, All};
+ghost use Rattle.std.specs.Prelude.{◌≡◌, ◌≤◌, ◌+◌, ◌-◌, ◌*◌, length, IfOk, map, All};
 ghost use Rattle.std.specs.List.{AllZip};
 ghost use Rattle.srm_cell.specs.Crossings.{joined};
 ghost use Rattle.srm_crew.specs.Pieces.{IsJobsOf, AreHearersOf, IsAdvanced, IsHeard, IsAdvancedAs, HeardTogether};
@@ -69,7 +69,8 @@ pub(crate) fn pieces_of<M: Participant>(
     share: usize,
     cuts: usize,
 ) -> Result<Vec<Vec<Job<M>>>, AllocError>
-    ensures { IfOk result (λ pieces. joined (map (λ p. p.items) pieces.items) ≡ jobs.items) }
+    ensures all { IfOk result (λ pieces. joined (map (λ p. p.items) pieces.items) ≡ jobs.items) }
+    ensures few { IfOk result (λ pieces. length pieces.items ≤ cuts + 1) }
 {
     let mut pieces = Vec::new(alloc);
     let mut piece = Vec::new(alloc);
@@ -93,7 +94,8 @@ pub(crate) fn even_pieces<M: Participant>(
     groups: Vec<Vec<Cell<M>>>,
     size: usize,
 ) -> Result<Vec<Vec<Vec<Cell<M>>>>, AllocError>
-    ensures { IfOk result (λ pieces. joined (map (λ p. p.items) pieces.items) ≡ groups.items) }
+    ensures all { IfOk result (λ pieces. joined (map (λ p. p.items) pieces.items) ≡ groups.items) }
+    ensures few { IfOk result (λ pieces. (length pieces.items - 1) * size ≤ length groups.items - 1) }
 {
     let mut pieces = Vec::new(alloc);
     let mut piece = Vec::new(alloc);

@@ -1,6 +1,6 @@
 //! A crew of threads that live for a whole run.
 ghost use Rattle.std.specs.Prelude.{◌≡◌, ◌≤◌, ◌∷◌, ◌++◌, [], ℕ, List, length, map, All, IfOk};
-ghost use Rattle.std.specs.List.{range_with_len};
+ghost use Rattle.std.specs.List.{AllZip, range_with_len};
 ghost use Rattle.srm_net.specs.Limits.{most_nodes};
 ghost use Rattle.srm_scenario.specs.Plain.{network_of};
 ghost use Rattle.srm_cell.specs.Setting.{traffic_of};
@@ -8,6 +8,7 @@ ghost use Rattle.srm_cell.specs.Jobs.{PlainJob, MayAdvance};
 ghost use Rattle.srm_cell.specs.Hearing.{IsSent, packets_in};
 ghost use Rattle.srm_interfaces.specs.Crews.{AdvanceEach, AreJobs, Maps};
 ghost use Rattle.srm_interfaces.specs.Hearers.{GroupsMayHear, TellsHeard};
+ghost use Rattle.srm_crew.specs.Pieces.{MayWork, ComesOfPiece};
 ghost use Rattle.srm_crew.specs.Teams.{IsWorkOn};
 
 use crate::add::settle;
@@ -30,14 +31,15 @@ use srm_ledger::ledger::{Ledger, Seat};
 use srm_member::participant::Participant;
 use srm_net::net::Net;
 use srm_scenario::scenario::Scenario;
+use srm_team::fault::TeamFault;
 use srm_team::naming::Naming;
 use srm_team::team::Team;
 use std::alloc::{AllocError, Global};
 use std::sync::Wait;
 
 /// Advances jobs on the threads of a team, which stay for the next call. It serves runs of one scenario, which it keeps with its
-/// network. The jobs of a call are handed to the team in as many pieces as it has room for. Where the call before gave few rows,
-/// the thread that calls does all the work: to wake the others would take longer.
+/// network. What a call hands to the team is in no more pieces than it has room for. As it is written, the thread that calls does
+/// all the work where the call before gave few rows: to wake the others would take longer.
 #[derive(Drop)]
 pub struct TeamCrew<'a, R: Wait, M: Participant, J: Naming> {
     rt: R,
@@ -47,26 +49,52 @@ pub struct TeamCrew<'a, R: Wait, M: Participant, J: Naming> {
     rows: usize,
 }
 
-// Advances each job, in pieces that a team works on. Something is due in so many of their cells.
+// What comes of pieces that a team works on. They are no more than it has room for, so what is refused is memory, or as it is
+// written the team is worn or a channel was closed.
+fn work_in_team<'a, R: Wait, M: Participant, J: Naming>(
+    rt: &R,
+    alloc: Global,
+    team: &mut Team<Advancing<'a>, Piece<M>, Worked<M>, J>,
+    work: Advancing<'a>,
+    pieces: Vec<Piece<M>>,
+) -> Result<Vec<Worked<M>>, AllocError>
+    requires few { length pieces.items ≤ team.old.room }
+    requires ready { All (λ p. MayWork M.plain work.scenario.now work.net.now p) pieces.items }
+    ensures given { IfOk result (λ all. AllZip (λ p w. ComesOfPiece M.plain work.entry.scenario.now work.entry.net.now p w)
+        pieces.items all.items) }
+    ensures room { team.new ≡ team.old }
+{
+    match team.map(rt, alloc, work, pieces) {
+        Ok(all) => Ok(all),
+        Err(TeamFault::TooMany) => unreachable!(),
+        Err(TeamFault::NoMemory | TeamFault::Worn | TeamFault::Left) => Err(AllocError),
+    }
+}
+
+// Advances each job, in pieces that a team works on.
 fn advance_in_team<'a, R: Wait, M: Participant, J: Naming>(
     rt: &R,
     alloc: Global,
     team: &mut Team<Advancing<'a>, Piece<M>, Worked<M>, J>,
     work: Advancing<'a>,
     jobs: Vec<Job<M>>,
-    due: usize,
 ) -> Result<Vec<Done<M>>, CellFault>
     requires { All (λ j. MayAdvance M.plain (length work.net.now.hosts) j) jobs.items }
-    ensures { AdvanceEach M.plain work.entry.scenario.now work.entry.net.now jobs.items result }
+    ensures advanced { AdvanceEach M.plain work.entry.scenario.now work.entry.net.now jobs.items result }
+    ensures room { team.new ≡ team.old }
 {
-    let room = team.room().max(1);
+    let room = team.room();
+    if room == 0 {
+        return advance_each(alloc, work.scenario, work.net, jobs);
+    }
+    let due = due_in_all(jobs.as_slice());
     let Ok(pieces) = pieces_of(alloc, jobs, due / room, room - 1) else {
         return Err(CellFault::NoMemory);
     };
     let Ok(given) = to_advance(alloc, pieces) else {
         return Err(CellFault::NoMemory);
     };
-    let Ok(all) = team.map(rt, alloc, work, given) else {
+    let Ok(all) = work_in_team(rt, alloc, team, work, given) else {
         return Err(CellFault::NoMemory);
     };
     let Ok(results) = advanced_of(alloc, all) else {
@@ -87,23 +115,26 @@ fn hear_in_team<'a, R: Wait, M: Participant, J: Naming>(
     requires network { work.net.now ≡ network_of work.scenario.now }
     requires sent { All (λ x. IsSent work.scenario.now work.net.now x) sent.items }
     requires groups { GroupsMayHear M.plain (traffic_of work.scenario.now work.net.now) (packets_in sent.items) groups.items }
-    ensures { TellsHeard M.plain (traffic_of work.entry.scenario.now work.entry.net.now) (packets_in sent.items)
+    ensures heard { TellsHeard M.plain (traffic_of work.entry.scenario.now work.entry.net.now) (packets_in sent.items)
         groups.items result }
+    ensures room { team.new ≡ team.old }
 {
-    let size = groups.len() / team.room().max(1) + 1;
+    let room = team.room();
+    if room == 0 {
+        return hear_groups(alloc, work.scenario, work.net, sent.as_slice(), groups);
+    }
+    let size = groups.len() / room + 1;
     let pieces = even_pieces(alloc, groups, size)?;
     let given = to_hear(alloc, sent, pieces)?;
-    let Ok(all) = team.map(rt, alloc, work, given) else {
-        return Err(AllocError);
-    };
+    let all = work_in_team(rt, alloc, team, work, given)?;
     heard_of(alloc, all)
 }
 
 impl<'a, R: Wait, M: Participant, J: Naming> TeamCrew<'a, R, M, J> {
-    /// A crew that has this team, and does this work. The thread that calls does it where the call before gave fewer than `few`
-    /// rows, or where the team has room for no item. It does not allocate.
+    /// A crew that has this team, and does this work. As it is written, the thread that calls does it where the call before gave
+    /// fewer than `few` rows, or where the team has room for no item. It does not allocate.
     ///
-    /// A call of it is refused with `NoMemory` also after 2^62 calls of the team.
+    /// A call of it is refused with `NoMemory` also where its team is `Worn` or `Left`, and never for `TooMany`.
     pub fn new(
         rt: R,
         team: Team<Advancing<'a>, Piece<M>, Worked<M>, J>,
@@ -125,15 +156,19 @@ impl<'a, R: Wait, M: Participant, J: Naming> TeamCrew<'a, R, M, J> {
 }
 
 impl<'a, R: Wait, M: Participant, J: Naming> Crew<M> for TeamCrew<'a, R, M, J> {
+    ghost use Rattle.std.specs.Prelude.{refl};
+    ghost use Rattle.std.proofs.Common.{◌∙◌};
+
     ghost ready = { λ _. Unit {0} };
 
     ghost serves = { λ c k net. IsWorkOn c.work k net };
 
-    ghost handed = { λ _ _ _. Unit {0} };
+    // Which calls it was handed it does not keep, and no call changes its work, its team, or what few rows are.
+    ghost handed = { λ a _ b. (b.work ≡ a.work) × (b.team ≡ a.team) × (b.few ≡ a.few) };
 
-    ghost handed_none = { λ c. tt };
+    ghost handed_none = { λ c. (refl, refl, refl) };
 
-    ghost handed_more = { λ a b c xs ys p q. tt };
+    ghost handed_more = { λ a b c xs ys p q. (q.0 ∙ p.0, q.1 ∙ p.1, q.2 ∙ p.2) };
 
     fn map(
         &mut self,
@@ -154,13 +189,14 @@ impl<'a, R: Wait, M: Participant, J: Naming> Crew<M> for TeamCrew<'a, R, M, J> {
         ensures ready { Unit {0} }
         ensures serves { IsWorkOn self.new.work scenario.now net.now }
         ensures done { Maps M.plain scenario.now net.now seat jobs.items result }
-        ensures handed { IfOk result (λ _. (ps : List PlainJob) → AreJobs M.plain jobs.items ps → Unit {0}) }
+        ensures handed { IfOk result (λ _. (ps : List PlainJob) → AreJobs M.plain jobs.items ps
+            → (self.new.work ≡ self.old.work) × (self.new.team ≡ self.old.team) × (self.new.few ≡ self.old.few)) }
+        ensures kept { (self.new.work ≡ self.old.work) × (self.new.team ≡ self.old.team) × (self.new.few ≡ self.old.few) }
     {
-        let advanced = if self.rows < self.few || self.team.room() == 0 {
+        let advanced = if self.rows < self.few {
             advance_each(alloc, scenario, net, jobs)
         } else {
-            let due = due_in_all(jobs.as_slice());
-            advance_in_team(&self.rt, alloc, &mut self.team, self.work, jobs, due)
+            advance_in_team(&self.rt, alloc, &mut self.team, self.work, jobs)
         };
         self.rows = rows_given(&advanced);
         settle(ledger, seat, advanced)
@@ -184,11 +220,8 @@ impl<'a, R: Wait, M: Participant, J: Naming> Crew<M> for TeamCrew<'a, R, M, J> {
         ensures serves { IsWorkOn self.new.work scenario.now net.now }
         ensures heard { TellsHeard M.plain (traffic_of scenario.now net.now)
             (packets_in sent.items) groups.items result }
-        ensures handed { Unit {0} }
+        ensures handed { (self.new.work ≡ self.old.work) × (self.new.team ≡ self.old.team) × (self.new.few ≡ self.old.few) }
     {
-        if self.team.room() == 0 {
-            return hear_groups(alloc, scenario, net, sent.as_slice(), groups);
-        }
         hear_in_team(&self.rt, alloc, &mut self.team, self.work, sent, groups)
     }
 }

@@ -34,6 +34,7 @@ pub record HasGrown (by : ℕ → ℕ) (old new : SeatView) : Type 0 where
   pub ledger : new.ledger ≡ old.ledger
   pub weight : new.weight ≡ old.weight
   pub shares : (k : ℕ) → slice_index new.shares k ≡ slice_index old.shares k + by k
+  pub seen : new.seen ≡ old.seen
 
 -- some share, grown by its number, would pass 2^47
 abbrev pub IsPast : (ℕ → ℕ) → SeatView → Type 0

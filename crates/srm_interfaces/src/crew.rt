@@ -31,7 +31,8 @@ pub trait Crew<M: Participant> {
     // Between these two values it was handed exactly these calls of `map`, each the list of its jobs.
     ghost handed: { Self → List (List PlainJob) → Self → Type 0 };
 
-    /// For each job, in order of places, what `advance` gives. The seat's shares grow by the crossings of all their rows.
+    /// For each job, in order of places, what `advance` gives. The seat's shares grow by the crossings of all their rows, and
+    /// nothing else of it changes: it comes back as one by which nothing was read.
     ///
     /// # Errors
     /// [`CrewFault::Spent`] only where a job meets an event of a member that is gone; [`CrewFault::CountFull`] only

@@ -14,6 +14,7 @@ loop-done-preserved g c =
           let b = was.shares k in
           let e = sum_more k c.args.all.now i c.done-item.result c.loop-done-test.true c.done-item.is in
           omega (arith, a, b, e);
+      seen = new.seen ∙ was.seen;
     }
 
 pub returns-in-Err : goal.returns-in-Err

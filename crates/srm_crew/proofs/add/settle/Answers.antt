@@ -19,6 +19,7 @@ returns-in-Ok-add_each-clause-told g c = λ s ps links h.
         weight = new.weight;
         shares = λ k. new.shares k ∙ ap (λ n. slice_index c.args.seat.shares k + n)
             (sum_is g.M.Participant.plain s ps c.in-Ok.all.items all k);
+        seen = new.seen;
       },
     )
 

@@ -1,32 +1,42 @@
-use Rattle.std.proofs.Common.{length, All, sym, subst}
+use Rattle.std.proofs.Common.{length, All, sym, subst, arith}
+use Rattle.std.proofs.lemmas.Slice.Zip.{AllZip-long}
 use Rattle.srm_cell.specs.Jobs.{MayAdvance}
+use Rattle.srm_crew.specs.Pieces.{IsJobsOf}
 use Rattle.srm_interfaces.specs.Crews.{AdvanceEach}
 use Rattle.srm_crew.proofs.Hearers.{jobs_may, jobs_advanced, jobs_gave}
 use Rattle.srm_interfaces.proofs.InPieces.{all_each}
 use Rattle.srm_crew.proofs.JobPieces.{pieces_advanced}
 use Rattle.srm_crew.proofs.team_crew.advance_in_team.Goals as goal
 
-pub map-requires : goal.map-requires
-map-requires g c =
+pub work_in_team-requires-clause-few : goal.work_in_team-requires-clause-few
+work_in_team-requires-clause-few g c =
+    let given = AllZip-long (λ js p. IsJobsOf js p) c.in-Ok.pieces.items c.in-Ok-to_advance.given.items c.in-Ok-to_advance.ensures in
+    let few = c.in-Ok.ensures.few in
+    let some = c.if-room-eq0.false in
+    let room = c.room-room.ensures in
+    omega (arith, given, few, some, room)
+
+pub work_in_team-requires-clause-ready : goal.work_in_team-requires-clause-ready
+work_in_team-requires-clause-ready g c =
     jobs_may g.M.Participant.plain c.args.work.scenario.now c.args.work.net.now c.in-Ok.pieces.items c.in-Ok-to_advance.given.items
     c.in-Ok-to_advance.ensures
     (all_each (λ j. MayAdvance g.M.Participant.plain (length c.args.work.net.now.hosts) j) c.in-Ok.pieces.items
-    (subst (All (λ j. MayAdvance g.M.Participant.plain (length c.args.work.net.now.hosts) j)) (sym c.in-Ok.ensures) c.requires))
+    (subst (All (λ j. MayAdvance g.M.Participant.plain (length c.args.work.net.now.hosts) j)) (sym c.in-Ok.ensures.all) c.requires))
 
 pub advanced_of-requires : goal.advanced_of-requires
 advanced_of-requires g c =
     jobs_advanced g.M.Participant.plain c.args.work.scenario.now c.args.work.net.now c.in-Ok.pieces.items c.in-Ok-to_advance.given.items
-    c.in-Ok-map.all.items c.in-Ok-to_advance.ensures c.in-Ok-map.ensures.given
+    c.in-Ok-work_in_team.all.items c.in-Ok-to_advance.ensures c.in-Ok-work_in_team.ensures.given
 
-pub returns : goal.returns
-returns g c =
+pub returns-clause-advanced : goal.returns-clause-advanced
+returns-clause-advanced g c =
     let k = c.args.work.scenario.now in
     let net = c.args.work.net.now in
-    subst (λ l. AdvanceEach g.M.Participant.plain k net l c.put_together.result) c.in-Ok.ensures
+    subst (λ l. AdvanceEach g.M.Participant.plain k net l c.put_together.result) c.in-Ok.ensures.all
     (pieces_advanced g.M.Participant.plain k net c.in-Ok.pieces.items c.in-Ok-advanced_of.results.items c.put_together.result
-    (jobs_gave g.M.Participant.plain k net c.in-Ok.pieces.items c.in-Ok-to_advance.given.items c.in-Ok-map.all.items
-    c.in-Ok-advanced_of.results.items c.in-Ok-to_advance.ensures c.in-Ok-map.ensures.given c.in-Ok-advanced_of.ensures)
+    (jobs_gave g.M.Participant.plain k net c.in-Ok.pieces.items c.in-Ok-to_advance.given.items c.in-Ok-work_in_team.all.items
+    c.in-Ok-advanced_of.results.items c.in-Ok-to_advance.ensures c.in-Ok-work_in_team.ensures.given c.in-Ok-advanced_of.ensures)
     c.put_together.ensures)
 
-pub returns-in_default : goal.returns-in_default
-returns-in_default g c = record { tells = λ ps h. tt }
+pub returns-in_default-clause-advanced : goal.returns-in_default-clause-advanced
+returns-in_default-clause-advanced g c = record { tells = λ ps h. tt }

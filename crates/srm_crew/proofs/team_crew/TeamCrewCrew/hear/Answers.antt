@@ -6,11 +6,6 @@ use Rattle.srm_cell.specs.Hearing.{packets_in}
 use Rattle.srm_interfaces.specs.Hearers.{GroupsMayHear}
 use Rattle.srm_crew.proofs.team_crew.TeamCrewCrew.hear.Goals as goal
 
-pub hear_groups-requires-clause-groups : goal.hear_groups-requires-clause-groups
-hear_groups-requires-clause-groups g c =
-    subst (λ xs. GroupsMayHear g.M.Participant.plain (traffic_of c.args.scenario.now c.args.net.now) (packets_in xs) c.args.groups.items)
-    (sym c.as_slice.ensures.value) c.requires.groups
-
 pub hear_in_team-requires-clause-groups : goal.hear_in_team-requires-clause-groups
 hear_in_team-requires-clause-groups g c =
     let ps = packets_in c.args.sent.items in
