@@ -62,12 +62,14 @@ fn work_in_team<'a, R: Wait, M: Participant, J: Naming>(
     requires ready { All (λ p. MayWork M.plain work.scenario.now work.net.now p) pieces.items }
     ensures given { IfOk result (λ all. AllZip (λ p w. ComesOfPiece M.plain work.entry.scenario.now work.entry.net.now p w)
         pieces.items all.items) }
-    ensures room { team.new ≡ team.old }
+    ensures room { team.new.room ≡ team.old.room }
 {
     match team.map(rt, alloc, work, pieces) {
         Ok(all) => Ok(all),
-        Err(TeamFault::TooMany) => unreachable!(),
-        Err(TeamFault::NoMemory | TeamFault::Worn | TeamFault::Left) => Err(AllocError),
+        Err(fault) => {
+            prove!(fault != TeamFault::TooMany);
+            Err(AllocError)
+        }
     }
 }
 
@@ -81,7 +83,7 @@ fn advance_in_team<'a, R: Wait, M: Participant, J: Naming>(
 ) -> Result<Vec<Done<M>>, CellFault>
     requires { All (λ j. MayAdvance M.plain (length work.net.now.hosts) j) jobs.items }
     ensures advanced { AdvanceEach M.plain work.entry.scenario.now work.entry.net.now jobs.items result }
-    ensures room { team.new ≡ team.old }
+    ensures room { team.new.room ≡ team.old.room }
 {
     let room = team.room();
     if room == 0 {
@@ -117,7 +119,7 @@ fn hear_in_team<'a, R: Wait, M: Participant, J: Naming>(
     requires groups { GroupsMayHear M.plain (traffic_of work.scenario.now work.net.now) (packets_in sent.items) groups.items }
     ensures heard { TellsHeard M.plain (traffic_of work.entry.scenario.now work.entry.net.now) (packets_in sent.items)
         groups.items result }
-    ensures room { team.new ≡ team.old }
+    ensures room { team.new.room ≡ team.old.room }
 {
     let room = team.room();
     if room == 0 {
@@ -163,8 +165,9 @@ impl<'a, R: Wait, M: Participant, J: Naming> Crew<M> for TeamCrew<'a, R, M, J> {
 
     ghost serves = { λ c k net. IsWorkOn c.work k net };
 
-    // Which calls it was handed it does not keep, and no call changes its work, its team, or what few rows are.
-    ghost handed = { λ a _ b. (b.work ≡ a.work) × (b.team ≡ a.team) × (b.few ≡ a.few) };
+    // Which calls it was handed it does not keep, and no call changes its work, the room of its team, or what few rows
+    // are.
+    ghost handed = { λ a _ b. (b.work ≡ a.work) × (b.team.room ≡ a.team.room) × (b.few ≡ a.few) };
 
     ghost handed_none = { λ c. (refl, refl, refl) };
 
@@ -190,8 +193,8 @@ impl<'a, R: Wait, M: Participant, J: Naming> Crew<M> for TeamCrew<'a, R, M, J> {
         ensures serves { IsWorkOn self.new.work scenario.now net.now }
         ensures done { Maps M.plain scenario.now net.now seat jobs.items result }
         ensures handed { IfOk result (λ _. (ps : List PlainJob) → AreJobs M.plain jobs.items ps
-            → (self.new.work ≡ self.old.work) × (self.new.team ≡ self.old.team) × (self.new.few ≡ self.old.few)) }
-        ensures kept { (self.new.work ≡ self.old.work) × (self.new.team ≡ self.old.team) × (self.new.few ≡ self.old.few) }
+            → (self.new.work ≡ self.old.work) × (self.new.team.room ≡ self.old.team.room) × (self.new.few ≡ self.old.few)) }
+        ensures kept { (self.new.work ≡ self.old.work) × (self.new.team.room ≡ self.old.team.room) × (self.new.few ≡ self.old.few) }
     {
         let advanced = if self.rows < self.few {
             advance_each(alloc, scenario, net, jobs)
@@ -220,7 +223,7 @@ impl<'a, R: Wait, M: Participant, J: Naming> Crew<M> for TeamCrew<'a, R, M, J> {
         ensures serves { IsWorkOn self.new.work scenario.now net.now }
         ensures heard { TellsHeard M.plain (traffic_of scenario.now net.now)
             (packets_in sent.items) groups.items result }
-        ensures handed { (self.new.work ≡ self.old.work) × (self.new.team ≡ self.old.team) × (self.new.few ≡ self.old.few) }
+        ensures handed { (self.new.work ≡ self.old.work) × (self.new.team.room ≡ self.old.team.room) × (self.new.few ≡ self.old.few) }
     {
         hear_in_team(&self.rt, alloc, &mut self.team, self.work, sent, groups)
     }
