@@ -197,6 +197,11 @@ class Edits(unittest.TestCase):
     def test_a_change_outside_of_each_function_has_none(self) -> None:
         self.assertEqual(self.functions(edits.Edit("longer", [edits.Change("src/pair.rt", "/// Half", "/// Nearly half")])), [])
 
+    def test_a_constant_changes_each_function_that_names_it(self) -> None:
+        texts = {"src/pair.rt": SOURCE.replace("number / 2\n", "number / TWO\n"), "src/two.rt": "pub(crate) const TWO: u64 = 2;\n"}
+        found = edits.Edit("three", [edits.Change("src/two.rt", "= 2;", "= 3;")]).functions(texts)
+        self.assertEqual([(it.file, it.name) for it in found], [("src/pair.rt", "half")])
+
     def test_an_edit_is_applied_where_its_old_text_stands_once(self) -> None:
         texts = {"src/pair.rt": SOURCE}
         self.assertIsNone(edits.Edit("first", [edits.Change("src/pair.rt", "first", "second")]).applied(texts))

@@ -9,6 +9,7 @@ from collections.abc import Iterator, Mapping
 from typing import NamedTuple
 
 FUNCTION = re.compile(r"( *)(?:pub(?:\([\w: ]+\))? )?(?:(?:const|final|unsafe) )*fn (\w+)")
+CONSTANT = re.compile(r"(?:pub(?:\([\w: ]+\))? )?const (\w+):")
 IMPL = re.compile(r"impl\b(.*)")
 ARGUMENTS = re.compile(r"<[^<>]*>")
 
@@ -75,9 +76,8 @@ class Edit(NamedTuple):
         return made
 
     def functions(self, texts: Mapping[str, str]) -> list[Function]:
-        """The functions that the edit changes, or none where a change stands outside of each function."""
-        found = [function_round(change, texts.get(change.file, "")) for change in self.changes]
-        return [it for it in dict.fromkeys(found) if it] if all(found) else []
+        """The functions that the edit changes: those round a change, and those that name a constant which a change alters."""
+        return [*dict.fromkeys(it for change in self.changes for it in functions_changed(change, texts))]
 
 
 def type_of(head: str) -> str:
@@ -107,10 +107,34 @@ def functions_in(file: str, text: str) -> Iterator[Function]:
             yield Function(file, owner if is_method else "", found[2], at + 1, last, is_method and (is_of_trait or not owner))
 
 
+def line_of(change: Change, text: str) -> int:
+    """The number of the line in which the old text stands, from 1."""
+    return text[: text.find(change.old)].count("\n") + 1
+
+
 def function_round(change: Change, text: str) -> Function | None:
     """The innermost function in whose lines the old text stands, or None."""
-    line = text[: text.find(change.old)].count("\n") + 1
+    line = line_of(change, text)
     return next((it for it in reversed([*functions_in(change.file, text)]) if it.first <= line <= it.last), None)
+
+
+def functions_that_name(word: str, texts: Mapping[str, str]) -> Iterator[Function]:
+    """The functions in whose lines a word stands."""
+    for file, text in texts.items():
+        lines = text.split("\n")
+        for it in functions_in(file, text):
+            if re.search(rf"\b{word}\b", "\n".join(lines[it.first - 1 : it.last])):
+                yield it
+
+
+def functions_changed(change: Change, texts: Mapping[str, str]) -> list[Function]:
+    """The function round a change, or those that name the constant in whose line it stands, or none."""
+    text = texts.get(change.file, "")
+    around = function_round(change, text)
+    constant = CONSTANT.match(text.split("\n")[line_of(change, text) - 1])
+    if around or not constant:
+        return [around] if around else []
+    return [*functions_that_name(constant[1], texts)]
 
 
 def read(path: pathlib.Path) -> Edit:
