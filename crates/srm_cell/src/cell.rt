@@ -57,7 +57,7 @@ pub struct Cell<M = Box<dyn Member>> {
 }
 
 impl<M: Participant> Cell<M> {
-    /// A member's cell with this script. The member's next packet has count `sent`. It does not allocate.
+    /// A member's cell with this script. The member's next packet has count `sent`. As it is written, it asks for no memory.
     pub fn new(alloc: Global, member: M, script: Vec<Mark>, sent: u64) -> Cell<M>
         requires sent { sent ≤ most_sent }
         requires script { Rises mark_cmp script.items }

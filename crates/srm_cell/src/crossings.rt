@@ -15,8 +15,8 @@ use srm_scenario::scenario::Scenario;
 use std::alloc::{AllocError, Global};
 use std::marker::Model;
 
-/// Five numbers for each link, of which none takes memory as long as all are 0. Contracts see them as one list, the five of link 0
-/// first.
+/// Five numbers for each link. As it is written, they take memory from the first packet on that is counted. Contracts see them as
+/// one list, the five of link 0 first.
 #[derive(Drop)]
 pub struct Crossings {
     links: u16,

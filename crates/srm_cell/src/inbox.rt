@@ -41,7 +41,7 @@ impl Model for Inbox {
 }
 
 impl Inbox {
-    /// The empty inbox. It does not allocate.
+    /// The empty inbox. As it is written, it asks for no memory.
     pub fn new(alloc: Global) -> Self
         ensures { result ≡ [] }
     {

@@ -28,7 +28,7 @@ impl Model for Strays {
 }
 
 impl Strays {
-    /// No packet. It does not allocate.
+    /// No packet. As it is written, it asks for no memory.
     pub fn new(alloc: Global) -> Self
         ensures { result ≡ [] }
     {

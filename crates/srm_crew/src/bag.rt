@@ -85,8 +85,8 @@ impl<T> Bag<T> {
         Ok(())
     }
 
-    /// The oldest item left, whose index goes to the end of the pass's list. At `None` the queue was empty at one moment of the
-    /// call: a whole pass has then taken every item. It does not allocate.
+    /// An item that was put, as it is written the oldest left. Its index is above all in the pass's list, and goes to its end. At
+    /// `None` a whole pass has taken every item; as it is written, the queue was empty at one moment of the call. It does not allocate.
     pub fn take<R: Wait>(&self, rt: &R, pass: &mut Pass<T>) -> Option<T>
         requires { pass.old.bag ≡ self.now.name }
         ensures bag { pass.new.bag ≡ pass.old.bag }

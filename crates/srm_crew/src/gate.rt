@@ -4,10 +4,10 @@ ghost use Rattle.srm_crew.specs.Passes.{IsLastTaken};
 use crate::pass::Pass;
 use std::sync::Wait;
 
-/// What a worker passes with each item, after it took the item and before it works on it.
+/// What a worker passes with each item that it took: as it is written, before it works on the item.
 pub trait Gate {
-    /// Called with the index of the item, which is a job's place among the jobs of its window, and with the pass that took it,
-    /// last of all.
+    /// Called with the index of the item that the pass took last of all. As a crew puts a window's jobs, that is the job's place
+    /// among them.
     fn enter<T, R: Wait>(&self, rt: &R, place: usize, pass: &Pass<T>)
         requires { IsLastTaken place pass.now };
 }

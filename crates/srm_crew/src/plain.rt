@@ -35,15 +35,19 @@ impl PlainCrew {
 }
 
 impl<M: Participant> Crew<M> for PlainCrew {
+    ghost use Rattle.std.specs.Prelude.{refl};
+    ghost use Rattle.std.proofs.Common.{◌∙◌};
+
     ghost ready = { λ _. Unit {0} };
 
     ghost serves = { λ _ _ _. Unit {0} };
 
-    ghost handed = { λ _ _ _. Unit {0} };
+    // It keeps no record of its calls, and one that it answers leaves it as it was.
+    ghost handed = { λ a _ b. b ≡ a };
 
-    ghost handed_none = { λ c. tt };
+    ghost handed_none = { λ c. refl };
 
-    ghost handed_more = { λ a b c xs ys p q. tt };
+    ghost handed_more = { λ a b c xs ys p q. q ∙ p };
 
     fn map(
         &mut self,
@@ -65,7 +69,7 @@ impl<M: Participant> Crew<M> for PlainCrew {
         ensures serves { Unit {0} }
         ensures done { Maps M.plain scenario.now net.now seat jobs.items result }
         ensures handed { IfOk result (λ _. (ps : List PlainJob) → AreJobs M.plain jobs.items ps
-            → Unit {0}) }
+            → self.new ≡ self.old) }
     {
         let advanced = advance_each(alloc, scenario, net, jobs);
         settle(ledger, seat, advanced)
@@ -89,7 +93,7 @@ impl<M: Participant> Crew<M> for PlainCrew {
         ensures serves { Unit {0} }
         ensures heard { TellsHeard M.plain (traffic_of scenario.now net.now)
             (packets_in sent.items) groups.items result }
-        ensures handed { Unit {0} }
+        ensures handed { self.new ≡ self.old }
     {
         hear_groups(alloc, scenario, net, sent.as_slice(), groups)
     }

@@ -92,15 +92,19 @@ impl<R: Threads + Sync> PoolCrew<R> {
 }
 
 impl<R: Threads + Sync> Crew<Box<dyn Member>> for PoolCrew<R> {
+    ghost use Rattle.std.specs.Prelude.{refl};
+    ghost use Rattle.std.proofs.Common.{◌∙◌};
+
     ghost ready = { λ _. IsSync R.row };
 
     ghost serves = { λ _ _ _. Unit {0} };
 
-    ghost handed = { λ _ _ _. Unit {0} };
+    // It keeps no record of its calls, and one that it answers leaves it as it was.
+    ghost handed = { λ a _ b. b ≡ a };
 
-    ghost handed_none = { λ c. tt };
+    ghost handed_none = { λ c. refl };
 
-    ghost handed_more = { λ a b c xs ys p q. tt };
+    ghost handed_more = { λ a b c xs ys p q. q ∙ p };
 
     fn map(
         &mut self,
@@ -122,7 +126,7 @@ impl<R: Threads + Sync> Crew<Box<dyn Member>> for PoolCrew<R> {
         ensures serves { Unit {0} }
         ensures done { Maps (λ b. (⟦<dyn Member as Member>⟧ b.vtable).plain b.value) scenario.now net.now seat jobs.items result }
         ensures handed { IfOk result (λ _. (ps : List PlainJob) → AreJobs (λ b. (⟦<dyn Member as Member>⟧ b.vtable).plain b.value) jobs.items ps
-            → Unit {0}) }
+            → self.new ≡ self.old) }
     {
         let advanced = advance_in_pool(&self.rt, alloc, scenario, net, jobs);
         settle(ledger, seat, advanced)
@@ -146,7 +150,7 @@ impl<R: Threads + Sync> Crew<Box<dyn Member>> for PoolCrew<R> {
         ensures serves { Unit {0} }
         ensures heard { TellsHeard (λ b. (⟦<dyn Member as Member>⟧ b.vtable).plain b.value)
             (traffic_of scenario.now net.now) (packets_in sent.items) groups.items result }
-        ensures handed { Unit {0} }
+        ensures handed { self.new ≡ self.old }
     {
         hear_groups(alloc, scenario, net, sent.as_slice(), groups)
     }

@@ -35,8 +35,8 @@ pub struct Note {
     pub cells: usize,
 }
 
-/// A plain crew that notes each call: a caller that is to hand a crew certain jobs is tried with it, and the calls that it noted
-/// are compared with those that were due. Its contract says that it notes each call exactly, so the notes can be relied on.
+/// A plain crew that notes its calls: a caller that is to hand a crew certain jobs is tried with it, and the calls that it noted
+/// are compared with those that were due. Its contract says that it notes exactly the calls, as long as each is answered.
 #[derive(Drop)]
 pub struct Recording {
     inner: PlainCrew,
