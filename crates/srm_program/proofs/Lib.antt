@@ -4,6 +4,6 @@ pub mod ListedTexts
 pub mod Openings
 pub mod OrderlyRows
 pub mod Refusals
-pub mod StepRefusals
+pub mod RunRefusals
 pub mod TableTexts
 pub mod Texts

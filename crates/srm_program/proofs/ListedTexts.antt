@@ -1,5 +1,5 @@
 -- What an outlet took of a table of rows that was written through a sink.
-use Rattle.std.proofs.Common.{◌≡◌, ◌∙◌, ℕ, List, [], ◌++◌, ◌+◌, ◌-◌, ◌^◌, min, length, Option, Result, Ok, Err, refl, sym, ap, subst}
+use Rattle.std.proofs.Common.{◌≡◌, ◌∙◌, ℕ, List, [], ◌++◌, ◌+◌, ◌-◌, ◌^◌, ◌≤◌, min, length, Option, Result, Ok, Err, refl, sym, ap, subst}
 use Rattle.std.proofs.Common.{append-nil}
 use Rattle.std.specs.Io.KnownBytes.{Appends, Keeps}
 use Rattle.srm_net.specs.Network.{Network}
@@ -17,13 +17,13 @@ use Rattle.srm_report.specs.Listings.{Form, text_in}
 use Rattle.srm_report.specs.Timers.{timers_form, timers_table}
 use Rattle.srm_report.specs.Trace.{trace_form, trace_of_rows}
 use Rattle.srm_report.specs.Standings.{text_next, IsText, GrewBy}
-use Rattle.srm_report.specs.ListingSinks.{stage_at, stage_of, outlet_under, gathered_by, written_by, Wrote}
-use Rattle.srm_report.specs.ListingSinks.{PutsAll, PutsFront, PutsRows, PutsPart}
+use Rattle.srm_report.specs.ListingSinks.{stage_at, stage_of, outlet_under, gathered_by, gathering_room, written_by, Wrote}
+use Rattle.srm_report.specs.ListingSinks.{AreOverOne, PutsAll, PutsFront, PutsRows, PutsPart}
 use Rattle.srm_report.specs.SinkLaws.{all_more, front_more}
 use Rattle.srm_program.specs.declared.fault.LabFault.{LabFault}
 use Rattle.srm_program.specs.declared.fault.LabFault.TheVariants.{BadCut, BadWidth, ShareFull, NoMemory, CountFull, WriteFault}
-use Rattle.srm_program.specs.Reports.{TakesFront, TellsListing, TellsReport}
-use Rattle.srm_program.specs.Runs.{StandsAfter, HandsRows, TellsRefusedFor, TellsRunFor}
+use Rattle.srm_program.specs.Reports.{most_gathered, TakesAllBut, TakesFront, TellsListing, TellsReport}
+use Rattle.srm_program.specs.Runs.{MayBreakOff, StandsAfter, HandsRows, TellsRefusedFor, TellsRunFor}
 use Rattle.srm_options.specs.declared.options.Options.{Options}
 use Rattle.srm_options.specs.declared.options.Show.TheVariants.{Trace, Timers}
 use Rattle.srm_program.proofs.Texts.{keeps-itself}
@@ -51,16 +51,20 @@ told standing.Stopped n m e = cc
 
 -- the trace, and the table of timers, are such texts
 pub trace_shown : {T : Type 0} (p : PlainScenario) (net : Network) (seed : ℕ) (o : Options) (old new : Option (List ℕ))
-    (r : Result T LabFault) → o.show ≡ Trace → TellsListing (text_in trace_form) p net seed old new r → TellsRefusedFor p net seed o r
+    (r : Result T LabFault) → o.show ≡ Trace
+    → TellsListing (text_in trace_form) most_gathered (MayBreakOff p net seed o) p net seed old new r → TellsRefusedFor p net seed o r
     → TellsRunFor p net seed o old new r
 unfolding trace_of_rows
-trace_shown p net seed o old new r e h k = (subst (λ s. TellsReport p net seed s old new r) (sym e) h, k)
+trace_shown p net seed o old new r e h k =
+    (subst (λ s. TellsReport (MayBreakOff p net seed o) p net seed s old new r) (sym e) h, k)
 
 pub timers_shown : {T : Type 0} (p : PlainScenario) (net : Network) (seed : ℕ) (o : Options) (old new : Option (List ℕ))
-    (r : Result T LabFault) → o.show ≡ Timers → TellsListing (text_in timers_form) p net seed old new r
-    → TellsRefusedFor p net seed o r → TellsRunFor p net seed o old new r
+    (r : Result T LabFault) → o.show ≡ Timers
+    → TellsListing (text_in timers_form) most_gathered (MayBreakOff p net seed o) p net seed old new r → TellsRefusedFor p net seed o r
+    → TellsRunFor p net seed o old new r
 unfolding timers_table
-timers_shown p net seed o old new r e h k = (subst (λ s. TellsReport p net seed s old new r) (sym e) h, k)
+timers_shown p net seed o old new r e h k =
+    (subst (λ s. TellsReport (MayBreakOff p net seed o) p net seed s old new r) (sym e) h, k)
 
 -- ---- what the outlet took, of a sink that was fresh and had nothing gathered
 
@@ -86,7 +90,8 @@ module _ {L O : Type 0} (taken : O → Option (List ℕ)) (form : Form) (a : Lis
       ∙ ap (λ (l : List ℕ). l ++ (put.0 ++ [])) none ∙ append-nil put.0 ∙ all_text b rows at put in
       subst (λ (l : List ℕ). Appends (taken (outlet_under a)) (taken (outlet_under c)) l) out all.2.bytes
 
-  module _ (p : PlainScenario) (net : Network) (seed : ℕ) (none_written : written_by a ≡ 0) (old : O) (is : outlet_under a ≡ old) where
+  module _ (breaks : LabFault → World → Type 0) (p : PlainScenario) (net : Network) (seed : ℕ) (none_written : written_by a ≡ 0) (old : O)
+      (is : outlet_under a ≡ old) where
     -- a front of it
     front_of : (c : ListingSink L O) (w : World) (text : List ℕ) → IsReached (setting_of p net seed) w → text ≡ text_in form w.trace
         → (f : PutsFront taken a text c) → TakesFront (text_in form) p net seed (taken (outlet_under a)) (taken (outlet_under c)) f.0
@@ -106,31 +111,42 @@ module _ {L O : Type 0} (taken : O → Option (List ℕ)) (form : Form) (a : Lis
         let f : PutsFront taken a (text_in form h.0.trace) c = subst (λ (l : List ℕ). PutsFront taken a l c) (first_text h.0.trace) h.2 in
         (f.0, front_of c h.0 (text_in form h.0.trace) h.1 refl f, f.3)
 
+    -- all but what is gathered
+    broken_off : (c : ListingSink L O) (holds : World → Type 0) → AreOverOne a c → stage_of c ≡ stage.Live
+        → streams.TakesUpTo (PutsRows taken form) (PutsPart taken form) (setting_of p net seed) holds a c
+        → TakesAllBut (text_in form) (gathering_room a) holds p net seed (taken (outlet_under a)) (taken (outlet_under c))
+    broken_off c holds one at h =
+        let put = h.2 in
+        let whole : text_in form h.0.trace ≡ put.2.0 ++ gathered_by c =
+        sym (all_text c h.0.trace at put) ∙ sym (ap (λ (l : List ℕ). l ++ put.0) none) ∙ put.2.1 in
+        (h.0, h.1, h.3, (put.2.0, gathered_by c, whole, subst (λ n. length (gathered_by c) ≤ n) one.1 c.within, put.2.2.bytes))
+
     -- of the outlet itself, before and after
     pub seen : {T : Type 0} (c : ListingSink L O) (end : O) (r : Result T LabFault) → outlet_under c ≡ end
-        → TellsListing (text_in form) p net seed (taken (outlet_under a)) (taken (outlet_under c)) r
-        → TellsListing (text_in form) p net seed (taken old) (taken end) r
+        → TellsListing (text_in form) (gathering_room a) breaks p net seed (taken (outlet_under a)) (taken (outlet_under c)) r
+        → TellsListing (text_in form) (gathering_room a) breaks p net seed (taken old) (taken end) r
     seen c end r same h =
-        subst (λ (x : O). TellsListing (text_in form) p net seed (taken x) (taken end) r) is
-        (subst (λ (x : O). TellsListing (text_in form) p net seed (taken (outlet_under a)) (taken x) r) same h)
+        subst (λ (x : O). TellsListing (text_in form) (gathering_room a) breaks p net seed (taken x) (taken end) r) is
+        (subst (λ (x : O). TellsListing (text_in form) (gathering_room a) breaks p net seed (taken (outlet_under a)) (taken x) r) same h)
 
     -- after a refusal of the run
     pub refused_rows : (T U : Type 0) (c : ListingSink L O) (end : O) (f : LabFault) → outlet_under c ≡ end
-        → HandsRows (PutsRows taken form) (PutsPart taken form) (setting_of p net seed) a (Err f) c
+        → AreOverOne a c → HandsRows (PutsRows taken form) (PutsPart taken form) breaks (setting_of p net seed) a (Err f) c
         → StandsAfter {T = T} (Err f) (stage_of c)
-        → TellsListing {T = U} (text_in form) p net seed (taken old) (taken end) (Err f)
-    refused_rows T U c end f same h at = seen {T = U} c end (Err f) same (by f h at)
+        → TellsListing {T = U} (text_in form) (gathering_room a) breaks p net seed (taken old) (taken end) (Err f)
+    refused_rows T U c end f same one h at = seen {T = U} c end (Err f) same (by f h at)
       where
-        by : (f : LabFault) → HandsRows (PutsRows taken form) (PutsPart taken form) (setting_of p net seed) a (Err f) c
+        by : (f : LabFault) → HandsRows (PutsRows taken form) (PutsPart taken form) breaks (setting_of p net seed) a (Err f) c
             → StandsAfter {T = T} (Err f) (stage_of c)
-            → TellsListing {T = U} (text_in form) p net seed (taken (outlet_under a)) (taken (outlet_under c)) (Err f)
+            → TellsListing {T = U} (text_in form) (gathering_room a) breaks p net seed (taken (outlet_under a)) (taken (outlet_under c))
+            (Err f)
         by BadCut h at = subst (λ (s : ListingSink L O). Keeps (taken (outlet_under a)) (taken (outlet_under s))) (sym h)
             (keeps-itself (taken (outlet_under a)))
         by BadWidth h at = subst (λ (s : ListingSink L O). Keeps (taken (outlet_under a)) (taken (outlet_under s))) (sym h)
             (keeps-itself (taken (outlet_under a)))
-        by ShareFull h at = let f = fronted c h in (f.0, f.1)
+        by ShareFull h at = broken_off c (breaks ShareFull) one at h
         by NoMemory h at = let f = fronted c h in (f.0, f.1)
-        by CountFull h at = let f = fronted c h.1 in (h.0, (f.0, f.1))
+        by CountFull h at = (h.0, broken_off c (breaks CountFull) one at h.1)
         by (WriteFault n) h at = let f = fronted c h in (f.0, f.1, counted c n f.0 at f.2)
 
     -- where the last bytes were not taken
@@ -138,7 +154,7 @@ module _ {L O : Type 0} (taken : O → Option (List ℕ)) (form : Form) (a : Lis
         → IsReached (setting_of p net seed) w → rows ≡ w.trace → stage_of b ≡ stage.Live → PutsRows taken form a rows b
         → PutsFront taken b [] c
         → stage_of c ≡ stage.Refused (sink.Stopped n)
-        → TellsListing {T = U} (text_in form) p net seed (taken old) (taken end) (Err (WriteFault n))
+        → TellsListing {T = U} (text_in form) (gathering_room a) breaks p net seed (taken old) (taken end) (Err (WriteFault n))
     unflushed_rows U b c end w rows n same reached all at put rest stopped =
         let f = front_more taken a b c put.0 [] put.2 rest in
         let whole : put.0 ++ [] ≡ text_in form w.trace = append-nil put.0 ∙ all_text b rows at put ∙ ap (text_in form) all in
@@ -148,7 +164,7 @@ module _ {L O : Type 0} (taken : O → Option (List ℕ)) (form : Form) (a : Lis
     -- after the whole run
     pub flushed_rows : (U : Type 0) (v : U) (b c : ListingSink L O) (end : O) (w : World) (rows : List Row) → outlet_under c ≡ end
         → IsLast (setting_of p net seed) w → rows ≡ w.trace → stage_of b ≡ stage.Live → PutsRows taken form a rows b → gathered_by c ≡ []
-        → PutsAll taken b [] c → TellsListing {T = U} (text_in form) p net seed (taken old) (taken end) (Ok v)
+        → PutsAll taken b [] c → TellsListing {T = U} (text_in form) (gathering_room a) breaks p net seed (taken old) (taken end) (Ok v)
     flushed_rows U v b c end w rows same last all at put empty rest =
         let r : Result U LabFault = Ok v in
         seen c end r same (

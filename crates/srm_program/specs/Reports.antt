@@ -1,5 +1,5 @@
 -- The report of a run, and what an outlet takes of it.
-use Rattle.std.specs.Prelude.{◌≡◌, ℕ, ◌+◌, ◌<◌, List, ◌++◌, length, take, Option, Result, Ok, Err}
+use Rattle.std.specs.Prelude.{◌≡◌, ℕ, ◌+◌, ◌<◌, ◌≤◌, List, ◌++◌, length, take, Option, Result, Ok, Err}
 use Rattle.std.specs.Io.KnownBytes.{Appends, Keeps}
 use Rattle.srm_net.specs.Network.{Network}
 use Rattle.srm_scenario.specs.Plain.{PlainScenario}
@@ -62,6 +62,12 @@ TellsTable p net seed show old new (Err (WriteFault written)) =
 TellsTable p net seed show old new (Err CountFull) = RunMeetsFull (setting_of p net seed) × Keeps old new
 TellsTable p net seed show old new (Err f) = Keeps old new
 
+-- ---- tables that list rows
+
+-- up to how many bytes of such a table are gathered before they are written
+abbrev pub most_gathered : ℕ
+most_gathered = 8192
+
 -- an outlet took these bytes, a front of the table of a scenario's sequential run which lists its rows in this text: of
 -- its rows up to some event
 abbrev pub TakesFront :
@@ -70,28 +76,42 @@ TakesFront text p net seed old new out =
     (w : World) × IsReached (setting_of p net seed) w
     × ((rest : List ℕ) × (text w.trace ≡ out ++ rest)) × Appends old new out
 
+-- an outlet took such a table of the rows up to a world of which this holds, but for its last bytes, no more than this
+-- number
+abbrev pub TakesAllBut : (List Row → List ℕ) → ℕ → (World → Type 0) → PlainScenario → Network → ℕ
+    → Option (List ℕ) → Option (List ℕ) → Type 0
+TakesAllBut text most holds p net seed old new =
+    (w : World) × IsReached (setting_of p net seed) w × holds w
+    × ((out rest : List ℕ) × (text w.trace ≡ out ++ rest) × (length rest ≤ most) × Appends old new out)
+
 -- what an outlet took of a table of a scenario's sequential run which lists its rows in this text: all of it, or a
 -- front of it, of as many bytes as a fault of the outlet tells, up to 2^64 - 1; and nothing where the cut or the width
--- was refused. CountFull says that the run meets a step for which the packet count is used up
-abbrev pub TellsListing : {T : Type 0} → (List Row → List ℕ) → PlainScenario → Network → ℕ
-    → Option (List ℕ) → Option (List ℕ) → Result T LabFault → Type 0
-TellsListing text p net seed old new (Ok v) =
+-- was refused. Where the run broke off for what is counted, it took all up to a world in which that may be, but for the
+-- last bytes; and CountFull says that the run meets a step for which the packet count is used up
+abbrev pub TellsListing : {T : Type 0} → (List Row → List ℕ) → ℕ → (LabFault → World → Type 0)
+    → PlainScenario → Network → ℕ → Option (List ℕ) → Option (List ℕ) → Result T LabFault → Type 0
+TellsListing text most breaks p net seed old new (Ok v) =
     (w : World) × EndsIn p net seed w × Appends old new (text w.trace)
-TellsListing text p net seed old new (Err (WriteFault written)) =
+TellsListing text most breaks p net seed old new (Err (WriteFault written)) =
     (out : List ℕ) × TakesFront text p net seed old new out × GrewBy 0 (length out) written
-TellsListing text p net seed old new (Err CountFull) =
-    RunMeetsFull (setting_of p net seed) × ((out : List ℕ) × TakesFront text p net seed old new out)
-TellsListing text p net seed old new (Err ShareFull) = (out : List ℕ) × TakesFront text p net seed old new out
-TellsListing text p net seed old new (Err NoMemory) = (out : List ℕ) × TakesFront text p net seed old new out
-TellsListing text p net seed old new (Err BadCut) = Keeps old new
-TellsListing text p net seed old new (Err BadWidth) = Keeps old new
+TellsListing text most breaks p net seed old new (Err CountFull) =
+    RunMeetsFull (setting_of p net seed) × TakesAllBut text most (breaks CountFull) p net seed old new
+TellsListing text most breaks p net seed old new (Err ShareFull) =
+    TakesAllBut text most (breaks ShareFull) p net seed old new
+TellsListing text most breaks p net seed old new (Err NoMemory) =
+    (out : List ℕ) × TakesFront text p net seed old new out
+TellsListing text most breaks p net seed old new (Err BadCut) = Keeps old new
+TellsListing text most breaks p net seed old new (Err BadWidth) = Keeps old new
 
 -- what an outlet took of the report of a scenario's sequential run: of the trace and the table of timers after a
--- refusal a front, and of another table nothing but where the outlet failed
-abbrev pub TellsReport : {T : Type 0} → PlainScenario → Network → ℕ → Show
+-- refusal a front, up to a world of which this holds where the run broke off for what is counted; and of another table
+-- nothing but where the outlet failed
+abbrev pub TellsReport : {T : Type 0} → (LabFault → World → Type 0) → PlainScenario → Network → ℕ → Show
     → Option (List ℕ) → Option (List ℕ) → Result T LabFault → Type 0
-TellsReport p net seed Trace old new r = TellsListing trace_of_rows p net seed old new r
-TellsReport p net seed Members old new r = TellsTable p net seed Members old new r
-TellsReport p net seed Losses old new r = TellsTable p net seed Losses old new r
-TellsReport p net seed Links old new r = TellsTable p net seed Links old new r
-TellsReport p net seed Timers old new r = TellsListing timers_table p net seed old new r
+TellsReport breaks p net seed Trace old new r =
+    TellsListing trace_of_rows most_gathered breaks p net seed old new r
+TellsReport breaks p net seed Members old new r = TellsTable p net seed Members old new r
+TellsReport breaks p net seed Losses old new r = TellsTable p net seed Losses old new r
+TellsReport breaks p net seed Links old new r = TellsTable p net seed Links old new r
+TellsReport breaks p net seed Timers old new r =
+    TellsListing timers_table most_gathered breaks p net seed old new r

@@ -12,19 +12,22 @@ use Rattle.srm_engine.specs.declared.stream_fault.StreamFault.TheVariants as str
 use Rattle.srm_interfaces.specs.declared.sink.SinkFault.TheVariants.{Stopped}
 use Rattle.srm_interfaces.specs.declared.sink.Stage.{Stage}
 use Rattle.srm_interfaces.specs.declared.sink.Stage.TheVariants.{Live, Refused}
-use Rattle.srm_engine.specs.Streams.{TakesTraceFront}
+use Rattle.srm_interfaces.specs.Sinks.{most_rows}
+use Rattle.srm_engine.specs.declared.window_fault.WindowFault.TheVariants as window
+use Rattle.srm_engine.specs.Streams.{TakesTraceFront, TakesUpTo, MeetsFullWithin}
 use Rattle.srm_model.specs.World.{World, IsOutcome, RunMeetsFull}
 use Rattle.srm_model.specs.WindowChains.{AreWindows}
 use Rattle.srm_model.specs.WindowRuns.{jobs_of}
 use Rattle.srm_engine.specs.Outcomes.{HoldOpeningRecords}
-use Rattle.srm_engine.specs.Windowed.{IsCut, MayBeWide, PassesShare, rule_of}
+use Rattle.srm_engine.specs.Windowed.{IsCut, MayBeWide, MayCome, PassesShare, rule_of}
 use Rattle.srm_report.specs.Listings.{Form, text_in}
 use Rattle.srm_program.specs.declared.fault.LabFault.{LabFault}
 use Rattle.srm_program.specs.declared.fault.LabFault.TheVariants.{BadCut, BadWidth, ShareFull, NoMemory, CountFull}
 use Rattle.srm_program.specs.declared.fault.LabFault.TheVariants.{WriteFault}
-use Rattle.srm_options.specs.declared.options.Engine.TheVariants.{Window}
+use Rattle.srm_options.specs.declared.options.Engine.{Engine}
+use Rattle.srm_options.specs.declared.options.Engine.TheVariants.{Step, Window}
 use Rattle.srm_options.specs.declared.options.Options.{Options}
-use Rattle.srm_program.specs.Reports.{TellsListing, TellsReport, failures_after_run}
+use Rattle.srm_program.specs.Reports.{most_gathered, TellsListing, TellsReport, failures_after_run}
 pub use Rattle.srm_options.specs.Asked.{MayShareBag}
 
 -- the run may be cut into windows and jobs as is asked for
@@ -48,11 +51,24 @@ TellsRefusedFor p net seed o (Err ShareFull) =
     (o.engine ≡ Window) × MayBeCut net o × PassesShareAtWindow (setting_of p net seed) net o
 TellsRefusedFor p net seed o r = o.engine ≡ Window → MayBeCut net o
 
+-- in this world of a run this engine may break off for what is counted: one event after the other where the packet
+-- count is used up for a step fewer than 32 rows later; and in windows where one begins that may be refused so
+abbrev pub MayBreakOffBy : Engine → Setting → Network → Options → LabFault → World → Type 0
+MayBreakOffBy Step s net o CountFull w = MeetsFullWithin most_rows s w
+MayBreakOffBy Window s net o CountFull w = MayCome s (rule_of s net o.width) o.cut w window.CountFull
+MayBreakOffBy Window s net o ShareFull w = MayCome s (rule_of s net o.width) o.cut w window.ShareFull
+MayBreakOffBy engine s net o f w = ⊥
+
+-- the same, of the run of a scenario on its network with random words of this seed
+abbrev pub MayBreakOff : PlainScenario → Network → ℕ → Options → LabFault → World → Type 0
+MayBreakOff p net seed o f w = MayBreakOffBy o.engine (setting_of p net seed) net o f w
+
 -- what comes of a run: the report of the sequential run, for the seed and the table alone, whichever engine, crew,
 -- number of workers, cut and width are asked for; or a refusal, which the engine may bring
 abbrev pub TellsRunFor : {T : Type 0} → PlainScenario → Network → ℕ → Options
     → Option (List ℕ) → Option (List ℕ) → Result T LabFault → Type 0
-TellsRunFor p net seed o old new r = TellsReport p net seed o.show old new r × TellsRefusedFor p net seed o r
+TellsRunFor p net seed o old new r =
+    TellsReport (MayBreakOff p net seed o) p net seed o.show old new r × TellsRefusedFor p net seed o r
 
 -- ---- rows that are handed to a sink
 
@@ -65,28 +81,33 @@ fault_of_stream (stream.Run fault.NoMemory) = NoMemory
 fault_of_stream (stream.Run fault.CountFull) = CountFull
 fault_of_stream (stream.Stopped n) = WriteFault n
 
--- a sink stands as this answer says: it took all, or its device failed and it told this number
+-- a sink stands as this answer says: it took all that it was handed, also where the run broke off for what is counted;
+-- or its device failed and it told this number
 abbrev pub StandsAfter : {T : Type 0} → Result T LabFault → Stage → Type 0
 StandsAfter (Ok v) at = at ≡ Live
+StandsAfter (Err CountFull) at = at ≡ Live
+StandsAfter (Err ShareFull) at = at ≡ Live
 StandsAfter (Err (WriteFault written)) at = at ≡ Refused (Stopped written)
 StandsAfter (Err f) at = Unit {0}
 
 module _ {S : Type 0} (took part : S → List Row → S → Type 0) where
   -- what an engine tells that hands its rows to a sink: the sink took the trace of the sequential run, and these are
-  -- its totals; or it took no more than a front of the trace, and nothing where the run was refused before any work
-  abbrev pub HandsRows : Setting → S → Result (List ℕ) LabFault → S → Type 0
-  HandsRows s old (Ok totals) new =
+  -- its totals; or the rows up to a world in which the engine may break off for what is counted; or else no more than a
+  -- front of the trace, and nothing where the run was refused before any work
+  abbrev pub HandsRows : (LabFault → World → Type 0) → Setting → S → Result (List ℕ) LabFault → S → Type 0
+  HandsRows breaks s old (Ok totals) new =
       (rows : List Row) × (exits : List Exit) × IsOutcome s rows exits totals × took old rows new
-  HandsRows s old (Err CountFull) new = RunMeetsFull s × TakesTraceFront took part s old new
-  HandsRows s old (Err BadCut) new = new ≡ old
-  HandsRows s old (Err BadWidth) new = new ≡ old
-  HandsRows s old (Err ShareFull) new = TakesTraceFront took part s old new
-  HandsRows s old (Err NoMemory) new = TakesTraceFront took part s old new
-  HandsRows s old (Err (WriteFault written)) new = TakesTraceFront took part s old new
+  HandsRows breaks s old (Err CountFull) new = RunMeetsFull s × TakesUpTo took part s (breaks CountFull) old new
+  HandsRows breaks s old (Err ShareFull) new = TakesUpTo took part s (breaks ShareFull) old new
+  HandsRows breaks s old (Err BadCut) new = new ≡ old
+  HandsRows breaks s old (Err BadWidth) new = new ≡ old
+  HandsRows breaks s old (Err NoMemory) new = TakesTraceFront took part s old new
+  HandsRows breaks s old (Err (WriteFault written)) new = TakesTraceFront took part s old new
 
   -- what the engine that is asked for hands on, and refuses
   abbrev pub TellsRows : PlainScenario → Network → ℕ → Options → S → Result (List ℕ) LabFault → S → Type 0
-  TellsRows p net seed o old r new = HandsRows (setting_of p net seed) old r new × TellsRefusedFor p net seed o r
+  TellsRows p net seed o old r new =
+      HandsRows (MayBreakOff p net seed o) (setting_of p net seed) old r new × TellsRefusedFor p net seed o r
 
 -- members with these records may be run in windows
 abbrev pub MayRunInWindows : PlainScenario → Network → Options → List Record → Type 0
@@ -115,4 +136,5 @@ module _ {O : Type 0} (form : Form) (failures : O → ℕ) (taken : O → Option
   IsListed p net o records old r new =
       (failures new ≡ failures_after_run r (failures old))
       × ((seed : ℕ) → HoldOpeningRecords p net seed records
-      → TellsListing (text_in form) p net seed (taken old) (taken new) r × TellsRefusedFor p net seed o r)
+      → TellsListing (text_in form) most_gathered (MayBreakOff p net seed o) p net seed (taken old) (taken new) r
+      × TellsRefusedFor p net seed o r)

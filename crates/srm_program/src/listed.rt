@@ -3,10 +3,10 @@ ghost use Rattle.std.specs.Prelude.{◌≡◌, ◌<◌, ◌-◌, ◌^◌, ℕ, S
 ghost use Rattle.srm_scenario.specs.Plain.{network_of};
 ghost use Rattle.srm_engine.specs.Outcomes.{HoldOpeningRecords};
 ghost use Rattle.srm_interfaces.specs.declared.sink.Stage.{Stage};
-ghost use Rattle.srm_report.specs.ListingSinks.{stage_of, outlet_under, gathered_by, written_by, AreOverOne};
+ghost use Rattle.srm_report.specs.ListingSinks.{stage_of, outlet_under, gathered_by, gathering_room, written_by, AreOverOne};
 ghost use Rattle.srm_report.specs.Listings.{text_in};
 ghost use Rattle.srm_program.specs.Reports.{failures_after_run, TellsListing};
-ghost use Rattle.srm_program.specs.Runs.{MayShareBag, TellsRefusedFor, MayBeListed, IsListed};
+ghost use Rattle.srm_program.specs.Runs.{MayShareBag, MayBreakOff, TellsRefusedFor, MayBeListed, IsListed};
 
 use crate::asked::Asked;
 use crate::fault::LabFault;
@@ -56,8 +56,9 @@ fn write_rows<R: Threads + Wait + Sync, L: Listing, O: Outlet>(
     ensures failures { O.failures (outlet_under sink.new)
         ≡ failures_after_run result (O.failures (outlet_under sink.old)) }
     ensures listing { (seed : ℕ) → HoldOpeningRecords asked.now.scenario.now asked.now.net.now seed (map (λ b. plain b) members.items)
-        → TellsListing (text_in L.form) asked.now.scenario.now asked.now.net.now seed (O.taken (outlet_under sink.old))
-        (O.taken (outlet_under sink.new)) result }
+        → TellsListing (text_in L.form) (gathering_room sink.old)
+        (MayBreakOff asked.now.scenario.now asked.now.net.now seed asked.now.options) asked.now.scenario.now asked.now.net.now seed
+        (O.taken (outlet_under sink.old)) (O.taken (outlet_under sink.new)) result }
     ensures asked { (seed : ℕ) → HoldOpeningRecords asked.now.scenario.now asked.now.net.now seed (map (λ b. plain b) members.items)
         → TellsRefusedFor asked.now.scenario.now asked.now.net.now seed asked.now.options result }
 {

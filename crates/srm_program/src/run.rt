@@ -40,8 +40,13 @@ use std::thread::Threads;
 /// 4. `WriteFault`: exactly where the outlet failed in the call.
 ///
 /// The boxes are then gone. Of the trace and the table of timers the outlet took a prefix, and nothing after `BadCut` and
-/// `BadWidth`. Of another table it took nothing, unless it failed: then it took a prefix, fewer bytes than all. After `WriteFault`
-/// it took exactly as many bytes as the fault counts, up to 2^64 - 1, and its count of failures is one higher.
+/// `BadWidth`. After `CountFull` and `ShareFull` it took the table of the rows up to where the run broke off, but for at most its
+/// last 8,192 bytes. With the sequential engine that is fewer than 32 rows before the step for which the packet count is used up;
+/// with the engine of windows it is where a window begins of which a job meets such a step, or the crossings of some jobs are too
+/// many.
+///
+/// Of another table it took nothing, unless it failed: then it took a prefix, fewer bytes than all. After `WriteFault` it took
+/// exactly as many bytes as the fault counts, up to 2^64 - 1, and its count of failures is one higher.
 pub fn run<R: Threads + Wait + Sync, O: Outlet>(
     rt: &R,
     alloc: Global,

@@ -131,7 +131,8 @@ impl RowSink for MembersSink {
     /// Counts the rows.
     ///
     /// # Errors
-    /// `NoMemory`, also where they would be more than 2^63 rows in all (`MOST_ROWS`). There are rows then: a call without rows is not refused.
+    /// `NoMemory`, also where they would be more than 2^63 rows in all (`MOST_ROWS`). There are rows then: a call without rows is
+    /// not refused.
     fn rows(&mut self, _alloc: Global, rows: Vec<Row>) -> Result<(), SinkFault>
         ensures stage { stage_of_members self.new ≡ stage_after result }
         ensures rows { OnOk result (CountsRows self.old rows.items self.new) }
