@@ -1,9 +1,13 @@
 -- Sessions of texts, from those of their scenarios.
-use Rattle.std.proofs.Common.{◌≡◌, ℕ, ◌≤◌, Bool, false, List, length, Option, Some, None, Result, Ok, Err, refl, sym, subst, inr}
+use Rattle.std.proofs.Common.{◌≡◌, ℕ, ◌+◌, ◌≤◌, Bool, false, List, length, Option, Some, None, Result, Ok, Err, refl, sym, subst, inr}
+use Rattle.std.proofs.Common.{arith}
 use Rattle.std.specs.Prelude.{IfSome}
 use Rattle.std.specs.Io.KnownBytes.{Keeps}
 use Rattle.srm_net.specs.Network.{Network}
-use Rattle.srm_scenario.specs.declared.fault.ScenarioFault.TheVariants.{TooLong}
+use Rattle.srm_scenario.specs.declared.fault.ScenarioFault.{ScenarioFault}
+use Rattle.srm_scenario.specs.declared.fault.ScenarioFault.TheVariants as scenario
+use Rattle.srm_scenario.specs.declared.fault.ScenarioFault.TheVariants.{ReadFault, TooLong, NotToml, BadKey, NotTree, BadMember}
+use Rattle.srm_scenario.specs.declared.fault.ScenarioFault.TheVariants.{BadDraw, BadSession, BadDrop, BadOutage}
 use Rattle.srm_scenario.specs.Plain.{PlainScenario, network_of}
 use Rattle.srm_scenario.specs.Faults.{scenario_of_text, AnswersText, RefusesText}
 use Rattle.srm_scenario.proofs.Texts.{count_stays}
@@ -11,7 +15,8 @@ use Rattle.srm_program.specs.declared.fault.Fault.{Fault}
 use Rattle.srm_program.specs.declared.fault.Fault.TheVariants.{Line, Scenario, Lab, NoMemory}
 use Rattle.srm_options.specs.declared.options.Options.{Options}
 use Rattle.srm_program.specs.declared.fault.LabFault.{LabFault}
-use Rattle.srm_program.specs.Sessions.{TellsSession, TellsTask, TellsText, reading_failures}
+use Rattle.srm_program.specs.Explained.{KeepsText}
+use Rattle.srm_program.specs.Sessions.{TellsSession, TellsTask, TellsText, TellsFeed, reading_failures}
 
 -- the session of a text is that of the scenario that it describes
 pub session_of_text : {T : Type 0} (p : PlainScenario) (net : Network) (text : List ℕ) (seed : ℕ) (o : Options) (old new : Option (List ℕ))
@@ -50,3 +55,29 @@ pub long_known : (known : Option (List ℕ)) (P : Type 0) → P → IfSome known
     → IfSome known (λ text. RefusesText TooLong text × P)
 long_known None P p h = tt
 long_known (Some text) P p h = (inr h, p)
+
+never_more : (n : ℕ) → n ≡ n + 1 → ⊥
+never_more n h = omega arith
+
+-- the session of a text that was read whole, and that text, which is kept
+pub whole_read : {T : Type 0} (text : List ℕ) (seed : ℕ) (o : Options) (old new : Option (List ℕ)) (r : Result T Fault)
+    → length text ≤ 1048576 → TellsText seed o text old new r → TellsFeed seed o text old new r × KeepsText r text text
+whole_read text seed o old new (Ok v) few told = (told, refl)
+whole_read text seed o old new (Err (Lab f)) few told = (told, refl)
+whole_read text seed o old new (Err (Line f)) few told = absurd told
+whole_read text seed o old new (Err NoMemory) few told = (told, inr refl)
+whole_read {T} text seed o old new (Err (Scenario f)) few told = by f told
+  where
+    by : (f : ScenarioFault) → RefusesText f text × Keeps old new
+        → TellsFeed {T = T} seed o text old new (Err (Scenario f)) × KeepsText {T = T} (Err (Scenario f)) text text
+    by ReadFault h = absurd (never_more 0 (count_stays text (Err ReadFault) 0 few h.0))
+    by TooLong h = (h, inr refl)
+    by NotToml h = (h, refl)
+    by (BadKey p n) h = (h, refl)
+    by NotTree h = (h, refl)
+    by (BadMember n) h = (h, refl)
+    by (BadDraw n) h = (h, refl)
+    by (BadSession n) h = (h, refl)
+    by (BadDrop n) h = (h, refl)
+    by (BadOutage n) h = (h, refl)
+    by scenario.NoMemory h = (h, refl)

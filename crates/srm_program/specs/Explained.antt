@@ -64,10 +64,11 @@ FollowsLine asks message text f told = MayFollow asks text f told
 abbrev pub Follows : Request → List ℕ → Fault → List ℕ → Type 0
 Follows request text f told = FollowsLine (asks_explanation request.asked) (string_bytes request.message) text f told
 
--- the text that is kept after a session that was given this text: the same, wherever a fault is one of the text itself
+-- the text that is kept after a session that was given this text: the same, wherever a fault is one of the text itself;
+-- none where the feed failed or words were refused; and where a text was too long or memory ran out all of it or none
 abbrev pub KeepsText : {T : Type 0} → Result T Fault → List ℕ → List ℕ → Type 0
-KeepsText (Err (fault.Scenario ReadFault)) given text = Unit {0}
-KeepsText (Err (fault.Scenario TooLong)) given text = Unit {0}
-KeepsText (Err fault.NoMemory) given text = Unit {0}
-KeepsText (Err (fault.Line f)) given text = Unit {0}
+KeepsText (Err (fault.Scenario ReadFault)) given text = text ≡ []
+KeepsText (Err (fault.Scenario TooLong)) given text = (text ≡ []) ⊎ (text ≡ given)
+KeepsText (Err fault.NoMemory) given text = (text ≡ []) ⊎ (text ≡ given)
+KeepsText (Err (fault.Line f)) given text = text ≡ []
 KeepsText r given text = text ≡ given

@@ -24,7 +24,9 @@ use std::thread::Threads;
 pub struct Session {
     /// Whether it was refused, and why.
     pub done: Result<(), Fault>,
-    /// The text that was read, so that a refusal can be explained; as it is written, empty where none was read whole.
+    /// The text that was read, so that a refusal can be explained: all that was given, or nothing. It is nothing where the feed failed
+    /// or words were refused; where the text was too long, or memory ran out, it is one or the other. As it is written, nothing is
+    /// kept of a text that was too long.
     pub text: Vec<u8>,
 }
 
