@@ -86,7 +86,8 @@ impl<T> Bag<T> {
     }
 
     /// An item that was put, as it is written the oldest left. Its index is above all in the pass's list, and goes to its end. At
-    /// `None` a whole pass has taken every item; as it is written, the queue was empty at one moment of the call. It does not allocate.
+    /// `None` a whole pass has taken every item; as it is written, the queue was empty at one moment of the call. It does not
+    /// allocate.
     pub fn take<R: Wait>(&self, rt: &R, pass: &mut Pass<T>) -> Option<T>
         requires { pass.old.bag ≡ self.now.name }
         ensures bag { pass.new.bag ≡ pass.old.bag }

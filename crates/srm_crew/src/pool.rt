@@ -125,8 +125,8 @@ impl<R: Threads + Sync> Crew<Box<dyn Member>> for PoolCrew<R> {
         ensures ready { IsSync R.row }
         ensures serves { Unit {0} }
         ensures done { Maps (λ b. (⟦<dyn Member as Member>⟧ b.vtable).plain b.value) scenario.now net.now seat jobs.items result }
-        ensures handed { IfOk result (λ _. (ps : List PlainJob) → AreJobs (λ b. (⟦<dyn Member as Member>⟧ b.vtable).plain b.value) jobs.items ps
-            → self.new ≡ self.old) }
+        ensures handed { IfOk result (λ _. (ps : List PlainJob)
+            → AreJobs (λ b. (⟦<dyn Member as Member>⟧ b.vtable).plain b.value) jobs.items ps → self.new ≡ self.old) }
     {
         let advanced = advance_in_pool(&self.rt, alloc, scenario, net, jobs);
         settle(ledger, seat, advanced)

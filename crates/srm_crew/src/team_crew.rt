@@ -223,7 +223,8 @@ impl<'a, R: Wait, M: Participant, J: Naming> Crew<M> for TeamCrew<'a, R, M, J> {
         ensures serves { IsWorkOn self.new.work scenario.now net.now }
         ensures heard { TellsHeard M.plain (traffic_of scenario.now net.now)
             (packets_in sent.items) groups.items result }
-        ensures handed { (self.new.work ≡ self.old.work) × (self.new.team.room ≡ self.old.team.room) × (self.new.few ≡ self.old.few) }
+        ensures handed { (self.new.work ≡ self.old.work) × (self.new.team.room ≡ self.old.team.room)
+            × (self.new.few ≡ self.old.few) }
     {
         hear_in_team(&self.rt, alloc, &mut self.team, self.work, sent, groups)
     }
