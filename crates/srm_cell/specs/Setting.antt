@@ -129,8 +129,8 @@ abbrev pub EndsAtLeave : Option ℕ → List Mark → Type 0
 EndsAtLeave leave [] = Unit {0}
 EndsAtLeave leave (k ∷ ks) = (cause_of_mark k ≡ None → (leave ≡ Some k.at) × (ks ≡ [])) × EndsAtLeave leave ks
 
--- what the setting of a scenario has: members' numbers in their fixed parts, scripts in order, that end at the leave,
--- and no two members at one place
+-- what the setting of a scenario has: members' numbers in their fixed parts, scripts in order, with nothing after a
+-- leave, and no two members at one place
 pub record IsFit (s : Setting) : Type 0 where
   pub numbers : (m : ℕ) → m < s.traffic.members → (s.fixed m).member ≡ m
   pub scripts : (m : ℕ) → m < s.traffic.members → Ascends mark_cmp (s.script m)

@@ -27,7 +27,7 @@ impl<W: Work<T, D> + Copy, T: Drop, D: Drop, J: Naming> Model for Bench<W, T, D,
 }
 
 impl<W: Work<T, D> + Copy, T: Drop, D: Drop, J: Naming> Bench<W, T, D, J> {
-    /// One worker, until its team is dropped. It does not allocate.
+    /// One worker. As it is written, it ends once its team is dropped. It does not allocate.
     pub fn serve<R: Wait>(&self, rt: &R) {
         for _ in rt.forever() {
             let Ok(order) = receive(rt, &self.orders) else {

@@ -12,7 +12,8 @@
 //! ```
 //!
 //! The leader stands in the **second** closure, which stays in its own thread and runs first where no thread can be made. Then, as
-//! with no threads at all, the leader does all the work. The workers end when the team is dropped, whatever the leader returns.
+//! with no threads at all, the leader does all the work. As it is written, the workers end when the team is dropped, whatever the
+//! leader returns.
 #![tactic(auto)]
 
 pub mod answer;
