@@ -272,13 +272,33 @@ def try_crate(tree: pathlib.Path, name: str, part: int = 0, parts: int = 1) -> T
     return Tried(name, edits, trial.checks, time.monotonic() - began)
 
 
-def control_crate(tree: pathlib.Path, name: str) -> Tried:
-    """Checks the functions that a crate's edits change beside the stubs of the edits, with no edit in them."""
-    began = time.monotonic()
+def control_crate(tree: pathlib.Path, name: str) -> dict[str, str]:
+    """What refuses each function that is refused beside the stubs of a crate's edits, with no edit in it."""
     with trial_of(tree, name) as trial:
-        refused = trial.refused_by_stubs(edits_of(trial.folder))
-    told = {function: (False, f"REFUSED WITH NO EDIT: {why[:SHOWN]}") for function, why in refused.items()}
-    return Tried(name, told, trial.checks, time.monotonic() - began)
+        return trial.refused_by_stubs(edits_of(trial.folder))
+
+
+def control(tree: pathlib.Path, names: Sequence[str], jobs: int) -> bool:
+    """Prints for each crate which functions are refused with no edit, and tells whether there are none."""
+    refused = 0
+    with ThreadPoolExecutor(jobs) as pool:
+        for name, told in zip(names, pool.map(lambda it: control_crate(tree, it), names), strict=True):
+            lines = [f"{name}: {function}: REFUSED WITH NO EDIT: {why[:SHOWN]}" for function, why in told.items()]
+            print("\n".join([*lines, f"{name}: {len(told)} functions refused with no edit"]), flush=True)
+            refused += len(told)
+    return refused == 0
+
+
+def try_all(tree: pathlib.Path, names: Sequence[str], jobs: int) -> bool:
+    """Tries the edits of crates, prints a line for each, and tells whether all are refused."""
+    refused = failed = 0
+    with ThreadPoolExecutor(jobs) as pool:
+        for tried in pool.map(lambda it: try_crate(tree, it), names):
+            print("\n".join(tried.lines()), flush=True)
+            refused += tried.refused()
+            failed += len(tried.edits) - tried.refused()
+    print(f"{refused} edits refused, {failed} not")
+    return failed == 0
 
 
 def of_parts(parts: Sequence[Tried]) -> Tried:
@@ -300,15 +320,8 @@ def main() -> None:
     lacking = sorted({low for it in names for low in below(crates, it) if not rlib(tree, low).exists()})
     if lacking:
         sys.exit(f"Not proved yet: {', '.join(lacking)}. `make check` proves what edits stand on.")
-    refused = failed = 0
-    of_crate = control_crate if options.control else try_crate
-    with ThreadPoolExecutor(options.jobs) as pool:
-        for tried in pool.map(lambda it: of_crate(tree, it), names):
-            print("\n".join(tried.lines()), flush=True)
-            refused += tried.refused()
-            failed += len(tried.edits) - tried.refused()
-    print(f"{failed} functions refused with no edit" if options.control else f"{refused} edits refused, {failed} not")
-    sys.exit(1 if failed else 0)
+    call = control if options.control else try_all
+    sys.exit(0 if call(tree, names, options.jobs) else 1)
 
 
 if __name__ == "__main__":
