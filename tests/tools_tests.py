@@ -231,6 +231,8 @@ class MustFail(unittest.TestCase):
         error = "./proofs/pair/PairClone/clone/Answers.antt:3:9: error: `returns`: the goal does not follow"
         self.assertEqual(self.refusals(*unproved, goal), [True, False])
         self.assertEqual(self.refusals(*unproved, goal, error), [True, True])
+        of_type = "note: src/pair.rt:9:5: `search` found no proof (`invariant_of-self`); `search` gave up at one of its limits"
+        self.assertEqual(self.refusals(*unproved, of_type), [True, False])
 
     def test_a_function_is_not_refused_for_what_it_calls_or_for_a_name(self) -> None:
         called = "fn low::pair::PairClone::clone: no proof: it calls `low::pair::Pair::first`, which is not proved"

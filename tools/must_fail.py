@@ -107,7 +107,7 @@ class Told(NamedTuple):
         """The places of errors, and of what is not proved."""
         found = [(TOLD.match(line), line) for line in self.lines]
         places = [Place(it[1], int(it[2]), it[3], line) for it, line in found if it]
-        return [it for it in places if it.text.startswith(("it is not proved", "error"))]
+        return [it for it in places if it.text.startswith(("it is not proved", "`search` found no proof", "error"))]
 
     def first_place(self) -> str:
         """The first line that tells of a place for more than a name, or of any, or nothing."""
