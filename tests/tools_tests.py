@@ -8,7 +8,7 @@ import sys
 import tempfile
 import threading
 import unittest
-from collections.abc import Iterable, Mapping
+from collections.abc import Collection, Iterable, Mapping
 from unittest import mock
 
 sys.dont_write_bytecode = True
@@ -340,6 +340,22 @@ class Ordered(unittest.TestCase):
     def test_what_stands_in_the_longest_chain_is_waited_for(self) -> None:
         self.assertEqual([it for it in DIAMOND if it in self.order.crates and self.order.is_waited_for(it)], ["low", "long"])
 
+    def test_crates_that_are_waited_for_share_the_processors_and_others_have_one_prover(self) -> None:
+        both = order.Order(DIAMOND, "top", {"low": 10, "long": 100, "short": 100, "top": 5, "beside": 0})
+        self.assertEqual([both.provers("long", beside, 4) for beside in ({"long"}, {"long", "short"})], [4, 2])
+        self.assertEqual(both.provers("long", {"long", "short"}, 3), 2)
+        self.assertEqual([self.order.provers(it, {"long", "short"}, 4) for it in ("long", "short")], [4, 1])
+
+    def test_a_crate_is_told_which_others_are_proved_beside_it(self) -> None:
+        told: dict[str, set[str]] = {}
+
+        def proves(name: str, beside: Collection[str]) -> bool:
+            told[name] = {*beside}
+            return True
+
+        self.assertTrue(self.order.follow(2, proves))
+        self.assertEqual(told, {"low": {"low"}, "long": {"long", "short"}, "short": {"long", "short"}})
+
     def test_a_crate_gives_way_the_more_the_shorter_its_chain_is(self) -> None:
         self.assertEqual([self.order.niceness(it) for it in ("low", "long", "short")], [0, 0, 7])
         near = order.Order(DIAMOND, "top", {"low": 10, "long": 100, "short": 76, "top": 14, "beside": 0})
@@ -354,7 +370,7 @@ class Ordered(unittest.TestCase):
         for at_once in (1, 2, 4):
             proved: list[str] = []
 
-            def proves(name: str, told: list[str] = proved) -> bool:
+            def proves(name: str, _: Collection[str], told: list[str] = proved) -> bool:
                 self.assertTrue(set(DIAMOND[name].own) <= set(told))
                 told.append(name)
                 return True
@@ -365,7 +381,7 @@ class Ordered(unittest.TestCase):
     def test_crates_on_one_base_are_proved_at_a_time(self) -> None:
         both = threading.Barrier(2, timeout=60)
 
-        def proves(name: str) -> bool:
+        def proves(name: str, _: Collection[str]) -> bool:
             return name == "low" or both.wait() >= 0
 
         self.assertTrue(self.order.follow(2, proves))
@@ -373,7 +389,7 @@ class Ordered(unittest.TestCase):
     def test_nothing_is_begun_after_a_crate_that_is_not_proved(self) -> None:
         begun: list[str] = []
 
-        def proves(name: str) -> bool:
+        def proves(name: str, _: Collection[str]) -> bool:
             begun.append(name)
             return name != "low"
 

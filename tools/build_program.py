@@ -10,8 +10,9 @@ Everything that the prover says goes to logs in out/; the lines for people go to
 crate is not proved, and then shows its errors.
 
 N crates are proved at a time; without --jobs twice as many as there are processors, with 4 GB of free memory for each. Those in
-the longest chain of crates below the program have a prover for each processor, since the program is proved when that chain is.
-Others have one, and give way a little. The environment's RT is the command to call in place of `rt`.
+the longest chain of crates below the program, or nearly, share the processors: so many provers each as there are processors, cut
+by how many such crates are proved when it begins, and rounded up. Others have one, and give way a little. The environment's RT is
+the command to call in place of `rt`.
 """
 import argparse
 import os
@@ -20,6 +21,7 @@ import shutil
 import subprocess
 import sys
 import time
+from collections.abc import Collection
 
 import prover
 import watch
@@ -74,8 +76,8 @@ class Build:
             show_errors(log, errors_in(log.read_text(encoding="utf-8", errors="replace").splitlines()))
         return status == 0
 
-    def library(self, name: str) -> bool:
-        """Proves a library, if what it stands on changed, and tells whether it is proved."""
+    def library(self, name: str, beside: Collection[str]) -> bool:
+        """Proves a library beside others, if what it stands on changed, and tells whether it is proved."""
         began = time.monotonic()
         made, stamp, digest = rlib(name), KEPT / name / "stamp", self.digest(name)
         if made.exists() and stamp.exists() and stamp.read_text() == digest:
@@ -83,7 +85,7 @@ class Build:
             return True
         shutil.rmtree(KEPT / name, ignore_errors=True)
         (KEPT / name).mkdir(parents=True)
-        provers = PROCESSORS if self.order.is_waited_for(name) else 1
+        provers = self.order.provers(name, beside, PROCESSORS)
         words = ["nice", "-n", str(self.order.niceness(name)), *prover.call("build", self.crates, name, "src/lib.rt", rlib)]
         if not self.run(name, [*words, "--jobs", str(provers), "--statements", "-o", str(made)]):
             return False

@@ -1,5 +1,6 @@
 """In what order the crates below a program are proved side by side, and how much of the processors each is given."""
-from collections.abc import Callable, Mapping
+import math
+from collections.abc import Callable, Collection, Mapping
 from concurrent.futures import FIRST_COMPLETED, Future, ThreadPoolExecutor, wait
 
 from crates import Crate, below
@@ -29,6 +30,11 @@ class Order:
         """Whether the program is proved later if this crate is: it stands in a chain that is nearly as long as the longest."""
         return self.spare[name] < SPARE
 
+    def provers(self, name: str, beside: Collection[str], processors: int) -> int:
+        """How many provers a crate is given that is proved beside others: those that are waited for share the processors."""
+        sharing = sum(self.is_waited_for(it) for it in {name, *beside})
+        return math.ceil(processors / sharing) if self.is_waited_for(name) else 1
+
     def niceness(self, name: str) -> int:
         """How much the proof of a crate gives way to others: the more, the shorter the longest chain through it."""
         return 0 if self.is_waited_for(name) else round(GIVES_WAY * self.spare[name])
@@ -38,16 +44,20 @@ class Order:
         found = [name for name, own in self.crates.items() if name not in begun and proved.issuperset(own)]
         return sorted(found, key=lambda it: -self.upward[it])
 
-    def follow(self, at_once: int, prove: Callable[[str], bool]) -> bool:
-        """Proves each crate once those below it are proved, so many at a time, until one is not. Tells whether all are."""
+    def follow(self, at_once: int, prove: Callable[[str, Collection[str]], bool]) -> bool:
+        """Proves each crate once those below it are proved, so many at a time, until one is not. Tells whether all are.
+
+        `prove` is given the crate, and all that are proved when it begins.
+        """
         begun: set[str] = set()
         proved: set[str] = set()
         running: dict[Future[bool], str] = {}
         with ThreadPoolExecutor(at_once) as threads:
             while len(proved) < len(self.crates):
-                for name in self.ready(begun, proved)[: at_once - len(running)]:
-                    begun.add(name)
-                    running[threads.submit(prove, name)] = name
+                ready = self.ready(begun, proved)[: at_once - len(running)]
+                beside = {*running.values(), *ready}
+                begun.update(ready)
+                running.update({threads.submit(prove, name, beside): name for name in ready})
                 ended, _ = wait(running, return_when=FIRST_COMPLETED)
                 if not all(it.result() for it in ended):
                     return False
