@@ -21,11 +21,15 @@ FEW_CASES := 100
 FEW_SCENARIOS := two-nodes chain-of-five-one-loss star-loss-at-the-source
 export RT
 
+# how targets are made side by side, each to its end
+SIDE_BY_SIDE = --no-print-directory --keep-going --jobs=$(JOBS) --output-sync=target
+# the scripts that look at sources, documents and other scripts, and prove nothing: those that take long begin first
+OF_SOURCES := $(addprefix source-,layout lemmas tools_tests edits_tests gate_tests fuzz_tests where_tests where_page_tests architecture promises where_page calls lines widths links versions)
 # the scripts of `make test-program` and `make test-memory`, which with -j run side by side: those that take long begin first
 OF_PROGRAM := $(addprefix test-,compare hostile fuzz limits same-bytes command-line explanations refusals)
 OF_MEMORY := $(addprefix test-memory-,of-tests of-examples explained of-more)
 
-.PHONY: $(OF_PROGRAM) $(OF_MEMORY)
+.PHONY: $(OF_SOURCES) $(OF_PROGRAM) $(OF_MEMORY)
 .PHONY: build run try check test test-program test-memory fuzz bench install fmt clean help
 
 build: $(PROGRAM) ## proves and builds the program, if a source is newer than it (the first time less than 20 minutes on 4 processors)
@@ -41,44 +45,19 @@ try: ## the same program, unproved: compiled in one to four minutes, and run aga
 	@tools/try_program.py $(TRIED) crates/srm_lab $(EXPLAIN) $(ARGUMENTS) < $(SCENARIO)
 
 check: ## what an edit needs: proves each crate that changed, or CRATE=srm_net with the crates below it; checks scripts and documents
-	@tests/tools_tests.py -q
-	@tests/gate_tests.py -q
-	@tests/fuzz_tests.py -q
-	@tests/where_tests.py -q
-	@tests/architecture.py
-	@tests/promises.py
-	@tests/where_page_tests.py -q
-	@tests/where_page.py
-	@tests/calls.py
-	@tests/lines.py
-	@tests/widths.py
-	@tests/lemmas.py
-	@tests/layout.py
-	@tests/links.py
-	@tests/versions.py
+	@$(MAKE) $(SIDE_BY_SIDE) $(OF_SOURCES)
 	@tools/prove.py $(if $(CRATE),crates/$(CRATE),crates)
 
 test: ## the merge gate: proves everything from nothing, with tests and must-fail edits, and checks the program that this made; tells the times
-	@tests/tools_tests.py -q
-	@tests/gate_tests.py -q
-	@tests/fuzz_tests.py -q
-	@tests/where_tests.py -q
-	@tests/architecture.py
-	@tests/promises.py
-	@tests/where_page_tests.py -q
-	@tests/where_page.py
-	@tests/calls.py
-	@tests/lines.py
-	@tests/widths.py
-	@tests/lemmas.py
-	@tests/layout.py
-	@tests/links.py
-	@tests/versions.py
-	@tools/gate.py -- make --no-print-directory --keep-going --jobs=$(JOBS) --output-sync=target test-program test-memory
+	@$(MAKE) $(SIDE_BY_SIDE) $(OF_SOURCES)
+	@tools/gate.py -- make $(SIDE_BY_SIDE) test-program test-memory
 
 test-program: $(OF_PROGRAM) ## compares what the program prints with each file of examples/, and its refusals, and tries it at the format's limits and on some random scenarios
 
 test-memory: $(OF_MEMORY) ## refuses each allocation in turn, of the program on each example with each engine, on three with each table and each crew that takes threads, on each scenario whose explanation is stored, and of each test of members, roles, the ledger, crews, the drops of whole runs' boxes and runs that are asked for totals alone
+
+$(OF_SOURCES): source-%:
+	@tests/$*.py $(if $(filter %_tests,$*),-q)
 
 $(OF_PROGRAM) $(OF_MEMORY): $(PROGRAM)
 

@@ -3,6 +3,7 @@
 An edit stands in crates/NAME/must-fail/NAME.edit, in lines 'file: PATH', 'old: TEXT' and 'new: TEXT', each text one line. The
 old text stands once in its file, and further pairs apply to what the earlier ones made.
 """
+import itertools
 import pathlib
 import re
 from collections.abc import Iterator, Mapping
@@ -15,8 +16,8 @@ ARGUMENTS = re.compile(r"<[^<>]*>")
 
 
 class Function(NamedTuple):
-    """A function of a crate: its file below the crate, its type or "", its name, its first and last line, from 1, and whether it
-    is of a trait or of a trait's impl."""
+    """A function of a crate: its file below the crate, its type or "", its name, its first and last line, from 1, whether it is
+    of a trait or of a trait's impl, and how many lines of attributes stand above it."""
 
     file: str
     owner: str
@@ -24,6 +25,7 @@ class Function(NamedTuple):
     first: int
     last: int
     is_of_trait: bool = False
+    attributes: int = 0
 
     @property
     def module(self) -> str:
@@ -37,8 +39,8 @@ class Function(NamedTuple):
         return self.module if self.is_of_trait else "::".join(filter(None, [self.module, self.owner, self.name]))
 
     def holds(self, file: str, line: int) -> bool:
-        """Whether a line of a file is one of its lines."""
-        return file == self.file and self.first <= line <= self.last
+        """Whether a line of a file is one of its lines or of its attributes'."""
+        return file == self.file and self.first - self.attributes <= line <= self.last
 
     def is_told_as(self, path: str) -> bool:
         """Whether the prover's path of a function below the crate is of this one or of a closure in it.
@@ -89,6 +91,12 @@ def type_of(head: str) -> str:
     return words[-1] if words else ""
 
 
+def attributes_above(lines: list[str], at: int) -> int:
+    """How many lines of attributes stand above the line at a place."""
+    above = itertools.takewhile(lambda it: it.lstrip().startswith("#["), reversed(lines[:at]))
+    return sum(1 for _ in above)
+
+
 def functions_in(file: str, text: str) -> Iterator[Function]:
     """The functions of a file that is laid out: a body ends at the first brace that is as far in as its head."""
     lines = text.split("\n")
@@ -103,8 +111,9 @@ def functions_in(file: str, text: str) -> Iterator[Function]:
         if found:
             ends = (it for it in range(at, len(lines)) if lines[it] == f"{found[1]}}}" or it == at and line.endswith("}"))
             is_method = found[1] != ""
-            last = next(ends, at) + 1
-            yield Function(file, owner if is_method else "", found[2], at + 1, last, is_method and (is_of_trait or not owner))
+            lines_of_it = at + 1, next(ends, at) + 1
+            trait_has_it = is_method and (is_of_trait or not owner)
+            yield Function(file, owner if is_method else "", found[2], *lines_of_it, trait_has_it, attributes_above(lines, at))
 
 
 def line_of(change: Change, text: str) -> int:

@@ -4,14 +4,15 @@
 usage: tools/must_fail.py [--tree FOLDER] [--jobs N] [--control] [CRATE ..]
 
 A function is proved against the contracts of what it calls, and never against their bodies. So wrong bodies of several functions
-can be planted in one copy of a crate: each is refused, or not, as if it were alone. Functions that no edit of the check changes
-are stubs there (tools/stubs.py). The check says of a function that calls an unproved one just that, and such an edit is tried
-again, without those that were refused. An edit that no such check refuses for itself, that the check refuses for nothing but a
-name that a proof file misses, that changes no function or that the prover cannot read is tried alone in a crate without stubs,
-as `rt ci` tries each.
+can be planted in one copy of a crate: each is refused, or not, as if it were alone. Where two edits change one function, the
+second is planted in a copy beside it (tools/twins.py). Functions that no edit of the check changes are stubs there
+(tools/stubs.py). The check says of a function that calls an unproved one just that, and such an edit is tried again, without
+those that were refused. An edit that no such check refuses for itself, that the check refuses for nothing but a name that a proof
+file misses, that changes no function or that the prover cannot read is tried alone in a crate without stubs, as `rt ci` tries
+each.
 
-With --control the same functions are checked beside the same stubs with no edit in them. None of them may then be refused, since
-it would be the stubs that refuse it.
+With --control the same functions and copies are checked beside the same stubs with no edit in them. None of them may then be
+refused, since it would be the stubs, or the making of a copy, that refuse it.
 
 The libraries below a crate have to be proved: their rlibs stand in FOLDER/crates/NAME/out/rlib, by default of this repository,
 where `make check` or `rt ci` leaves them. N crates are tried at a time, by default as many as there are processors. Prints a line
@@ -29,7 +30,7 @@ import subprocess
 import sys
 import tempfile
 import time
-from collections.abc import Collection, Iterable, Iterator, Mapping, Sequence
+from collections.abc import Iterable, Iterator, Mapping, Sequence
 from concurrent.futures import ThreadPoolExecutor
 from typing import Any, NamedTuple
 
@@ -38,6 +39,7 @@ import stubs
 import watch
 from crates import below, crates_in
 from edits import Edit, Function, edits_of
+from twins import Twin, Twins, may_have_twin
 
 TOP = pathlib.Path(__file__).resolve().parent.parent
 PARTS = ("src", "specs", "proofs")
@@ -129,6 +131,20 @@ class Told(NamedTuple):
         return None
 
 
+class Planted(NamedTuple):
+    """Edits that are planted together: the texts of files with them; by the name of each edit that stands in functions themselves
+    those functions, as they stand without twins; by the name of each edit the functions that it changes; and the twins."""
+
+    texts: Mapping[str, str]
+    themselves: Mapping[str, list[Function]]
+    functions: Mapping[str, list[Function]]
+    twins: Sequence[Twin]
+
+    def every_function(self) -> set[Function]:
+        """The functions that the edits change."""
+        return {it for found in self.functions.values() for it in found}
+
+
 class Trial:
     """The edits of one crate that are tried, over what earlier checks of them proved."""
 
@@ -140,10 +156,12 @@ class Trial:
         self.texts = {str(it.relative_to(self.folder)): it.read_text(encoding="utf-8") for it in files}
         self.checks = 0
 
-    def told(self, texts: Mapping[str, str], only: Iterable[str], open_stubs: Sequence[Function] = ()) -> Told:
+    def told(
+        self, texts: Mapping[str, str], only: Iterable[str], open_stubs: Sequence[Function] = (), copies: Sequence[Twin] = ()
+    ) -> Told:
         """What a check of the crate tells with these texts, of the functions and modules named, or of all where none is.
 
-        What is told of stubs in the texts is no refusal.
+        What is told of stubs in the texts is no refusal. The twins in them have copies of their functions' proofs.
         """
         self.checks += 1
         with tempfile.TemporaryDirectory(prefix="srm-edit-") as room:
@@ -152,6 +170,8 @@ class Trial:
                     shutil.copytree(self.folder / part, f"{room}/{part}")
             for path, text in texts.items():
                 pathlib.Path(room, path).write_text(text, encoding="utf-8")
+            for twin in copies:
+                twin.copy_proof(pathlib.Path(room), self.crate)
             for stub in open_stubs:
                 stubs.leave_open(pathlib.Path(room), self.crate, stub)
             words = [*self.command, *(["--allow-holes"] if open_stubs else [])]
@@ -162,39 +182,55 @@ class Trial:
         found = [VERDICT.match(it) for it in lines]
         return Told(ran.returncode, lines, {it[2]: it[3] for it in found if it and it[1] == self.crate})
 
-    def set_of(self, edits: Iterable[Edit]) -> list[Edit]:
-        """Edits that can be planted together: no two are in one function, and none takes away another's old text."""
+    def planted(self, edits: Iterable[Edit]) -> Planted:
+        """The edits that can be planted together, where no function has two and none takes away another's old text.
+
+        Of edits that change one function, all but the first are planted in twins of it, where it may have one.
+        """
         texts: Mapping[str, str] = self.texts
-        taken: set[Function] = set()
-        planted = []
+        taken: dict[str, list[Function]] = {}
+        copies: list[Twin] = []
         for edit in edits:
             functions = edit.functions(self.texts)
-            applied = None if taken.intersection(functions) else edit.applied(texts)
+            is_taken = any(it in found for found in taken.values() for it in functions)
+            applied = None if is_taken else edit.applied(texts)
+            function = may_have_twin(self.folder, edit, self.texts) if is_taken else None
             if applied is not None:
                 texts = applied
-                taken.update(functions)
-                planted.append(edit)
-        return planted
+                taken[edit.name] = functions
+            elif function:
+                copies.append(Twin(function, edit, f"{function.name}_twin_{len(copies) + 1}"))
+        return self.with_twins(texts, taken, copies)
 
-    def beside_stubs(self, texts: Mapping[str, str], functions: Collection[Function]) -> Told:
-        """What a check tells of these functions with these texts, where the crate's other functions are stubs."""
-        made, open_stubs = stubs.stubbed(texts, functions)
-        return self.told(made, sorted({it.asked_for for it in functions}), open_stubs)
+    def with_twins(self, texts: Mapping[str, str], taken: Mapping[str, list[Function]], copies: Iterable[Twin]) -> Planted:
+        """Edits that are planted in functions themselves, with others in twins."""
+        standing = Twins(self.texts, copies)
+        places = {name: [standing.moved(it) for it in found] for name, found in taken.items()}
+        places |= {twin.edit.name: [place] for twin, place in standing.standing()}
+        return Planted(standing.planted(texts), taken, places, standing.all)
 
-    def refused_together(self, edits: list[Edit]) -> dict[str, str]:
-        """Of edits that can be planted together, what refuses each that a check of all refuses for itself.
+    def without_edits(self, planted: Planted) -> Planted:
+        """The same functions and twins, with no edit in them."""
+        return self.with_twins(self.texts, planted.themselves, [it.without_edit() for it in planted.twins])
+
+    def beside_stubs(self, planted: Planted) -> Told:
+        """What a check tells of what is planted, where the crate's other functions are stubs."""
+        functions = planted.every_function()
+        made, open_stubs = stubs.stubbed(planted.texts, functions)
+        return self.told(made, sorted({it.asked_for for it in functions}), open_stubs, planted.twins)
+
+    def refused_together(self, edits: Sequence[Edit]) -> dict[str, str]:
+        """Of edits, what refuses each that can be planted with those before it and that a check of all these refuses for itself.
 
         Where the prover cannot read the text with all of them, it is given half of them at a time.
         """
-        texts = dict(self.texts)
-        for edit in edits:
-            texts = edit.applied(texts) or texts
-        functions = {edit.name: edit.functions(self.texts) for edit in edits}
-        told = self.beside_stubs(texts, {it for found in functions.values() for it in found})
-        if not told.has_ended() and len(edits) > 1:
-            half = len(edits) // 2
-            return self.refused_together(edits[:half]) | self.refused_together(edits[half:])
-        refusals = {name: [told.refusal_of(it) for it in found] for name, found in functions.items()}
+        planted = self.planted(edits)
+        told = self.beside_stubs(planted)
+        if not told.has_ended() and len(planted.functions) > 1:
+            tried = [it for it in edits if it.name in planted.functions]
+            half = len(tried) // 2
+            return self.refused_together(tried[:half]) | self.refused_together(tried[half:])
+        refusals = {name: [told.refusal_of(it) for it in found] for name, found in planted.functions.items()}
         return {name: next(it for it in found if it) for name, found in refusals.items() if any(found)}
 
     def alone(self, edit: Edit) -> tuple[bool, str]:
@@ -216,12 +252,12 @@ class Trial:
         return True, f"refused, as it must be: {first}"
 
     def refused_by_stubs(self, edits: Iterable[Edit]) -> dict[str, str]:
-        """Of the functions that edits change, what refuses each that is refused with no edit in it, beside stubs."""
-        functions = {it for edit in edits for it in edit.functions(self.texts)}
-        told = self.beside_stubs(self.texts, functions)
+        """Of the functions and twins that edits change, what refuses each that is refused with no edit in it, beside stubs."""
+        planted = self.without_edits(self.planted(edits))
+        told = self.beside_stubs(planted)
         if not told.has_ended():
             return {self.crate: told.unread() or "the check did not end"}
-        refusals = {it.asked_for: told.refusal_of(it) for it in functions}
+        refusals = {it.asked_for: told.refusal_of(it) for it in planted.every_function()}
         return {name: why for name, why in refusals.items() if why}
 
     def all(self, tried_here: Iterable[Edit]) -> dict[str, tuple[bool, str]]:
@@ -230,7 +266,7 @@ class Trial:
         left = [it for it in edits.values() if it.functions(self.texts) and it.applied(self.texts)]
         tried: dict[str, tuple[bool, str]] = {}
         while left:
-            refused = self.refused_together(self.set_of(left))
+            refused = self.refused_together(left)
             if not refused:
                 break
             tried |= {name: (True, f"refused, as it must be: {why[:SHOWN]}") for name, why in refused.items()}

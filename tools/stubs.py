@@ -29,11 +29,9 @@ def body_of(lines: list[str], function: Function) -> range | None:
 
 
 def is_plain(lines: list[str], function: Function) -> bool:
-    """Whether a function may be a stub: it is of no trait, and neither its head nor an attribute above it has a word of `LEFT`."""
-    first = function.first - 1
-    while lines[first - 1].lstrip().startswith("#["):
-        first -= 1
-    return not function.is_of_trait and not any(it in line for it in LEFT for line in lines[first : function.first])
+    """Whether a function may be a stub: it is of no trait, and neither its head nor an attribute of it has a word of `LEFT`."""
+    head = lines[function.first - 1 - function.attributes : function.first]
+    return not function.is_of_trait and not any(it in line for it in LEFT for line in head)
 
 
 def outermost(functions: Iterable[Function]) -> Iterator[Function]:
