@@ -79,6 +79,19 @@ class Edits(unittest.TestCase):
         found = edits.Edit("three", [edits.Change("src/two.rt", "= 2;", "= 3;")]).functions(texts)
         self.assertEqual([(it.file, it.name) for it in found], [("src/pair.rt", "half")])
 
+    def test_a_constant_of_several_lines_that_its_module_alone_sees_changes_functions_of_its_file(self) -> None:
+        source = SOURCE.replace("number / 2\n", "number / TWO\n")
+        texts = {"src/pair.rt": source + "\nconst TWO: u64 =\n    2;\n", "src/other.rt": source}
+        found = edits.Edit("three", [edits.Change("src/pair.rt", "    2;", "    3;")]).functions(texts)
+        self.assertEqual([(it.file, it.name) for it in found], [("src/pair.rt", "half")])
+        behind = edits.Edit("no_line_of_it", [edits.Change("src/pair.rt", "\nimpl<T: Copy>", "\nimpl<T>")])
+        self.assertEqual(behind.functions({"src/pair.rt": "const TWO: u64 = 2;\n" + SOURCE}), [])
+
+    def test_a_function_that_an_edit_adds_is_the_one_that_it_changes_if_there_is_no_other(self) -> None:
+        added = edits.Change("src/pair.rt", "/// Half", "fn double(n: u64) -> u64 { 2 * n } /// Half")
+        self.assertEqual(self.functions(edits.Edit("double", [added])), [("", "double")])
+        self.assertEqual(self.functions(edits.Edit("both", [added, *FIRST.changes])), [("Pair", "first")])
+
     def test_an_edit_is_applied_where_its_old_text_stands_once(self) -> None:
         texts = {"src/pair.rt": SOURCE}
         self.assertIsNone(edits.Edit("first", [edits.Change("src/pair.rt", "first", "second")]).applied(texts))
@@ -211,6 +224,14 @@ class Twins(unittest.TestCase):
         found = [twins.may_have_twin(pathlib.Path("no_such_crate"), it, self.TEXTS) for it in (CLONE, self.OF_BOTH, outside)]
         self.assertEqual(found, [None] * 3)
         self.assertEqual(twins.may_have_twin(pathlib.Path("no_such_crate"), HALF, self.TEXTS), HALF.functions(self.TEXTS)[0])
+
+    def test_no_twin_stands_beside_a_function_whose_constant_is_changed(self) -> None:
+        trial = self.trial()
+        trial.texts = {"src/pair.rt": "const TWO: u64 = 2;\n\n" + SOURCE.replace("number / 2\n", "number / TWO\n")}
+        of_constant = edits.Edit("three", [edits.Change("src/pair.rt", "= 2;", "= 3;")])
+        of_function = edits.Edit("half_is_the_whole", [edits.Change("src/pair.rt", "number / TWO\n", "number\n")])
+        for pair in ([of_constant, of_function], [of_function, of_constant]):
+            self.assertEqual([*trial.planted(pair).functions], [pair[0].name])
 
     def test_without_edits_the_same_functions_and_twins_are_as_they_were(self) -> None:
         trial = self.trial()

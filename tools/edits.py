@@ -10,7 +10,7 @@ from collections.abc import Iterator, Mapping
 from typing import NamedTuple
 
 FUNCTION = re.compile(r"( *)(?:pub(?:\([\w: ]+\))? )?(?:(?:const|final|unsafe) )*fn (\w+)")
-CONSTANT = re.compile(r"(?:pub(?:\([\w: ]+\))? )?const (\w+):")
+CONSTANT = re.compile(r"(pub(?:\([\w: ]+\))? )?const (\w+):")
 IMPL = re.compile(r"impl\b(.*)")
 ARGUMENTS = re.compile(r"<[^<>]*>")
 
@@ -78,8 +78,16 @@ class Edit(NamedTuple):
         return made
 
     def functions(self, texts: Mapping[str, str]) -> list[Function]:
-        """The functions that the edit changes: those round a change, and those that name a constant which a change alters."""
-        return [*dict.fromkeys(it for change in self.changes for it in functions_changed(change, texts))]
+        """The functions that the edit changes: those round a change, and those that name a constant which a change alters; where
+        there are none, those that it adds."""
+        changed = [it for change in self.changes for it in functions_changed(change, texts)]
+        added = [it for change in self.changes for it in functions_added(change, texts.get(change.file, ""))]
+        return [*dict.fromkeys(changed or added)]
+
+    def is_of_a_constant(self, texts: Mapping[str, str]) -> bool:
+        """Whether it changes a constant that stands in no function."""
+        outside = (it for it in self.changes if not function_round(it, texts.get(it.file, "")))
+        return any(constant_round(it, texts.get(it.file, "")) for it in outside)
 
 
 def type_of(head: str) -> str:
@@ -127,23 +135,47 @@ def function_round(change: Change, text: str) -> Function | None:
     return next((it for it in reversed([*functions_in(change.file, text)]) if it.first <= line <= it.last), None)
 
 
-def functions_that_name(word: str, texts: Mapping[str, str]) -> Iterator[Function]:
-    """The functions in whose lines a word stands."""
+class Constant(NamedTuple):
+    """A constant of a crate: its file below the crate, its name, and whether it is seen outside of its module."""
+
+    file: str
+    name: str
+    is_public: bool
+
+
+def constant_round(change: Change, text: str) -> Constant | None:
+    """The constant in whose lines the old text stands, or None."""
+    before = text.split("\n")[: line_of(change, text)]
+    above = itertools.takewhile(lambda it: it and not it.endswith((";", "}")), reversed(before[:-1]))
+    found = next(filter(None, (CONSTANT.match(it) for it in [before[-1], *above])), None)
+    return Constant(change.file, found[2], found[1] is not None) if found else None
+
+
+def functions_that_name(constant: Constant, texts: Mapping[str, str]) -> Iterator[Function]:
+    """The functions in whose lines a constant is named."""
     for file, text in texts.items():
+        if file != constant.file and not constant.is_public:
+            continue
         lines = text.split("\n")
         for it in functions_in(file, text):
-            if re.search(rf"\b{word}\b", "\n".join(lines[it.first - 1 : it.last])):
+            if re.search(rf"\b{constant.name}\b", "\n".join(lines[it.first - 1 : it.last])):
                 yield it
 
 
+def functions_added(change: Change, text: str) -> Iterator[Function]:
+    """The functions that begin in the new text."""
+    first = line_of(change, text)
+    made = functions_in(change.file, text.replace(change.old, change.new, 1))
+    return (it for it in made if first <= it.first <= first + change.new.count("\n"))
+
+
 def functions_changed(change: Change, texts: Mapping[str, str]) -> list[Function]:
-    """The function round a change, or those that name the constant in whose line it stands, or none."""
+    """The function round a change, or those that name the constant in whose lines it stands, or none."""
     text = texts.get(change.file, "")
-    around = function_round(change, text)
-    constant = CONSTANT.match(text.split("\n")[line_of(change, text) - 1])
-    if around or not constant:
-        return [around] if around else []
-    return [*functions_that_name(constant[1], texts)]
+    around, constant = function_round(change, text), constant_round(change, text)
+    if around:
+        return [around]
+    return [*functions_that_name(constant, texts)] if constant else []
 
 
 def read(path: pathlib.Path) -> Edit:

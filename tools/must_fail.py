@@ -38,7 +38,7 @@ import prover
 import stubs
 import watch
 from crates import below, crates_in
-from edits import Edit, Function, edits_of
+from edits import Edit, Function, edits_of, functions_in
 from twins import Twin, Twins, may_have_twin
 
 TOP = pathlib.Path(__file__).resolve().parent.parent
@@ -185,11 +185,13 @@ class Trial:
     def planted(self, edits: Iterable[Edit]) -> Planted:
         """The edits that can be planted together, where no function has two and none takes away another's old text.
 
-        Of edits that change one function, all but the first are planted in twins of it, where it may have one.
+        Of edits that change one function, all but the first are planted in twins of it, where it may have one; it may not where
+        the first is of a constant, which a twin names too.
         """
         texts: Mapping[str, str] = self.texts
         taken: dict[str, list[Function]] = {}
         copies: list[Twin] = []
+        without_twin: set[Function] = set()
         for edit in edits:
             functions = edit.functions(self.texts)
             is_taken = any(it in found for found in taken.values() for it in functions)
@@ -198,7 +200,8 @@ class Trial:
             if applied is not None:
                 texts = applied
                 taken[edit.name] = functions
-            elif function:
+                without_twin.update(functions if edit.is_of_a_constant(self.texts) else [])
+            elif function and function not in without_twin:
                 copies.append(Twin(function, edit, f"{function.name}_twin_{len(copies) + 1}"))
         return self.with_twins(texts, taken, copies)
 
@@ -211,7 +214,9 @@ class Trial:
 
     def without_edits(self, planted: Planted) -> Planted:
         """The same functions and twins, with no edit in them."""
-        return self.with_twins(self.texts, planted.themselves, [it.without_edit() for it in planted.twins])
+        standing = {it for file, text in self.texts.items() for it in functions_in(file, text)}
+        themselves = {name: [it for it in found if it in standing] for name, found in planted.themselves.items()}
+        return self.with_twins(self.texts, themselves, [it.without_edit() for it in planted.twins])
 
     def beside_stubs(self, planted: Planted) -> Told:
         """What a check tells of what is planted, where the crate's other functions are stubs."""
