@@ -91,6 +91,10 @@ class Gate(unittest.TestCase):
             self.pretend([line], mock.Mock(return_value=status), self.fail)
             self.assertEqual(gate.gate(TOP, mock.Mock(spec=gate.Log), self.fail), want)
 
+    def test_edits_that_are_ready_in_the_second_half_are_tried_in_parts(self) -> None:
+        found = [gate.parts_of(edits, proved, 24) for edits, proved in ((39, 12), (39, 13), (15, 20), (16, 20), (2, 24))]
+        self.assertEqual(found, [1, 3, 1, 2, 1])
+
     def test_the_lines_of_a_crates_proofs_are_counted(self) -> None:
         with tempfile.TemporaryDirectory() as folder:
             for name, text in (("proofs/Lib.antt", "a\nb\n"), ("proofs/f/Answers.antt", "c\n"), ("src/lib.rt", "d\n")):

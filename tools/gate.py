@@ -14,13 +14,14 @@ anything failed. The environment's RT is the command to call in place of `rt`.
 `rt ci` begins a proof only where the most memory that it may take is free, so that a long one may wait for others, and
 processors stand idle. Where 5 GB are free for each processor, RT_JOBS is set to the number of processors, if the environment
 has none: so many proofs are then run side by side. Until `rt ci` has ended, edits are tried in one check fewer at a time than
-there are processors, and after that in as many. Where crates wait, the one with the longest proofs comes first. The edits of the
-crate that is ready last are tried in parts, side by side.
+there are processors, and after that in as many. Where crates wait, the one with the longest proofs comes first. The edits of a
+crate that is ready in the second half are tried in parts, side by side, so that no long check is left at the end.
 """
 import argparse
 import contextlib
 import functools
 import heapq
+import math
 import os
 import pathlib
 import re
@@ -41,6 +42,7 @@ from crates import Crate, below, crates_in
 TOP = pathlib.Path(__file__).resolve().parent.parent
 RT = os.environ.get("RT", "rt").split()
 REFUSALS = 20
+MOST_OF_A_PART = 15
 PROVED = re.compile(r"rt: (\w+) (?:proved|is kept)\b.*\n?")
 COUNTS = re.compile(r"(\d+) passed, (\d+) failed\n?")
 MOST_OF_A_PROOF = 5_000_000_000
@@ -152,6 +154,16 @@ def proof_lines(crate: pathlib.Path) -> int:
     return sum(it.read_bytes().count(b"\n") for it in (crate / "proofs").rglob("*.antt"))
 
 
+def number_of_edits(name: str) -> int:
+    """How many must-fail edits a crate has."""
+    return len(must_fail.edits_of(TOP / "crates" / name))
+
+
+def parts_of(edits: int, proved: int, crates: int) -> int:
+    """In how many parts so many edits are tried that are ready once so many of the crates are proved."""
+    return math.ceil(edits / MOST_OF_A_PART) if 2 * proved > crates else 1
+
+
 class PrioritySemaphore:
     """A semaphore: of those that wait, the one of the highest priority comes first."""
 
@@ -203,13 +215,13 @@ def gate(tree: pathlib.Path, log: Log, test_program: Callable[[], int]) -> tuple
         with checks.held(proof_lines(TOP / "crates" / name)):
             return must_fail.try_crate(tree, name, part, parts)
 
-    with ThreadPoolExecutor(len(left) + at_once) as pool:
+    with ThreadPoolExecutor(max(1, sum(number_of_edits(it) for it in left))) as pool:
 
         def begin(*those: str) -> None:
             proved.update(those)
             for it in ready(crates, left, proved):
                 if it not in begun:
-                    parts = at_once if len(begun) + 1 == len(left) else 1
+                    parts = parts_of(number_of_edits(it), len(proved), len(crates))
                     begun[it] = [pool.submit(try_part, it, part, parts) for part in range(parts)]
 
         begin()
@@ -226,7 +238,7 @@ def gate(tree: pathlib.Path, log: Log, test_program: Callable[[], int]) -> tuple
     for line in table(running, tried, time.monotonic() - began):
         log.say(line)
     refused = sum(it.refused() for it in tried)
-    every = sum(len(must_fail.edits_of(TOP / "crates" / it)) for it in left)
+    every = sum(number_of_edits(it) for it in left)
     return passed + refused, failed + every - refused
 
 
