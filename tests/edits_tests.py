@@ -123,6 +123,8 @@ class MustFail(unittest.TestCase):
         self.assertEqual(self.refusals(*unproved, goal, error), [True, True])
         of_type = "note: src/pair.rt:9:5: `search` found no proof (`invariant_of-self`); `search` gave up at one of its limits"
         self.assertEqual(self.refusals(*unproved, of_type), [True, False])
+        broke_off = f"note: {must_fail.OF_SEARCH}src/pair.rt:9:5: error: `returns-clause-value`: give the call less to do"
+        self.assertEqual(self.refusals(*unproved, broke_off), [True, False])
 
     def test_a_function_is_not_refused_for_what_it_calls_or_for_a_name(self) -> None:
         called = "fn low::pair::PairClone::clone: no proof: it calls `low::pair::Pair::first`, which is not proved"

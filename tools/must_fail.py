@@ -46,8 +46,9 @@ PARTS = ("src", "specs", "proofs")
 # what a check says of a function that is not proved, and of one that calls such a one
 VERDICT = re.compile(r"fn (\w+)::(\S+): (not proved|no proof: .*|could not tell.*)")
 CALLS = "no proof: it calls "
-# a place in a file, and what is told of it
-TOLD = re.compile(r"(?:note: )?(?:\./)?((?:src|specs|proofs)/[^:]+):(\d+):\d+: (.*)")
+# a place in a file, and what is told of it, also where a search broke off at one of its limits
+OF_SEARCH = "what antt said of a `search` in the proof that rattle made: "
+TOLD = re.compile(rf"(?:note: )?(?:{OF_SEARCH})?(?:\./)?((?:src|specs|proofs)/[^:]+):(\d+):\d+: (.*)")
 # what is told where an edit takes a name away that a proof file has
 OF_NAMES = re.compile(r"has no field|is not in scope|has no `|was not admitted")
 # what is told of a clause that cannot be read, and not of what it says
