@@ -6,7 +6,7 @@ from concurrent.futures import FIRST_COMPLETED, Future, ThreadPoolExecutor, wait
 from crates import Crate, below
 
 # of the lines of the longest chain of crates: a crate whose own longest chain has so few fewer stands in it
-SPARE = 0.15
+SPARE = 0.1
 # how much a crate would give way whose chain had none of those lines
 GIVES_WAY = 10
 
