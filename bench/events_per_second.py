@@ -27,8 +27,8 @@ from collections.abc import Callable
 from typing import NamedTuple
 
 sys.dont_write_bytecode = True
-sys.path.insert(0, str(pathlib.Path(__file__).resolve().parent.parent / "tests"))
 
+import measuring
 from program import TOP, Program
 
 SOURCES = TOP / "bench" / "baseline"
@@ -39,15 +39,16 @@ GROWTH = [(16, 256), (256, 1024)]
 
 
 class Scenario(NamedTuple):
-    """A generated scenario; `drops` and `sessions` are lists of the lines of these elements."""
+    """A generated scenario: the link and the number of each packet that is dropped, and the member and the time of each session
+    message."""
 
     name: str
     shape: str
     nodes: int
     draws: int
     until: int
-    drops: list[str]
-    sessions: list[str]
+    drops: list[tuple[int, int]]
+    sessions: list[tuple[int, int]]
 
 
 # what is measured of each program: instructions, or seconds
@@ -56,20 +57,16 @@ Figures = list[float]
 ByRow = dict[tuple[str, int, int], Figures]
 
 
-def drop(link: int, count: int) -> str:
-    return f"[[drop]]\nlink = {link}\nsender = 0\ncount = {count}"
-
-
 def ordinary(shape: str, nodes: int, draws: int) -> Scenario:
     """One sender; of its packets 0, 10, 20 .. below `draws` each is dropped, at link 0, 10, 20 .. in turn."""
-    drops = [drop(count % (nodes - 1), count) for count in range(0, draws, 10)]
+    drops = [(count % (nodes - 1), count) for count in range(0, draws, 10)]
     return Scenario(f"{shape} of {nodes}, {draws:,} draws", shape, nodes, draws, 2_000_000, drops, [])
 
 
 def at_the_limits() -> Scenario:
     """256 nodes and members, and 4,096 draws, session messages and drops each: as many as version 1 of the format allows."""
-    drops = [drop(count % 255, count) for count in range(4096)]
-    sessions = [f"[[session]]\nmember = {k % 256}\nat = {k * 1000 + 500}" for k in range(4096)]
+    drops = [(count % 255, count) for count in range(4096)]
+    sessions = [(k % 256, k * 1000 + 500) for k in range(4096)]
     return Scenario("at the limits", "chain", 256, 4096, 2**40, drops, sessions)
 
 
@@ -86,18 +83,10 @@ def scenarios_of_instructions() -> list[Scenario]:
 
 
 def text_of(scenario: Scenario) -> bytes:
-    """The scenario as a file's text. Each node but a star's hub has a member, and the first of them is the sender."""
-    shape, first = scenario.shape, 1 if scenario.shape == "star" else 0
-    version = 1 if scenario.nodes <= 256 else 2
-    lines = [f"version = {version}", f"until = {scenario.until}", "c1 = 2000", "c2 = 2000", "d1 = 1000", "d2 = 1000"]
-    lines += [f'topology = "{shape}"', f"size = {scenario.nodes}", "delay = 5"]
-    lines += ["degree = 4"] if shape == "tree" else []
-    for node in range(first, scenario.nodes):
-        role = "sender" if node == first else "receiver"
-        lines += ["[[member]]", f"node = {node}", f'role = "{role}"', f"stream = {node}"]
-    for ink in range(scenario.draws):
-        lines += ["[[draw]]", "member = 0", "page = 0", f"ink = {ink}", f"at = {ink * 1000}"]
-    return ("\n".join(lines + scenario.sessions + scenario.drops) + "\n").encode()
+    """The scenario as a file's text."""
+    it = scenario
+    return measuring.scenario(it.shape, it.nodes, delay=5, until=it.until, draws=it.draws, spacing=1000, drops=it.drops,
+                              width=(2000, 1000), sessions=it.sessions)
 
 
 def baseline() -> Program | None:

@@ -23,7 +23,6 @@ from collections.abc import Iterator
 from typing import Any, NamedTuple
 
 sys.dont_write_bytecode = True
-sys.path.insert(0, str(pathlib.Path(__file__).resolve().parent.parent / "tests"))
 
 from events_per_second import baseline, compare, instructions, times
 from peak_memory import measure

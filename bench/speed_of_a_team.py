@@ -16,11 +16,11 @@ from collections.abc import Iterator
 from typing import NamedTuple
 
 sys.dont_write_bytecode = True
-sys.path.insert(0, str(pathlib.Path(__file__).resolve().parent.parent / "tests"))
 
+import measuring
 import pandas
 from program import Program
-from time_of_engines import is_read, scenario, timed
+from time_of_engines import is_read, scenario
 
 COLUMNS = ["series", "members", "delay", "workers", "table", "step", "team"]
 TABLES = ("links", "trace")
@@ -55,14 +55,9 @@ def least_times(program: Program, setting: Setting, table: str, repeat: int) -> 
     text = scenario("tree", setting.members, setting.delay, DRAWS)
     if not is_read(program, str(setting), text):
         sys.exit(1)
-    step = team = float("inf")
-    for _ in range(repeat):
-        reference, alone = timed(program, ["--show", table], text)
-        written, together = timed(program, ["--show", table, *words(setting)], text)
-        if written != reference:
-            sys.exit(f"{setting}: not the bytes of the sequential engine")
-        step, team = min(step, alone), min(team, together)
-    return step, team
+    ways = {"step": ["--show", table], "team": ["--show", table, *words(setting)]}
+    times, _ = measuring.least_times(program, text, ways, repeat)
+    return times["step"], times["team"]
 
 
 def measured(program: Program, known: pandas.DataFrame, repeat: int) -> Iterator[list[object]]:

@@ -16,15 +16,13 @@ time of N runs, and that time over the sequential engine's. It asserts nothing a
          not read is left out, and told: more than 1,024 nodes need version 3 of the format (docs/FORMATS.md).
 """
 import argparse
-import pathlib
 import sys
-import time
 from collections.abc import Iterator
 from typing import NamedTuple
 
 sys.dont_write_bytecode = True
-sys.path.insert(0, str(pathlib.Path(__file__).resolve().parent.parent / "tests"))
 
+import measuring
 from program import Program
 
 DRAWS = 4096
@@ -58,20 +56,10 @@ CASES = [
 
 
 def scenario(shape: str, nodes: int, delay: int, draws: int) -> bytes:
-    """The text of a scenario. Timers have no random part."""
-    first = 1 if shape == "star" else 0
-    version = next(version for version, most in ((1, 256), (2, 1024), (3, 65535)) if nodes <= most)
-    lines = [f"version = {version}", f"until = {draws * SPACING + 100 * delay * nodes}"]
-    lines += ["c1 = 2000", "c2 = 0", "d1 = 1000", "d2 = 0", f'topology = "{shape}"', f"size = {nodes}", f"delay = {delay}"]
-    lines += ["degree = 4"] if shape == "tree" else []
-    for node in range(first, nodes):
-        role = "sender" if node == first else "receiver"
-        lines += ["[[member]]", f"node = {node}", f'role = "{role}"', f"stream = {node}"]
-    for draw in range(draws):
-        lines += ["[[draw]]", "member = 0", "page = 0", f"ink = {draw}", f"at = {draw * SPACING}"]
-    for number, count in enumerate(range(0, draws, DROPPED)):
-        lines += ["[[drop]]", f"link = {number % (nodes - 1)}", "sender = 0", f"count = {count}"]
-    return ("\n".join(lines) + "\n").encode()
+    """The text of a scenario."""
+    drops = [(number % (nodes - 1), count) for number, count in enumerate(range(0, draws, DROPPED))]
+    until = draws * SPACING + 100 * delay * nodes
+    return measuring.scenario(shape, nodes, delay=delay, until=until, draws=draws, spacing=SPACING, drops=drops)
 
 
 def engines(nodes: int, workers: int) -> dict[str, list[str]]:
@@ -79,27 +67,6 @@ def engines(nodes: int, workers: int) -> dict[str, list[str]]:
     cut = min(MOST_CUT, max(1, nodes // (4 * workers)))
     window = ["--engine", "window", "--width", "least", "--workers", str(workers), "--cut", str(cut)]
     return {"step": [], **{f"window, {crew}": [*window, "--crew", crew] for crew in ("plain", "pool", "bag", "team")}}
-
-
-def timed(program: Program, words: list[str], text: bytes) -> tuple[bytes, float]:
-    """What a run writes, and its wall time in seconds."""
-    begin = time.perf_counter()
-    written = program.written(words, text)
-    return written, time.perf_counter() - begin
-
-
-def least_times(table: str, nodes: int, text: bytes, options: argparse.Namespace) -> dict[str, float]:
-    """The least time of each engine for a table, which run in turn."""
-    least: dict[str, float] = {}
-    reference: bytes | None = None
-    for _ in range(options.repeat):
-        for name, words in engines(nodes, options.workers).items():
-            written, spent = timed(options.program, ["--show", table, *words], text)
-            reference = reference or written
-            if written != reference:
-                sys.exit(f"{name}: not the bytes of the sequential engine")
-            least[name] = min(spent, least.get(name, spent))
-    return least
 
 
 def is_read(program: Program, name: str, text: bytes) -> bool:
@@ -135,7 +102,8 @@ def main() -> None:
     for case in asked(options):
         text = scenario(case.shape, case.nodes, case.delay, case.draws)
         for table in case.tables if is_read(options.program, case.name, text) else ():
-            times = least_times(table, case.nodes, text, options)
+            ways = {name: ["--show", table, *words] for name, words in engines(case.nodes, options.workers).items()}
+            times, _ = measuring.least_times(options.program, text, ways, options.repeat)
             for name, spent in times.items():
                 print(f"{case.name:32} {table:5} {name:14} {spent:8.3f} {spent / times['step']:9.2f}", flush=True)
 

@@ -7,13 +7,6 @@ check-experiments: $(SRM_LAB) ## runs a linter and a type checker over all Pytho
 	cd python && SRM_LAB=$(abspath $(SRM_LAB)) $(PYTHON) -m pytest -q -p no:cacheprovider
 	@$(MAKE) --no-print-directory check-tutorial
 
-# what of the Python package needs no package runs in the merge gate
-.PHONY: test-python
-test: test-python
-
-test-python: ## reads each scenario of the repository with the Python package, and compares its tables with those that stand there
-	@python/tests/plain.py
-
 # time and memory beside the plain program of bench/, which `make bench` builds too, and beside ns-2
 PLAIN := out/baseline
 

@@ -16,9 +16,9 @@ FILES = sorted([*(ROOT / "examples").glob("*.toml"), *(ROOT / "tests/scenarios")
 
 
 def refusals():
-    """The texts of tests/refusals.txt, each with what the program answers."""
-    sys.path.insert(0, str(ROOT / "tests"))  # for the modules that it uses
-    spec = importlib.util.spec_from_file_location("refusals", ROOT / "tests/refusals.py")
+    """The texts of tests/program/refusals.txt, each with what the program answers."""
+    sys.path.insert(0, str(ROOT / "tests/program"))  # for the modules that it uses
+    spec = importlib.util.spec_from_file_location("refusals", ROOT / "tests/program/refusals.py")
     assert spec is not None and spec.loader is not None
     module = importlib.util.module_from_spec(spec)
     spec.loader.exec_module(module)

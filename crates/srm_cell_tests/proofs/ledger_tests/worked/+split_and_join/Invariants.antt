@@ -1,4 +1,0 @@
-use Rattle.srm_cell_tests.proofs.ledger_tests.worked.+split_and_join.Given as goal
-
-abbrev pub decreases-split_and_join : goal.decreases-split_and_join
-decreases-split_and_join g l = l.times

@@ -1,0 +1,538 @@
+#!/usr/bin/env python3
+"""Runs the built program with each option, written in each way, and sees by what the run does that it was understood.
+
+usage: tests/program/command_line.py [-q] [TEST ..]
+
+A seed is seen by the trace, which fuzz_replay.py holds to the model; an engine by whether it refuses a cut of 0, a width by which
+least delay is wide enough for it, a crew and its workers by the threads that are started, and a cut by how much memory is asked
+for, which grows with the jobs of a window. That a trace is written as the run goes is seen by the memory that is asked for where
+its output takes nothing. Needs a C compiler, `cc`, for the libraries that count. What is refused is in
+compare_program.py and hostile.py too; here stand each option's words.
+"""
+import functools
+import itertools
+import os
+import pathlib
+import subprocess
+import sys
+import tempfile
+import time
+import tomllib
+import unittest
+from collections.abc import Sequence
+
+sys.dont_write_bytecode = True
+sys.path.append(str(pathlib.Path(__file__).resolve().parent.parent / "fuzz"))
+
+import fuzz
+import fuzz_format
+from preloaded import Environment, Library
+from program import LONGEST, REFUSED_LINE, TOP, VERSION, End, refused
+from program_case import ProgramCase, main, narrow
+
+EXAMPLES = TOP / "examples"
+CHAIN = (EXAMPLES / "chain-of-five-one-loss.toml").read_bytes()
+TRACE = (EXAMPLES / "chain-of-five-one-loss.trace.csv").read_bytes()
+DRAWN = (EXAMPLES / "drawn-timers.toml").read_bytes()
+NO_WORDS: list[str] = []
+WINDOW = ["--engine", "window"]
+LINKS = ["--show", "links"]
+BAD_CUT, BAD_WIDTH = refused("bad-cut"), refused("bad-width")
+FULL = "/dev/full"
+# runs, of which each takes up to some two seconds beside others
+TRIES = 10
+
+# One window and one job: a network of one node has no least delay.
+LONE = b"""\
+version = 1
+until = 50
+c1 = 1000
+c2 = 0
+d1 = 1000
+d2 = 0
+nodes = 1
+member = [{ node = 0, role = "sender", stream = 1 }]
+draw = [{ member = 0, page = 0, ink = 7, at = 0 }]
+"""
+
+
+@functools.cache
+def library(name: str) -> Library:
+    """The library of this name, built when it is first asked for, and removed after the last test."""
+    folder = tempfile.TemporaryDirectory()
+    unittest.addModuleCleanup(folder.cleanup)
+    return Library(name, folder.name)
+
+
+class CommandLineCase(ProgramCase):
+    def ended(self, words: Sequence[str], text: bytes = CHAIN) -> tuple[End, int]:
+        """How a run on this text ends, and how much of the text was left unread."""
+        return self.program.run_on_pipe(words, text)
+
+    def counted(self, name: str, words: Sequence[str], text: bytes, output: str = os.devnull) -> int:
+        """How often a run does what a library counts."""
+
+        def run(environment: Environment) -> None:
+            with open(output, "wb") as taken:
+                self.program.run(words, text, stdout=taken, env=environment)
+
+        return library(name).counted(run)
+
+    def threads(self, words: Sequence[str], text: bytes = LONE) -> int:
+        """How many threads a run starts."""
+        return self.counted("refuse_threads", words, text)
+
+    def allocations(self, words: Sequence[str], text: bytes, output: str = os.devnull) -> int:
+        """How many allocations a run makes beside those for its words, which a refused text shows."""
+        return self.counted("refuse_allocation", words, text, output) - self.counted("refuse_allocation", words, b"[")
+
+    def allocations_until_closed(self, words: Sequence[str], text: bytes, most: int) -> int:
+        """How many allocations a run makes whose output is closed once so many bytes were read, beside those for its words."""
+        run = functools.partial(self.run_and_close, words, text, most)
+        return library("refuse_allocation").counted(run) - self.counted("refuse_allocation", words, b"[")
+
+    def run_and_close(self, words: Sequence[str], text: bytes, most: int, environment: Environment) -> None:
+        """Runs the program, reads so many bytes of its output, and closes that."""
+        with tempfile.TemporaryFile() as given:
+            given.write(text)
+            given.seek(0)
+            streams = {"stdin": given, "stdout": subprocess.PIPE, "stderr": subprocess.DEVNULL}
+            with self.program.start(words, **streams, env=environment) as child:
+                assert child.stdout is not None
+                child.stdout.read(most)
+                child.stdout.close()
+                child.wait(LONGEST)
+
+    def are_busy(self, words: Sequence[str], text: bytes, many: int) -> bool:
+        """Whether so many threads of one run take processor time, of a run that is tried several times.
+
+        Beside other work a thread may get less of it than is seen, or end before it is looked at.
+        """
+        return any(len(self.busy(words, text, many)) == many for _ in range(TRIES))
+
+    def busy(self, words: Sequence[str], text: bytes, most: int) -> set[str]:
+        """The threads of a run that take processor time: all, or so many."""
+        worked: set[str] = set()
+        with tempfile.TemporaryFile() as given:
+            given.write(text)
+            given.seek(0)
+            with self.program.start(words, stdin=given, stdout=subprocess.DEVNULL) as child:
+                while len(worked) < most and child.poll() is None:
+                    worked |= busy_threads(child.pid)
+                    time.sleep(0.01)
+                child.wait(LONGEST)
+        return worked
+
+    def writes(self, words: Sequence[str], text: bytes) -> tuple[int, int]:
+        """How many bytes a run writes, and by how many calls that write, its line of errors included."""
+        with tempfile.TemporaryFile() as given, tempfile.TemporaryFile() as taken:
+            given.write(text)
+            given.seek(0)
+            child = self.program.start(words, stdin=given, stdout=taken)
+            os.waitid(os.P_PID, child.pid, os.WEXITED | os.WNOWAIT)
+            told = dict(line.split(": ") for line in pathlib.Path(f"/proc/{child.pid}/io").read_text().splitlines())
+            self.assertEqual(child.wait(), 0)
+            return int(told["wchar"]), int(told["syscw"])
+
+
+def busy_threads(process: int) -> set[str]:
+    """The threads of a process that took processor time so far."""
+    busy = set()
+    for thread in pathlib.Path(f"/proc/{process}/task").glob("*"):
+        try:
+            # what stands after the name of the thread; its time and the system's for it are fields 14 and 15 of all
+            fields = (thread / "stat").read_text().rpartition(")")[2].split()
+        except OSError:
+            continue
+        if int(fields[11]) + int(fields[12]) > 0:
+            busy.add(thread.name)
+    return busy
+
+
+def member(node: int, role: str) -> str:
+    """A line of an array of members."""
+    return f'  {{ node = {node}, role = "{role}", stream = 0 }},\n'
+
+
+def chain(nodes: int, delay: int, apart: int = 90) -> bytes:
+    """A chain with a listener on each node, but for a sender on the first, which draws at tick 0 and so many ticks apart."""
+    members = "".join(member(node, "listener" if node else "sender") for node in range(nodes))
+    draws = "".join(f"  {{ member = 0, page = 0, ink = 7, at = {at} }},\n" for at in range(0, 91, apart))
+    top = f'version = 1\nuntil = 100\nc1 = 0\nc2 = 0\nd1 = 0\nd2 = 0\ntopology = "chain"\nsize = {nodes}\ndelay = {delay}\n'
+    return f"{top}member = [\n{members}]\ndraw = [\n{draws}]\n".encode()
+
+
+def star(members: int, draws: int) -> bytes:
+    """A star of listeners round a node, but for a sender that draws so many times, every second tick: each hears each draw."""
+    roles = "".join(member(node, "sender" if node == 1 else "listener") for node in range(1, members + 1))
+    drawn = "".join(f"  {{ member = 0, page = 0, ink = 7, at = {2 * at} }},\n" for at in range(draws))
+    version = 1 if members < 256 else 2
+    top = f"version = {version}\nuntil = {2 * draws + 10}\nc1 = 0\nc2 = 0\nd1 = 0\nd2 = 0\n"
+    top += f'topology = "star"\nsize = {members + 1}\ndelay = 1\n'
+    return f"{top}member = [\n{roles}]\ndraw = [\n{drawn}]\n".encode()
+
+
+class Seeds(CommandLineCase):
+    def check(self, words: list[str], seed: int) -> bytes:
+        """Holds the trace of a run whose timers are drawn to the model, with this seed."""
+        (status, trace, told), _ = self.ended(words, DRAWN)
+        self.assertEqual((status, told), (0, b""))
+        fuzz.expected(fuzz_format.Scenario(tomllib.loads(DRAWN.decode())), seed, trace)
+        return trace
+
+    def test_each_way_to_write_a_seed(self) -> None:
+        for words, seed in (
+            (NO_WORDS, 0),
+            (["--seed", "0"], 0),
+            (["--seed", "42"], 42),
+            (["--seed=42"], 42),
+            (["--seed", "+7"], 7),
+            (["--seed", "007"], 7),
+            (["--seed", "9223372036854775807"], 9223372036854775807),
+            (["--show", "trace", "--seed", "3"], 3),
+        ):
+            with self.subTest(words=words):
+                self.check(words, seed)
+
+    def test_seeds_are_told_apart(self) -> None:
+        self.assertNotEqual(self.check(["--seed", "42"], 42), self.check([], 0))
+        self.assertEqual(self.check(["--seed", "42"], 42), (EXAMPLES / "drawn-timers.seed-42.trace.csv").read_bytes())
+
+
+class Writes(CommandLineCase):
+    def test_a_long_trace_is_written_in_large_pieces(self) -> None:
+        """Some 160,000 rows are written by at most 2,000 calls, though they come 32 at a time."""
+        for words in (NO_WORDS, WINDOW):
+            with self.subTest(words=words):
+                size, calls = self.writes(words, star(255, 625))
+                self.assertGreater(size, 2_000_000)
+                self.assertLessEqual(calls, 2_000)
+
+
+class Tables(CommandLineCase):
+    def test_each_table(self) -> None:
+        for words, show in (
+            (NO_WORDS, "trace"),
+            (["--show", "trace"], "trace"),
+            (["--show", "members"], "members"),
+            (["--show", "losses"], "losses"),
+            (["--show=links"], "links"),
+            (["--show", "links", "--seed", "3"], "links"),
+            (["--show", "timers"], "timers"),
+        ):
+            with self.subTest(words=words):
+                table = (EXAMPLES / f"chain-of-five-one-loss.{show}.csv").read_bytes()
+                self.assertEqual(self.ended(words)[0], (0, table, b""))
+
+
+class Windows(CommandLineCase):
+    def test_only_the_run_in_windows_refuses_a_cut_of_0(self) -> None:
+        for words, end in (
+            (NO_WORDS, End(0, TRACE, b"")),
+            (["--engine", "step"], End(0, TRACE, b"")),
+            (["--engine=window"], BAD_CUT),
+            (["--engine", "window"], BAD_CUT),
+        ):
+            with self.subTest(words=words):
+                self.assertEqual(self.ended([*words, "--cut", "0"])[0], end)
+
+    def test_a_width_is_the_least_delay_that_is_wide_enough(self) -> None:
+        for word, least in (("=1", 1), ("=0007", 7), (" 7", 7), (" 12", 12)):
+            words = [*WINDOW, *f"--width{word}".split()]
+            with self.subTest(words=words):
+                self.assertEqual(self.ended(words, chain(3, least))[0][0], 0)
+                if least > 1:
+                    self.assertEqual(self.ended(words, chain(3, least - 1))[0], BAD_WIDTH)
+
+    def test_widths_that_no_network_with_a_link_allows(self) -> None:
+        for width in ("0", "18446744073709551615"):
+            with self.subTest(width=width):
+                self.assertEqual(self.ended([*WINDOW, "--width", width])[0], BAD_WIDTH)
+
+    def test_a_width_of_two_is_refused_where_a_link_takes_one_tick_in_either_direction(self) -> None:
+        there_in_one = (EXAMPLES / "two-way-delays.toml").read_bytes()
+        back_in_one = there_in_one.replace(b"delay = 1\nback = 3", b"delay = 3\nback = 1")
+        self.assertNotEqual(back_in_one, there_in_one)
+        for text in (there_in_one, back_in_one):
+            with self.subTest(text=text):
+                self.assertEqual(self.ended([*WINDOW, "--width", "2"], text)[0], BAD_WIDTH)
+                self.assertEqual(self.ended([*WINDOW, "--width", "1"], text)[0][0], 0)
+
+    def test_windows_are_as_wide_as_a_link_unless_another_width_is_asked_for(self) -> None:
+        text = chain(3, 7, 3)
+        least = self.allocations(WINDOW, text)
+        self.assertEqual(self.allocations([*WINDOW, "--width", "least"], text), least)
+        self.assertEqual(self.allocations([*WINDOW, "--width", "7"], text), least)
+        # narrower windows are more, and those of promises fewer, since listeners send nothing
+        self.assertGreater(self.allocations([*WINDOW, "--width", "2"], text), least)
+        self.assertLess(self.allocations([*WINDOW, "--width", "promise"], text), least)
+
+    def test_more_members_in_a_job_are_fewer_jobs(self) -> None:
+        text = chain(20, 1)
+        asked = {cut: self.allocations([*WINDOW, "--cut", cut], text) for cut in ("1", "2", "9", "10", "0010", "20", "1024")}
+        self.assertEqual(self.allocations(WINDOW, text), asked["1"])
+        self.assertEqual(asked["0010"], asked["10"])
+        self.assertEqual(asked["20"], asked["1024"])
+        # 20, 10, 3, 2 jobs and one
+        jobs = [asked[cut] for cut in ("1", "2", "9", "10", "20")]
+        self.assertEqual(jobs, sorted(set(jobs), reverse=True))
+
+
+class Traces(CommandLineCase):
+    def test_rows_are_written_before_the_run_ends(self) -> None:
+        text = chain(40, 1, 1)
+        promised = [*WINDOW, "--width", "promise", "--cut", "7"]
+        for words in (NO_WORDS, WINDOW, promised, *([*WINDOW, "--crew", crew] for crew in ("pool", "bag", "team"))):
+            with self.subTest(words=words):
+                self.assertLess(self.allocations(words, text, FULL), 3 / 4 * self.allocations(words, text))
+
+    def test_a_long_run_ends_soon_after_its_output_is_closed(self) -> None:
+        """Of some 160,000 rows, in over 2,000,000 bytes, 20,000 bytes are read; a pipe keeps 64 KiB more."""
+        text = star(255, 625)
+        for words in (NO_WORDS, WINDOW):
+            with self.subTest(words=words):
+                # those before the first row
+                begun = self.allocations(words, text, FULL)
+                left = self.allocations_until_closed(words, text, 20_000) - begun
+                self.assertLess(left, 1 / 4 * (self.allocations(words, text) - begun))
+
+    def test_other_tables_are_written_at_the_end(self) -> None:
+        text = chain(40, 1, 1)
+        for table in ("members", "losses", "links"):
+            words = ["--show", table]
+            with self.subTest(words=words):
+                self.assertGreater(self.allocations(words, text, FULL), 9 / 10 * self.allocations(words, text))
+
+
+class Crews(CommandLineCase):
+    def test_workers_of_a_bag_and_of_a_team_are_threads_beside_the_first(self) -> None:
+        numbers = ((["--workers", "1"], 0), (["--workers", "2"], 1), (["--workers=7"], 6), (["--workers", "+64"], 63))
+        given = ((NO_WORDS, 0), *numbers)
+        for crew, (words, more) in itertools.product(("bag", "team"), given):
+            with self.subTest(crew=crew, words=words):
+                if (crew, words) != ("team", NO_WORDS):
+                    self.assertEqual(self.threads([*WINDOW, *LINKS, "--crew", crew, *words]), more)
+
+    def test_a_team_has_as_many_threads_again_for_the_text_of_rows(self) -> None:
+        for table, workers in itertools.product(("trace", "timers"), (1, 2, 7, 64)):
+            words = [*WINDOW, "--show", table, "--workers", str(workers), "--crew"]
+            with self.subTest(words=words):
+                self.assertEqual(self.threads([*words, "team"]), 2 * (workers - 1))
+                self.assertEqual(self.threads([*words, "bag"]), workers - 1)
+
+    def test_a_team_has_a_worker_for_each_processor(self) -> None:
+        processors = os.sched_getaffinity(0)
+        self.addCleanup(os.sched_setaffinity, 0, processors)
+        for count in range(1, min(4, len(processors)) + 1):
+            with self.subTest(count=count):
+                os.sched_setaffinity(0, sorted(processors)[:count])
+                self.assertEqual(self.threads([*WINDOW, *LINKS, "--crew", "team"]), count - 1)
+                self.assertEqual(self.threads([*WINDOW, "--crew", "bag"]), 0)
+
+    def test_a_team_starts_its_threads_once(self) -> None:
+        words = [*WINDOW, "--crew", "team", "--workers", "3"]
+        self.assertEqual(self.threads([*words, *LINKS], chain(20, 1)), 2)
+        self.assertEqual(self.threads(words, chain(20, 1)), 4)
+
+    def test_each_worker_of_a_team_works(self) -> None:
+        """By the processor time of each thread, of which one that is handed nothing takes none."""
+        words = [*WINDOW, *LINKS, "--crew", "team", "--workers", "3"]
+        self.assertTrue(self.are_busy(words, star(1023, 625), 3))
+
+    def test_each_worker_of_a_team_makes_text(self) -> None:
+        """Besides those that work for the members, and the thread that leads."""
+        words = [*WINDOW, "--crew", "team", "--workers", "3"]
+        self.assertTrue(self.are_busy(words, star(1023, 625), 5))
+
+    def test_the_threads_that_there_are_do_the_work_of_those_that_are_refused(self) -> None:
+        """By the bytes, which are those of one event after the other, whichever thread is the first that is refused."""
+        text = star(1023, 20)
+        tables = ((NO_WORDS, 6), (LINKS, 3))
+        for (table, of_team), crew in itertools.product(tables, ("team", "bag", "pool")):
+            wanted = End(0, self.program.written(table, text), b"")
+            words = [*WINDOW, *table, "--crew", crew, "--workers", "4"]
+            for first in range(1, (of_team if crew == "team" else 3) + 1):
+                with self.subTest(words=words, first=first):
+                    self.assertEqual(self.program.run(words, text, env=library("refuse_threads").refusing(first)), wanted)
+
+    def test_no_other_run_starts_a_thread_for_each_worker(self) -> None:
+        of_steps = (["--crew", crew] for crew in ("bag", "team", "pool"))
+        others = (NO_WORDS, ["--engine", "step"], WINDOW, [*WINDOW, "--crew", "plain"], *of_steps)
+        for words in others:
+            with self.subTest(words=words):
+                self.assertEqual(self.threads([*words, "--workers", "3"]), 0)
+
+    def test_a_pool_has_threads_of_its_own(self) -> None:
+        self.assertGreater(self.threads([*WINDOW, "--crew", "pool"], chain(20, 1)), 0)
+        self.assertEqual(self.threads([*WINDOW, "--crew", "plain"], chain(20, 1)), 0)
+
+    def test_a_pool_has_a_thread_for_each_processor(self) -> None:
+        """In a window of many jobs, where the processors are a power of two. The thread that calls is one of them."""
+        processors = os.sched_getaffinity(0)
+        self.addCleanup(os.sched_setaffinity, 0, processors)
+        for many in (1, 2, 4, 8):
+            if many <= len(processors):
+                os.sched_setaffinity(0, sorted(processors)[:many])
+                with self.subTest(processors=many):
+                    self.assertEqual(self.threads([*WINDOW, "--crew", "pool"], chain(64, 100)), many - 1)
+
+    def test_a_bag_is_asked_for_by_its_name_alone(self) -> None:
+        text = chain(20, 1)
+        plain, bag = (self.allocations([*WINDOW, "--crew", crew], text) for crew in ("plain", "bag"))
+        self.assertEqual(self.allocations(WINDOW, text), plain)
+        self.assertNotEqual(bag, plain)
+        self.assertNotEqual(*(self.threads([*WINDOW, "--crew", crew], text) for crew in ("bag", "pool")))
+        for crew in ("plain", "pool", "bag", "team"):
+            self.assertEqual(self.allocations(["--engine", "step", "--crew", crew], text), self.allocations([], text))
+
+    def test_options_in_any_order(self) -> None:
+        words = ["--width", "7", "--cut", "3", "--workers", "3", "--crew", "bag", "--engine", "window"]
+        self.assertEqual(self.threads(words, LONE), 2)
+        self.assertEqual(self.ended(words, chain(3, 7))[0][0], 0)
+        self.assertEqual(self.ended(words, chain(3, 6))[0], BAD_WIDTH)
+
+
+class Refused(CommandLineCase):
+    def check(self, all_words: list[list[str]]) -> None:
+        for words in all_words:
+            with self.subTest(words=words):
+                self.assertEqual(self.ended(words), (REFUSED_LINE, len(CHAIN)))
+
+    def test_numbers_that_do_not_fit(self) -> None:
+        self.check([
+            ["--seed", "9223372036854775808"], ["--seed", "18446744073709551616"],
+            ["--seed", "-1"], ["--seed", "x"], ["--seed", ""],
+            ["--workers", "65"], ["--workers", "0"], ["--workers", "two"],
+            ["--cut", "+1"], ["--cut", ""], ["--cut", "4294967296"], ["--cut", "one"],
+            ["--width", "+1"], ["--width", "18446744073709551616"],
+        ])
+
+    def test_words_that_are_none_of_their_options(self) -> None:
+        self.check([
+            ["--show", "colors"], ["--show", "Trace"], ["--show", "trace "], ["--show", ""], ["--show=tracelinks"],
+            ["--engine", "windows"], ["--engine", ""], ["--crew", "six"], ["--width", "Least"],
+        ])
+
+    def test_options_that_are_none_or_lack_something_or_stand_twice(self) -> None:
+        self.check([
+            ["--seed"], ["--show"], ["--seed", "1", "--seed", "2"], ["--show", "trace", "--show", "trace"],
+            ["--cut", "1", "--cut", "1"], ["--see", "1"], ["-s"], ["scenario.toml"], ["--show", "colors", "--seed", "x"],
+        ])
+
+    def test_a_mistake_before_help(self) -> None:
+        self.check([["--seed", "x", "--help"], ["--colors", "--help"]])
+
+    def test_a_line_that_is_not_taken_changes_no_status(self) -> None:
+        with tempfile.TemporaryFile() as errors:
+            end = self.program.run(["--show", "colors"], stderr=errors, **narrow(7))
+            errors.seek(0)
+            self.assertEqual(end._replace(told=errors.read()), (2, b"", b"command"))
+
+
+# What help says, line by line: the options of README's table, and the exit statuses of docs/FORMATS.md.
+HELP = """\
+Simulates loss recovery in SRM (Scalable Reliable Multicast), event by event.
+Reads a scenario (TOML) on standard input, and writes a table of its run (CSV) on standard output.
+
+Usage: srm_lab [OPTIONS]
+
+Options:
+      --seed <0..=9223372036854775807>
+          The seed of the members' random words [default: 0]
+      --show <trace|members|losses|links|timers>
+          The table: a row for each event, member, loss, link or adapted timer [default: trace]
+      --check
+          Only read and check the scenario, and write nothing
+      --explain
+          After the line of a refusal say what to mend
+  -h, --help
+          Print help
+  -V, --version
+          Print version
+
+Windows (advanced: how a run is worked out, the table is the same):
+      --engine <step|window>
+          One event at a time, or windows of time [default: step]
+      --crew <plain|pool|bag|team>
+          Who works in a window: one thread, a pool of threads, workers that share a bag, or a team that lasts [default: plain]
+      --workers <1..=64>
+          How many workers share the bag, or are the team, which has else one for each processor [default: 1]
+      --cut <N>
+          How many members a job of a window has, 1 to 1024 [default: 1]
+      --width <least|promise|N>
+          How wide windows are: the least delay of a link, as members promise, or ticks, from 1 to that delay [default: least]
+
+Exit status:
+  0  the table was written, or this help
+  1  refused: one line on standard error says why
+  2  the command line was refused, and standard input was not read
+
+Example:
+  srm_lab --seed 7 --show members < scenario.toml > members.csv
+
+With --explain a refusal says after its line what to mend.
+""".splitlines()
+
+
+class Checks(CommandLineCase):
+    def test_a_scenario_that_is_accepted_is_not_run(self) -> None:
+        for words in (["--check"], ["--check", "--explain"], ["--check", *WINDOW, "--cut", "0"], ["--show", "links", "--check"]):
+            with self.subTest(words=words):
+                self.assertEqual(self.ended(words), ((0, b"", b""), 0))
+
+    def test_one_that_is_not_is_refused_as_ever(self) -> None:
+        for text, line in ((b"", b"refused: bad-key top 0\n"), (b"[", b"refused: not-toml\n")):
+            self.assertEqual(self.ended(["--check"], text), ((1, b"", line), 0))
+
+
+class Explanations(CommandLineCase):
+    def check(self, words: list[str], *told: str) -> None:
+        (status, written, lines), unread = self.ended(["--explain", *words])
+        self.assertEqual((status, written, unread), (2, b"", len(CHAIN)))
+        self.assertTrue(lines.startswith(REFUSED_LINE.told))
+        for it in told:
+            self.assertIn(it, lines.decode())
+
+    def test_a_refused_word_is_named_and_what_may_stand_there(self) -> None:
+        self.check(["--crew", "six"], "'six'", "--crew", "plain, pool, bag, team")
+        self.check(["--shw", "links"], "'--shw'", "'--show'")
+        self.check(["--workers", "65"], "'65'", "1..=64")
+        self.check(["--cut", "+1"], "'+1'", "--cut <N>", "1 to 1024")
+        self.check(["--width", "Least"], "'Least'", "--width <least|promise|N>")
+        self.check(["--seed", "1", "--seed", "2"], "--seed", "multiple times")
+        self.check(["--seed"], "--seed", "value is required")
+
+    def test_a_run_that_is_not_refused_is_not_explained(self) -> None:
+        self.assertEqual(self.ended(["--explain"])[0], (0, TRACE, b""))
+
+    def test_a_closed_output_is_not_explained(self) -> None:
+        with open(FULL, "wb") as full:
+            self.assertEqual(self.program.run(["--explain"], CHAIN, stdout=full), refused("write-fault 0"))
+
+
+class Help(CommandLineCase):
+    def test_help_tells_each_option_and_each_status(self) -> None:
+        (status, text, told), unread = self.ended(["--help"])
+        self.assertEqual((status, told, unread), (0, b"", len(CHAIN)))
+        self.assertEqual(text.decode().splitlines(), HELP)
+
+    def test_help_that_is_met_first_is_given(self) -> None:
+        must = self.ended(["--help"])
+        for words in (["-h"], ["--show", "colors", "--help"], ["--help", "--show", "colors"], ["--seed", "1", "-h", "--colors"]):
+            with self.subTest(words=words):
+                self.assertEqual(self.ended(words), must)
+
+    def test_the_version_is_the_program_and_its_number(self) -> None:
+        for words in (["--version"], ["-V"]):
+            with self.subTest(words=words):
+                self.assertEqual(self.ended(words), ((0, VERSION, b""), len(CHAIN)))
+
+    def test_a_version_that_is_not_taken_whole(self) -> None:
+        with tempfile.TemporaryFile() as output:
+            end = self.program.run(["--version"], stdout=output, **narrow(10))
+            output.seek(0)
+            self.assertEqual(end._replace(written=output.read()), (1, b"srm_lab 0.", b"refused: write-fault 10\n"))
+
+
+if __name__ == "__main__":
+    main()
