@@ -433,8 +433,9 @@ class Refused(CommandLineCase):
 HELP = """\
 Simulates loss recovery in SRM (Scalable Reliable Multicast), event by event.
 Reads a scenario (TOML) on standard input, and writes a table of its run (CSV) on standard output.
+A refusal is one line on standard error; with --explain more lines say what to mend.
 
-Usage: srm_lab [OPTIONS]
+Usage: srm_lab [OPTIONS] < scenario.toml
 
 Options:
       --seed <0..=9223372036854775807>
@@ -469,8 +470,6 @@ Exit status:
 
 Example:
   srm_lab --seed 7 --show members < scenario.toml > members.csv
-
-With --explain a refusal says after its line what to mend.
 """.splitlines()
 
 

@@ -1,5 +1,7 @@
 -- What the words of the command line ask for.
-use Rattle.std.specs.Prelude.{◌≡◌, ℕ, ◌≤◌}
+use Rattle.std.specs.Prelude.{◌≡◌, ℕ, ◌≤◌, Bool, List, codes}
+use Rattle.std.specs.List.{list_any}
+use Rattle.std.specs.Str.{bytes_eq}
 use Rattle.clap.specs.declared.error.kind.ErrorKind.{ErrorKind}
 use Rattle.clap.specs.declared.error.kind.ErrorKind.TheVariants.{OutOfMemory, DisplayHelp, DisplayVersion}
 use Rattle.srm_command_line.specs.declared.command_line.Reader.{Reader}
@@ -26,3 +28,7 @@ TellsKind OutOfMemory f = f ≡ NoMemory
 TellsKind DisplayHelp f = GivesHelp f
 TellsKind DisplayVersion f = GivesHelp f
 TellsKind kind f = f ≡ Line
+
+-- one of these words, whose texts are told, asks that a refusal is explained
+abbrev pub asks_to_explain : {S : Type 0} → (S → List ℕ) → List S → Bool
+asks_to_explain text words = list_any (λ word. bytes_eq (text word) (codes "--explain")) words

@@ -1,7 +1,7 @@
 //! What the words of the command line ask for.
-ghost use Rattle.std.specs.Prelude.{◌≡◌, IfOk, IfSome};
+ghost use Rattle.std.specs.Prelude.{◌≡◌, IfOk, IfSome, false, [], string_bytes};
 ghost use Rattle.clap.specs.Words.{kind_of};
-ghost use Rattle.srm_command_line.specs.CommandLine.{TakesNumber, TellsKind};
+ghost use Rattle.srm_command_line.specs.CommandLine.{TakesNumber, TellsKind, asks_to_explain};
 ghost use Rattle.srm_options.specs.Asked.{MayBeAsked, MayShareBag};
 
 use crate::line_fault::LineFault;
@@ -19,7 +19,13 @@ use std::thread::{Threads, available_parallelism};
 const VERSION: &str = "0.2.0";
 
 const ABOUT: &str = "Simulates loss recovery in SRM (Scalable Reliable Multicast), event by event.
-Reads a scenario (TOML) on standard input, and writes a table of its run (CSV) on standard output.";
+Reads a scenario (TOML) on standard input, and writes a table of its run (CSV) on standard output.
+A refusal is one line on standard error; with --explain more lines say what to mend.";
+
+const USAGE: &str = "srm_lab [OPTIONS] < scenario.toml";
+
+/// What is told after `clap`'s message of a word that is no option.
+const NO_FILE: &str = "\na scenario is read from standard input: srm_lab < scenario.toml\n";
 
 const AFTER_HELP: &str = "Exit status:
   0  the table was written, or this help
@@ -27,9 +33,7 @@ const AFTER_HELP: &str = "Exit status:
   2  the command line was refused, and standard input was not read
 
 Example:
-  srm_lab --seed 7 --show members < scenario.toml > members.csv
-
-With --explain a refusal says after its line what to mend.";
+  srm_lab --seed 7 --show members < scenario.toml > members.csv";
 
 /// How the value of an option is read.
 #[derive(Clone, Copy)]
@@ -289,19 +293,41 @@ fn options_among(matches: &ArgMatches<'_>, workers: u8) -> Option<Options>
     })
 }
 
-/// What is told of refused words after their line: `clap`'s message, which names the word and what may stand in its place. It is
-/// empty where no word asks for an explanation.
+/// What is told of refused words after their line: `clap`'s message, which names the word and what may stand in its place, and
+/// where a word is no option how a scenario is read. It is empty where no word asks for an explanation.
 ///
 /// # Errors
 /// [`AllocError`].
-pub fn message_of<S: AsStr>(alloc: Global, words: &[S]) -> Result<String, AllocError> {
-    if !words.iter().any(|word| word.as_str() == "--explain") {
+pub fn message_of<S: AsStr>(alloc: Global, words: &[S]) -> Result<String, AllocError>
+    ensures silent { asks_to_explain S.text words.now ≡ false → IfOk result (λ message. string_bytes message ≡ []) }
+{
+    if !asks_to_explain(words) {
         return Ok(String::new(alloc));
     }
     match command(alloc, Wording::Words)?.try_get_matches_from(words) {
         Ok(matches) => message_of_numbers(alloc, &matches),
-        Err(error) => format!(in alloc; "{error}"),
+        Err(error) => message_of_error(alloc, &error),
     }
+}
+
+// Whether a word asks that a refusal is explained.
+fn asks_to_explain<S: AsStr>(words: &[S]) -> bool
+    ensures { result ≡ asks_to_explain S.text words.now }
+{
+    for word in words {
+        if word.as_str() == "--explain" {
+            return true;
+        }
+    }
+    false
+}
+
+// What is told of an error of `clap`.
+fn message_of_error(alloc: Global, error: &Error) -> Result<String, AllocError> {
+    let told = format!(in alloc; "{error}")?;
+    let is_word = error.kind() == ErrorKind::UnknownArgument && !told.contains("argument '-");
+    let more = if is_word { NO_FILE } else { "" };
+    format!(in alloc; "{told}{more}")
 }
 
 // What is told of words whose options take other text besides, and not this one.
@@ -348,6 +374,7 @@ fn bare_command<'a>(alloc: Global) -> Command<'a> {
     Command::new(alloc, "srm_lab")
         .version(VERSION)
         .about(ABOUT)
+        .override_usage(USAGE)
         .after_help(AFTER_HELP)
         .next_line_help(true)
 }

@@ -5,10 +5,10 @@ ghost use Rattle.srm_explain.specs.Findings.{HasKey};
 use srm_scenario::key::Key;
 use srm_scenario::rule::{Need, Rule};
 use std::alloc::{AllocError, Global};
-use strsim::levenshtein;
+use strsim::osa_distance;
 
-/// The key that differs the least from this text, of those that these rules allow. There is none where it differs by more than a
-/// third of its letters and by more than one.
+/// The key that differs the least from this text, of those that these rules allow: in letters, and in letters that are exchanged
+/// with their neighbours. There is none where it differs by more than a third of its letters and by more than one.
 ///
 /// # Errors
 /// Memory ran out.
@@ -18,7 +18,7 @@ pub(crate) fn nearest(alloc: Global, text: &str, rules: &[Rule]) -> Result<Optio
     let mut least = text.len().max(3) / 3 + 1;
     let mut near = None;
     for rule in rules {
-        let edits = levenshtein(alloc, text, rule.key.name())?;
+        let edits = osa_distance(alloc, text, rule.key.name())?;
         if edits < least && rule.need != Need::Refused {
             least = edits;
             near = Some(rule.key);
