@@ -163,22 +163,31 @@ abbrev pub allows : List Rule → Key → Bool
 allows rules key = list_any (λ r. bytes_eq (name_of r.key) (name_of key) && not (is_refused r.need)) rules
 
 -- why a key is not allowed in a table that names a topology
-abbrev pub IsTopologyReason : Members → List ℕ → Type 0
-IsTopologyReason top reason =
-    ((reason ≡ codes " unless topology is \"tree\"") × (is_shaped top ≡ true))
-    ⊎ ((reason ≡ codes " beside parent: there is one node more than parents") × (names_parents top ≡ true))
-    ⊎ ((reason ≡ codes " beside delays") × (is_some (get_member (codes "delays") top) ≡ true))
-    ⊎ ((reason ≡ codes " beside backs") × (is_some (get_member (codes "backs") top) ≡ true))
+abbrev pub IsTopologyReason : Members → Key → List ℕ → Type 0
+IsTopologyReason top k reason =
+    ((reason ≡ codes " unless topology is \"tree\"") × (k ≡ key.Degree) × (is_shaped top ≡ true))
+    ⊎ ((reason ≡ codes " beside parent: there is one node more than parents") × (k ≡ key.Size)
+    × (names_parents top ≡ true))
+    ⊎ ((reason ≡ codes " beside delays") × (k ≡ key.Delay) × (is_some (get_member (codes "delays") top) ≡ true))
+    ⊎ ((reason ≡ codes " beside backs") × (k ≡ key.Back) × (is_some (get_member (codes "backs") top) ≡ true))
     ⊎ ((reason ≡ codes " beside topology") × (is_shaped top ≡ true))
+
+-- whether a key says something of the parents of nodes, or of the links to them
+abbrev pub is_for_parents : Key → Bool
+is_for_parents key.Parent = true
+is_for_parents key.Delays = true
+is_for_parents key.Backs = true
+is_for_parents key = false
 
 -- why a key is not allowed, where these are the rules that versions 2 and 3 have for its part
 abbrev pub IsReasonAmong : List Rule → List Rule → Members → Key → List ℕ → Type 0
 IsReasonAmong second third top key reason =
     ((reason ≡ codes " in version 1; version 2 has it") × (allows second key ≡ true))
-    ⊎ ((reason ≡ codes " in this version; version 3 has it") × (allows third key ≡ true))
-    ⊎ ((reason ≡ codes " unless topology is \"parents\", which version 3 has") × (names_parents top ≡ false))
+    ⊎ ((reason ≡ codes " in this version; version 3 has it") × (allows second key ≡ false) × (allows third key ≡ true))
+    ⊎ ((reason ≡ codes " unless topology is \"parents\", which version 3 has") × (is_for_parents key ≡ true)
+    × (names_parents top ≡ false))
     ⊎ ((reason ≡ codes " without topology") × (is_shaped top ≡ false))
-    ⊎ IsTopologyReason top reason
+    ⊎ IsTopologyReason top key reason
 
 -- why a key of this part is not allowed
 abbrev pub IsReason : Part → Members → Key → List ℕ → Type 0

@@ -3,7 +3,7 @@ ghost use Rattle.std.specs.Prelude.{◌≡◌, true, IfOk, is_some, codes};
 ghost use Rattle.std.specs.List.{list_any};
 ghost use Rattle.toml.specs.Data.{get_member};
 ghost use Rattle.toml.specs.View.{table_view};
-ghost use Rattle.srm_explain.specs.Findings.{allows, rules_for, rules_in, FollowsSentence, IsReason, IsReasonAmong, IsReasonOfKind, IsTopologyReason, is_shaped};
+ghost use Rattle.srm_explain.specs.Findings.{allows, rules_for, rules_in, FollowsSentence, IsReason, IsReasonAmong, IsReasonOfKind, IsTopologyReason, is_for_parents, is_shaped};
 
 use crate::finding::Finding;
 use srm_scenario::fault::Part;
@@ -88,14 +88,16 @@ fn reason_of_kind(top: &Table, kind: Kind) -> &'static str
 }
 
 // Whether a key says something of the parents of nodes, or of the links to them.
-fn is_for_parents(key: Key) -> bool {
+fn is_for_parents(key: Key) -> bool
+    ensures { result ≡ is_for_parents key }
+{
     matches!(key, Key::Parent | Key::Delays | Key::Backs)
 }
 
 // Why a key is not allowed in a table that names a topology.
 fn topology_reason(top: &Table, key: Key) -> &'static str
     requires { is_shaped (table_view top.now) ≡ true }
-    ensures { IsTopologyReason (table_view top.now) result.now }
+    ensures { IsTopologyReason (table_view top.now) key result.now }
 {
     if matches!(key, Key::Degree) {
         " unless topology is \"tree\""
