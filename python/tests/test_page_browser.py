@@ -4,6 +4,7 @@ import gzip
 import io
 import json
 import os
+import random
 import shutil
 import time
 from pathlib import Path
@@ -273,6 +274,73 @@ def test_little_motion(browser, make_page):
         assert browser.execute_script("return srmPage.player.tick") in (3, 5, 8)
     finally:
         browser.execute_cdp_cmd("Emulation.setEmulatedMedia", {"features": []})
+
+
+@pytest.fixture
+def sized(browser):
+    """Gives the window another size, for one test."""
+    def size(width, height, scale=1):
+        browser.execute_cdp_cmd("Emulation.setDeviceMetricsOverride",
+                                {"width": width, "height": height, "deviceScaleFactor": scale, "mobile": False})
+
+    yield size
+    browser.execute_cdp_cmd("Emulation.clearDeviceMetricsOverride", {})
+
+
+def many_losers(kind):
+    """A thousand members, hundreds of which lose the first operation; some join late, and some leave early."""
+    if kind == "star":
+        made = scenarios.star(1001, delay=10).constants(c2="sqrt", d2="sqrt").drawing(2, every=100)
+        for link in random.Random(1).sample(range(1, 1000), 412):
+            made = made.drop(link, 0)
+    else:
+        made = scenarios.regular_tree(1024, degree=3, delay=10) if kind == "tree" else scenarios.random_tree(1000, delay=10)
+        made = made.drawing(2, every=100).lose(every=2, link="adjacent", seed=1)
+    last = len(made.members)
+    return made.join(list(range(last - 60, last - 40)), at=700).leave(list(range(last - 20, last)), at=150)
+
+
+@pytest.mark.parametrize("kind, tick", [("star", 172), ("star", 186), ("tree", 150), ("tree", 232), ("random", 300)])
+def test_states_of_a_thousand_members_are_told_apart(browser, make_page, srm_lab, sized, tmp_path, kind, tick):
+    """No mark lies on another, middles have their states' colours, and the legend counts each state."""
+    scenario = many_losers(kind).write(tmp_path / "many.toml")
+    path, text = make_page(scenario), scenario.read_text()
+    members = expected(srm_lab(text), srm_lab(text, "--show", "losses"), tick).values()
+    lacking = [it for it in members if it["lacked"]]
+    must = {
+        "has not joined": 20,
+        "left": sum(it["left"] for it in members),
+        "lacks, and waits to ask": sum(not it["lacked"] <= it["asked"] for it in lacking),
+        "lacks, and asked or heard a request": sum(it["lacked"] <= it["asked"] for it in lacking),
+        "plans a repair": sum(not it["lacked"] and len(it["plans"]) > 0 for it in members),
+    }
+    for size in ((1280, 800, 1), (390, 844, 2)):
+        sized(*size)
+        show(browser, path, f"tick={tick}&select=loss:0/0/0")
+        legend = browser.execute_script("""return Array.from(document.querySelectorAll("#legend span"),
+            (entry) => [entry.firstChild.nextSibling.textContent, entry.querySelector("b")?.textContent]);""")
+        counts = {word: int(count.replace(",", "")) for word, count in legend if count is not None}
+        assert {word: counts[word] for word in must} == must and sum(counts.values()) == len(many_losers(kind).members)
+        nearest, widest, wrong = browser.execute_script("""
+            const { model, theme, views: { network: view } } = srmPage;
+            const places = model.network.memberNodes.map((node) => [view.x[node], view.y[node]]);
+            let nearest = Infinity;
+            places.forEach(([x, y], one) => places.slice(0, one).forEach(([left, top]) => {
+              nearest = Math.min(nearest, Math.hypot(x - left, y - top));
+            }));
+            const colours = [theme.paper, null, theme.repair, theme.paper, theme.lacks, theme.asked, null];
+            const { canvas, context, scale } = view.surface;
+            const { data } = context.getImageData(0, 0, canvas.width, canvas.height);
+            const wrong = places.flatMap(([x, y], member) => {
+              const state = model.states.of(member);
+              if (!colours[state]) return [];
+              const at = 4 * (Math.floor(y * scale) * canvas.width + Math.floor(x * scale));
+              const { r, g, b } = d3.rgb(colours[state]);
+              return Math.hypot(data[at] - r, data[at + 1] - g, data[at + 2] - b) < 60 ? [] : [[member, state]];
+            });
+            return [nearest, 2 * view.smallMembers.sizeOf(4, "receiver"), wrong];""")
+        assert wrong == [] and widest <= nearest
+    assert errors(browser) == []
 
 
 def large(draws):

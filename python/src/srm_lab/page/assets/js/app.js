@@ -135,7 +135,8 @@ class App {
 
   _legend() {
     const { theme, model } = this;
-    byId("legend").replaceChildren(...(this.view === "sequence" ? sequenceLegend(theme) : networkLegend(theme, model.network)));
+    const entries = this.view === "sequence" ? sequenceLegend(theme) : networkLegend(theme, model.network);
+    showLegend(byId("legend"), entries, model.states);
   }
 
   // ---- what is selected ----------------------------------------------------------------
@@ -206,6 +207,7 @@ class App {
   _panels() {
     if (this.table === "rows") this.tables.reveal();
     this.why.show(this.selection);
+    showCensus(byId("legend"), this.model.states);
     if (this.player.isPlaying) return;
     this.tell(this._inWords());
     this.views.network.describe();

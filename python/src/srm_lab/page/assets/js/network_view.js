@@ -6,8 +6,6 @@ const LEAST_RADIUS = 1.6;
 const MOST_SPACING = 120;
 const NETWORK_MARGIN = 46;
 const MOST_PICKED_LABELS = 12;
-// in the order in which small members are drawn
-const SMALL_STATES = [STATE.absent, STATE.left, STATE.rests, STATE.plans, STATE.lacks, STATE.asked];
 
 /** Draws the network at a moment. */
 class NetworkView {
@@ -21,6 +19,7 @@ class NetworkView {
     this.surface = new Surface(canvas, () => this.resize());
     this.zoom = zoomOn(this.surface, [0.5, 60], (transform) => this._zoomed(transform), (place) => onPick(this.at(place)));
     this.sprites = new Sprites(this.surface);
+    this.smallMembers = new SmallMembers(this);
     this.packets = new NetworkPackets(this);
     this.resize();
   }
@@ -38,8 +37,14 @@ class NetworkView {
     const points = Array.from(this.fitted.x, (x, node) => [x, this.fitted.y[node]]);
     this.spacing = spacingOf(points, MOST_SPACING);
     this.memberSpacing = spacingOf(this.network.memberNodes.map((node) => points[node]), MOST_SPACING);
+    this._spacePicked();
     this._place();
     this.draw();
+  }
+
+  _spacePicked() {
+    const nodes = this.picked.map((member) => this.network.memberNodes[member]);
+    this.pickedSpacing = spacingOf(nodes.map((node) => [this.fitted.x[node], this.fitted.y[node]]), MOST_SPACING);
   }
 
   /** The nodes' places on the canvas. Members that are few among many nodes are drawn larger than there is room for nodes. */
@@ -84,11 +89,13 @@ class NetworkView {
     this.surface.paste(this._links());
     this._selectedLink(context);
     this._outages(context);
-    if (this.isSmall) this._smallMembers(context);
-    else this._members(context);
-    this._rings(context);
+    if (this.isSmall) {
+      this.packets.draw(context);
+      this.smallMembers.draw(context);
+    } else this._members(context);
+    if (!this.hasHalos) this._rings(context);
     this._labels(context);
-    this.packets.draw(context);
+    if (!this.isSmall) this.packets.draw(context);
   }
 
   // ---- links and nodes ----------------------------------------------------------------
@@ -97,6 +104,7 @@ class NetworkView {
   _links() {
     if (this.background) return this.background;
     const { canvas, context } = this.surface.copy(this.theme.paper);
+    if (this.hasHalos) this._halos(context);
     context.strokeStyle = this.theme.node;
     context.lineWidth = Math.max(0.6, Math.min(2, this.room / 4));
     context.beginPath();
@@ -107,7 +115,7 @@ class NetworkView {
     context.stroke();
     this._emptyNodes(context);
     this._linkNumbers(context);
-    if (this.isSmall) this._memberPlaces(context);
+    if (this.isSmall) this.smallMembers.drawPlaces(context);
     this.background = canvas;
     return canvas;
   }
@@ -194,48 +202,6 @@ class NetworkView {
       drawMember(context, this.theme, role, states.of(member), this.x[node], this.y[node], this.radius));
   }
 
-  /** Members as small marks. Those that hold all stand on the background; those that lack something come last. */
-  _smallMembers(context) {
-    const { states } = this.model;
-    const places = STATES.map(() => new Map());
-    this.network.members.forEach(({ node, role }, member) => {
-      const state = states.of(member);
-      if (state === STATE.holds) return;
-      if (!places[state].has(role)) places[state].set(role, []);
-      places[state].get(role).push([this.x[node], this.y[node]]);
-    });
-    for (const state of SMALL_STATES) {
-      for (const [role, some] of places[state]) this.sprites.copyTo(context, some, this._smallMark(state, role));
-    }
-  }
-
-  /** The mark of small members of a state and a role. */
-  _smallMark(state, role) {
-    const r = role === "sender" ? Math.max(4, this.radius) : this.radius;
-    const size = isLacking(state) ? Math.max(3.2, 1.3 * r) : r;
-    const draw = (context, x, y) => this._drawSmall(context, state, role, [x, y], size);
-    return { key: `${state} ${role}`, reach: 1.3 * size + 2, draw };
-  }
-
-  _drawSmall(context, state, role, [x, y], size) {
-    const style = stateStyle(this.theme, state);
-    context.beginPath();
-    roleOutline(context, role, x, y, size);
-    context.fillStyle = state === STATE.holds ? this.theme.node : style.fill;
-    context.fill();
-    context.strokeStyle = style.ring;
-    context.lineWidth = isLacking(state) ? 1.2 : 0.5;
-    context.stroke();
-  }
-
-  /** All members as if they held all, for the background. */
-  _memberPlaces(context) {
-    for (const { node, role } of this.network.members) {
-      const size = role === "sender" ? Math.max(4, this.radius) : this.radius;
-      this._drawSmall(context, STATE.holds, role, [this.x[node], this.y[node]], size);
-    }
-  }
-
   /** Rings around the members that the selection concerns. */
   _rings(context) {
     context.strokeStyle = this.theme.accent;
@@ -246,6 +212,21 @@ class NetworkView {
       context.arc(this.x[node], this.y[node], this.radius + 5, 0, 2 * Math.PI);
       context.stroke();
     }
+  }
+
+  /** Whether rings around the picked members would meet: these then have halos, below the marks. */
+  get hasHalos() {
+    return this.pickedSpacing * this.transform.k < 2 * (this.radius + 7);
+  }
+
+  _halos(context) {
+    context.beginPath();
+    for (const member of this.picked) {
+      const { node } = this.network.members[member];
+      outline(context, "circle", this.x[node], this.y[node], this.radius + 4);
+    }
+    context.fillStyle = this.theme.halo;
+    context.fill();
   }
 
   /** Members' numbers: inside their marks, or where marks are small, only those of the picked ones. */
@@ -283,8 +264,7 @@ class NetworkView {
   /** What is seen, in words, for those who do not see it. */
   describe() {
     const { states } = this.model;
-    const byState = grouped(this.network.members, (_, member) => states.of(member));
-    const told = Array.from(byState, ([state, members]) => `${members.length} ${STATE_WORDS[STATES[state]]}`).join("; ");
+    const told = states.census().map((count, state) => count && `${count} ${STATE_WORDS[STATES[state]]}`).filter(Boolean).join("; ");
     this.surface.canvas.setAttribute("aria-label", `The network at tick ${Math.floor(states.tick)}. Members: ${told || "none"}.`);
   }
 
@@ -292,6 +272,8 @@ class NetworkView {
   select(selection, members) {
     this.selection = selection;
     this.picked = members;
+    this._spacePicked();
+    this.background = null;
     this.draw();
   }
 
