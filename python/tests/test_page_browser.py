@@ -263,6 +263,65 @@ def test_the_story_of_a_loss(browser, make_page):
     assert "All of them had it by tick 19, 0.625 to 1.25 round trips to the source after finding out." in story
 
 
+def span_of(losses, name, member, last):
+    """The tick at which the loss of an operation, by all or by one member, is found, and the one at which it ends."""
+    some = [it for it in csv.DictReader(io.StringIO(losses))
+            if f"{it['source']}/{it['page']}/{it['number']}" == name and member in (None, it["member"])]
+    ends = [last if it["recovered"] == "-" else int(it["recovered"]) for it in some]
+    return min(int(it["detected"]) for it in some), max(ends)
+
+
+def shown_span(browser):
+    browser.execute_async_script("requestAnimationFrame(() => requestAnimationFrame(arguments[0]))")
+    return browser.execute_script("const { sequence } = srmPage.views; return [sequence.from, sequence.to];")
+
+
+def assert_shows(browser, begin, end):
+    """The sequence shows these ticks, with a little room before and after them."""
+    first, last = shown_span(browser)
+    room = max(2, 0.25 * (end - begin))
+    assert begin - room <= first < begin and end < last <= end + room
+
+
+def test_the_sequence_opens_on_the_selected_loss(browser, make_page, srm_lab):
+    scenario = EXAMPLES / "losses-on-two-pages.toml"
+    losses = srm_lab(scenario.read_text(), "--show", "losses")
+    path = make_page(scenario)
+    show(browser, path)
+    begin, end = browser.execute_script("return srmPage.views.sequence.base.domain()")
+    rows = list(csv.DictReader(io.StringIO(losses)))
+    names = sorted({f"{it['source']}/{it['page']}/{it['number']}" for it in rows})
+    member = rows[0]["member"]
+    show(browser, path, f"view=sequence&select=loss:{names[0]}")
+    assert_shows(browser, *span_of(losses, names[0], None, end))
+    press(browser, "0")
+    first, last = shown_span(browser)
+    assert first <= begin and end <= last
+    show(browser, path, f"select=loss:{names[0]}:{member}")
+    press(browser, "2")
+    assert_shows(browser, *span_of(losses, names[0], member, end))
+    browser.execute_script("srmPage.showTable('losses')")
+    click(browser, "#grid .body .line:last-child")
+    other = f"{rows[-1]['source']}/{rows[-1]['page']}/{rows[-1]['number']}"
+    assert_shows(browser, *span_of(losses, other, rows[-1]["member"], end))
+    show(browser, path, "view=sequence")
+    first, last = shown_span(browser)
+    assert first <= begin and end <= last, "with nothing selected the whole run is shown"
+    assert errors(browser) == []
+
+
+def test_the_sequence_opens_on_a_loss_that_stays(browser, make_page, srm_lab, tmp_path):
+    """The only link goes out when the loss is found, so that it lasts as long as the run."""
+    made = scenarios.chain(2, delay=10).drawing(2, every=100).drop(0, 0).outage(0, 111, 1_000_000).ends(5000)
+    scenario = made.write(tmp_path / "stays.toml")
+    losses = srm_lab(scenario.read_text(), "--show", "losses")
+    assert [it["recovered"] for it in csv.DictReader(io.StringIO(losses))] == ["-"]
+    show(browser, make_page(scenario), "view=sequence&select=loss:0/0/0")
+    begin, end = browser.execute_script("return srmPage.views.sequence.base.domain()")
+    first, last = shown_span(browser)
+    assert first <= int(losses.splitlines()[1].split(",")[4]) and last >= end > begin
+
+
 def test_little_motion(browser, make_page):
     """Ticks with events one after the other, some few a second, and no packet between two nodes."""
     reduce = [{"name": "prefers-reduced-motion", "value": "reduce"}]

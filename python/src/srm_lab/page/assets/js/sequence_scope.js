@@ -16,7 +16,7 @@ class SequenceScope {
     this.isManyMembers = model.network.members.length > MOST_COLUMNS;
     this.isDense = false;
     this.focus = null;
-    this.focusOn(model.history.losses[0]?.name);
+    if (model.history.losses.length) this.focusOn({ name: model.history.losses[0].name });
     this.order = this._order();
     this.columns = this.order;
   }
@@ -29,11 +29,11 @@ class SequenceScope {
     return members.sort((one, other) => far[one] - far[other] || one - other);
   }
 
-  /** Takes an operation's loss as the one that is looked at; whether it is another than before. */
-  focusOn(name) {
-    if (name === undefined || name === this.focus?.name) return false;
+  /** Takes the loss of an operation, or that of one member, as the one that is looked at; whether it is another. */
+  focusOn({ name, member }) {
+    if (name === this.focus?.name && member === this.focus.member) return false;
     const losses = this.model.history.lossesOfName.get(name) ?? [];
-    this.focus = { name, finders: new Set(losses.map((loss) => this.trace.packet[loss.detected])) };
+    this.focus = { name, member, finders: new Set(losses.map((loss) => this.trace.packet[loss.detected])) };
     return true;
   }
 
@@ -99,16 +99,26 @@ class SequenceScope {
     return this.isManyMembers || this.trace.packets.length * this.columns.length > MOST_PACKET_LINES;
   }
 
-  /** The ticks to begin with in a large run: from the loss's operation to its last recovery, or the first packets. */
-  extent() {
-    const { packets, time } = this.trace;
+  /**
+   * The first and the last tick to show: from a selected loss's detection to its end; else in a large run those of its
+   * first loss's operation, or the first packets; else none, for all.
+   */
+  extent(selection) {
+    const { packets } = this.trace;
+    const span = selection?.kind === "loss" ? this._spanOf(selection) : [];
+    if (span.length || !this.isLarge) return d3.extent(span);
     if (!this.focus) return d3.extent(packets.slice(0, FIRST_PACKETS), (packet) => packet.time);
-    const { name } = this.focus;
-    const { history } = this.model;
-    const losses = history.lossesOfName.get(name) ?? [];
-    const rows = losses.flatMap((loss) => [loss.detected, history.endOf(loss)]).filter((row) => row >= 0);
-    const sent = packets.filter((packet) => packet.name === name).map((packet) => packet.time);
-    return d3.extent([...sent, ...rows.map((row) => time[row])]);
+    const sent = packets.filter((packet) => packet.name === this.focus.name).map((packet) => packet.time);
+    return d3.extent([...sent, ...this._spanOf(this.focus)]);
+  }
+
+  /** The ticks at which an operation's losses, or one member's, are found and end; a loss that stays ends with the run. */
+  _spanOf({ name, member = -1 }) {
+    const { history, moments } = this.model;
+    const all = history.lossesOfName.get(name) ?? [];
+    const losses = member < 0 ? all : all.filter((loss) => loss.member === member);
+    const tick = (row) => (row < 0 ? moments.end : this.trace.time[row]);
+    return losses.flatMap((loss) => [tick(loss.detected), tick(history.endOf(loss))]);
   }
 
   /** What is shown, in words. */

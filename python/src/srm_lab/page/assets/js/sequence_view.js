@@ -26,21 +26,21 @@ class SequenceView {
     this.redrawAll();
   }
 
-  /** Zooms to what a large run begins with; once, as soon as there is room, and when another loss is looked at. */
+  /** Zooms to the selected loss, or to what a large run begins with: once there is room, and when another is selected. */
   _place() {
     if (this.isPlaced) return;
     this.isPlaced = true;
-    const [begin, end] = this.scope.extent();
-    if (this.scope.isLarge && end !== undefined) this._zoomTo(begin, end);
+    const [begin, end] = this.scope.extent(this.selection);
+    if (end !== undefined) this._zoomTo(begin, end);
   }
 
   _zoomTo(begin, end) {
     const [first, last] = this.base.domain();
-    const [top, bottom] = this.base.range();
+    const [top] = this.base.range();
     const margin = Math.max(1, 0.08 * (end - begin));
-    const k = Math.max(1, (last - first) / (end - begin + 2 * margin));
-    const y = top - k * this.base(Math.max(first, begin - margin));
-    this.transform = d3.zoomIdentity.translate(0, k === 1 ? 0 : Math.max(y, bottom - k * bottom)).scale(k);
+    const from = Math.max(first, begin - margin);
+    const k = (last - first) / (Math.min(last, end + margin) - from);
+    this.transform = d3.zoomIdentity.translate(0, top - k * this.base(from)).scale(k);
     this.surface.canvas.__zoom = this.transform;
   }
 
@@ -294,10 +294,10 @@ class SequenceView {
     d3.select(this.surface.canvas).call(this.zoom.transform, d3.zoomIdentity);
   }
 
-  /** Shows what is selected. A loss that was not looked at before is zoomed to where the run is large. */
+  /** Shows what is selected. A loss that was not looked at before is zoomed to. */
   select(selection) {
     this.selection = selection;
-    if (selection?.kind === "loss" && this.scope.focusOn(selection.name) && this.scope.isLarge) this.isPlaced = false;
+    if (selection?.kind === "loss" && this.scope.focusOn(selection)) this.isPlaced = false;
     this.redrawAll();
   }
 
