@@ -402,6 +402,60 @@ def test_states_of_a_thousand_members_are_told_apart(browser, make_page, srm_lab
     assert errors(browser) == []
 
 
+def last_tick(browser):
+    return browser.execute_script("return srmPage.model.moments.end")
+
+
+@pytest.mark.parametrize("name", ["chain-of-five-one-loss", "star-loss-at-one-member", "outage-in-mid-session",
+                                  "losses-on-two-pages", "parents-and-repetition"])
+def test_on_a_phone_no_label_lies_on_a_node_or_another_label(browser, make_page, sized, name):
+    path = make_page(EXAMPLES / f"{name}.toml")
+    for width in (360, 390, 420):
+        sized(width, 800)
+        show(browser, path)
+        last = last_tick(browser)
+        for tick in {0, 1, *(last * part // 7 for part in range(8))}:
+            labels, nodes, links = browser.execute_script(f"""
+                srmPage.player.seek({tick});
+                const {{ labels, x, y, radius, network }} = srmPage.views.network;
+                return [labels.items.map(({{ text, box }}) => [text, ...box]),
+                        network.memberNodes.map((node) => [x[node], y[node], radius]), network.links.length];""")
+            assert [text for text, *_ in labels][:links] == [f"link {link}" for link in range(links)], "all are there"
+            boxes = [box for _, *box in labels] + [[x - r, y - r, x + r, y + r] for x, y, r in nodes]
+            for place, (left, top, right, bottom) in enumerate(boxes):
+                assert left >= 0 and top >= 0 and right <= width
+                for other in boxes[:place]:
+                    assert left >= other[2] or right <= other[0] or top >= other[3] or bottom <= other[1], (tick, labels)
+        assert browser.execute_script("return document.documentElement.scrollWidth") <= width
+        press(browser, "2")
+        assert browser.execute_script("return document.documentElement.scrollWidth") <= width
+    assert errors(browser) == []
+
+
+@pytest.mark.parametrize("size", [(1280, 800), (390, 844)])
+def test_a_packet_at_its_sender_hides_no_label(browser, make_page, sized, tmp_path, size):
+    """Numbers of members and of links look the same at the tick of sending as where packets are not shown."""
+    made = scenarios.chain(4, delay=10)
+    for draw in range(5):
+        made = made.draw(0, ink=draw)
+    page = make_page(made.write(tmp_path / "five.toml"))
+    sized(*size)
+    pictures = []
+    for hide in ("", "data,request,repair,session"):
+        show(browser, page, f"tick=0&hide={hide}")
+        pictures.append(browser.execute_script("""
+            const { surface, x, y, labels, network } = srmPage.views.network;
+            const numbers = network.memberNodes.map((node) => [x[node] - 7, y[node] - 7, x[node] + 7, y[node] + 7]);
+            const words = labels.items.filter(({ text }) => text.startsWith("link")).map(({ box }) => box);
+            return [...numbers, ...words].map(([left, top, right, bottom]) => Array.from(
+              surface.context.getImageData(left, top, right - left, bottom - top).data));"""))
+        assert browser.execute_script("return srmPage.model.trace.packets.length") >= 5
+    shown, bare = pictures
+    assert len(shown) == len(bare) == 7
+    for one, other in zip(shown, bare):
+        assert max(abs(a - b) for a, b in zip(one, other)) < 60
+
+
 def large(draws):
     """A tree of 1,024 members, with losses at nine links."""
     lines = ['version = 2', 'until = 10000000', 'c1 = 2000', 'c2 = 2000', 'd1 = 1000', 'd2 = 1000',

@@ -6,6 +6,8 @@ const LEAST_RADIUS = 1.6;
 const MOST_SPACING = 120;
 const NETWORK_MARGIN = 46;
 const MOST_PICKED_LABELS = 12;
+// parts of the way along a link
+const LINK_LABEL_PLACES = [0.3, 0.5, 0.7];
 
 /** Draws the network at a moment. */
 class NetworkView {
@@ -33,7 +35,8 @@ class NetworkView {
   /** Takes the box's size. */
   resize() {
     this.surface.fit();
-    this.fitted = this.layout.fitted(this.surface.width, this.surface.height, NETWORK_MARGIN);
+    const { width, height } = this.surface;
+    this.fitted = this.layout.fitted(width, height, Math.min(NETWORK_MARGIN, 0.08 * Math.min(width, height)));
     const points = Array.from(this.fitted.x, (x, node) => [x, this.fitted.y[node]]);
     this.spacing = spacingOf(points, MOST_SPACING);
     this.memberSpacing = spacingOf(this.network.memberNodes.map((node) => points[node]), MOST_SPACING);
@@ -87,6 +90,7 @@ class NetworkView {
     if (this.surface.isHidden) return;
     const context = this.surface.cleared(this.theme.paper);
     this.surface.paste(this._links());
+    this.labels.restart();
     this._selectedLink(context);
     this._outages(context);
     if (this.isSmall) {
@@ -94,8 +98,10 @@ class NetworkView {
       this.smallMembers.draw(context);
     } else this._members(context);
     if (!this.hasHalos) this._rings(context);
-    this._labels(context);
     if (!this.isSmall) this.packets.draw(context);
+    this._pickedNumbers(context);
+    this.labels.draw(context, this.theme);
+    if (this.hasNumbers) this._numbers(context);
   }
 
   // ---- links and nodes ----------------------------------------------------------------
@@ -114,14 +120,18 @@ class NetworkView {
     }
     context.stroke();
     this._emptyNodes(context);
-    this._linkNumbers(context);
+    this._placeLinkNumbers(context);
     if (this.isSmall) this.smallMembers.drawPlaces(context);
     this.background = canvas;
     return canvas;
   }
 
+  get _emptyRadius() {
+    return Math.max(1, Math.min(MOST_RADIUS, this.room) * 0.3);
+  }
+
   _emptyNodes(context) {
-    const r = Math.max(1, Math.min(MOST_RADIUS, this.room) * 0.3);
+    const r = this._emptyRadius;
     context.fillStyle = this.theme.node;
     context.beginPath();
     for (let node = 0; node < this.network.nodes; node++) {
@@ -137,18 +147,37 @@ class NetworkView {
     return Math.abs(this.y[a] - this.y[b]) > Math.abs(this.x[a] - this.x[b]);
   }
 
-  /** The links' numbers, where there is room. */
-  _linkNumbers(context) {
+  /** Finds places for the links' numbers, where there is room, off the nodes. */
+  _placeLinkNumbers(context) {
+    this.labels = new Labels(this.surface.width, this.surface.height);
+    if (!this.isSmall) for (const node of this.network.memberNodes) this._avoid(node, this.radius);
     if (this.room < READABLE_RADIUS) return;
-    context.fillStyle = this.theme.soft;
-    context.font = `11px ${TEXT_FONT}`;
-    context.textBaseline = "middle";
+    for (const node of d3.range(this.network.nodes)) this._avoid(node, this._emptyRadius);
+    const style = { font: `11px ${TEXT_FONT}`, colour: this.theme.soft };
     this.network.links.forEach(({ a, b }, link) => {
-      const isSteep = this.isSteep(a, b);
-      context.textAlign = isSteep ? "left" : "center";
-      const along = [0.7 * this.x[a] + 0.3 * this.x[b] + 9, 0.7 * this.y[a] + 0.3 * this.y[b]];
-      context.fillText(`link ${link}`, ...(isSteep ? along : this.beside(a, b, 0.3, 14)));
+      const places = LINK_LABEL_PLACES.flatMap((part) => [1, -1].map((side) => this._placeBeside(a, b, part, side)));
+      if (places.some((place) => this._isInSight(place))) this.labels.add(context, `link ${link}`, places, style);
     });
+    this.labels.keep();
+  }
+
+  /** Keeps labels off a node. */
+  _avoid(node, r) {
+    const place = [this.x[node], this.y[node]];
+    if (this._isInSight(place)) this.labels.avoid(...place, r);
+  }
+
+  _isInSight([x, y]) {
+    const { width, height } = this.surface;
+    return x > -MOST_RADIUS && y > -MOST_RADIUS && x < width + MOST_RADIUS && y < height + MOST_RADIUS;
+  }
+
+  /** A place for a label part of the way along a link: below or right of it (1), or above or left (-1). */
+  _placeBeside(a, b, part, side) {
+    const [dx, dy] = [this.x[b] - this.x[a], this.y[b] - this.y[a]];
+    if (this.isSteep(a, b)) return [this.x[a] + part * dx + 6 * side, this.y[a] + part * dy, side];
+    const slope = Math.abs(dy) / (Math.hypot(dx, dy) || 1);
+    return [...this.beside(a, b, part, (14 + 14 * slope) * side), 0];
   }
 
   /** A place a part of the way along a link, so far beside it. */
@@ -156,9 +185,8 @@ class NetworkView {
     const dx = this.x[to] - this.x[from];
     const dy = this.y[to] - this.y[from];
     const length = Math.hypot(dx, dy) || 1;
-    const side = dx < 0 || (dx === 0 && dy < 0) ? -1 : 1;
-    const [across, down] = [(side * aside * dy) / length, (side * aside * dx) / length];
-    return [this.x[from] + part * dx + across, this.y[from] + part * dy + down];
+    const side = (aside / length) * (dx < 0 || (dx === 0 && dy > 0) ? -1 : 1);
+    return [this.x[from] + part * dx - side * dy, this.y[from] + part * dy + side * dx];
   }
 
   /** Links that are out now: broken, with a word beside them. */
@@ -185,13 +213,9 @@ class NetworkView {
 
   /** A word at the middle of a link: below or right of it (1), or above or left (-1), clear of a cross there. */
   note(context, from, to, side, text) {
-    const [x, y] = [(this.x[from] + this.x[to]) / 2, (this.y[from] + this.y[to]) / 2];
-    const isSteep = this.isSteep(from, to);
-    context.font = `bold 12px ${TEXT_FONT}`;
-    context.textAlign = !isSteep ? "center" : side > 0 ? "left" : "right";
-    context.textBaseline = "middle";
-    context.fillStyle = this.theme.cross;
-    context.fillText(text, isSteep ? x + 20 * side : x, isSteep ? y : y + 24 * side);
+    const middle = [(this.x[from] + this.x[to]) / 2, (this.y[from] + this.y[to]) / 2];
+    const places = placesAround(middle, this.isSteep(from, to), side, 17);
+    this.labels.add(context, text, places, { font: `bold 12px ${TEXT_FONT}`, colour: this.theme.cross });
   }
 
   // ---- members --------------------------------------------------------------------------
@@ -229,34 +253,29 @@ class NetworkView {
     context.fill();
   }
 
-  /** Members' numbers: inside their marks, or where marks are small, only those of the picked ones. */
-  _labels(context) {
-    context.textAlign = "center";
-    context.textBaseline = "middle";
-    if (this.radius >= 8) {
-      context.font = `600 ${Math.min(13, this.radius + 1)}px ${TEXT_FONT}`;
-      this.network.members.forEach(({ node, role }, member) => {
-        context.fillStyle = textOn(stateStyle(this.theme, this.model.states.of(member)).fill);
-        context.fillText(member, this.x[node], this.y[node] + (role === "late" ? 1.5 : 0.5));
-      });
-    } else if (this.picked.length <= MOST_PICKED_LABELS) {
-      context.font = `600 12px ${TEXT_FONT}`;
-      for (const member of this.picked) {
-        const { node } = this.network.members[member];
-        this.plate(context, `${member}`, this.x[node], this.y[node] - this.radius - 14);
-      }
-    }
+  /** Whether members' numbers stand inside their marks. */
+  get hasNumbers() {
+    return this.radius >= 8;
   }
 
-  /** A text on a plate of its own. */
-  plate(context, text, x, y) {
-    const width = context.measureText(text).width + 6;
-    context.fillStyle = this.theme.paper;
-    context.globalAlpha = 0.85;
-    context.fillRect(x - width / 2, y - 7, width, 14);
-    context.globalAlpha = 1;
-    context.fillStyle = this.theme.ink;
-    context.fillText(text, x, y);
+  _numbers(context) {
+    context.textAlign = "center";
+    context.textBaseline = "middle";
+    context.font = `600 ${Math.min(13, this.radius + 1)}px ${TEXT_FONT}`;
+    this.network.members.forEach(({ node, role }, member) => {
+      context.fillStyle = textOn(stateStyle(this.theme, this.model.states.of(member)).fill);
+      context.fillText(member, this.x[node], this.y[node] + (role === "late" ? 1.5 : 0.5));
+    });
+  }
+
+  /** The numbers of the picked members, where marks are too small for them. */
+  _pickedNumbers(context) {
+    if (this.hasNumbers || this.picked.length > MOST_PICKED_LABELS) return;
+    const style = { font: `600 12px ${TEXT_FONT}`, colour: this.theme.ink, isNeeded: true };
+    for (const member of this.picked) {
+      const { node } = this.network.members[member];
+      this.labels.add(context, `${member}`, placesAround([this.x[node], this.y[node]], false, -1, this.radius + 7), style);
+    }
   }
 
   // ---- selection ----------------------------------------------------------------------------
@@ -286,4 +305,10 @@ class NetworkView {
     const link = nearestOf(links, ({ a, b }) => distanceToLine([x, y], place(a), place(b)), 5);
     return link && { kind: "link", link: links.indexOf(link) };
   }
+}
+
+/** Places for a label so far from a point: above (-1) or below it, or left (-1) or right of it; then on the other side. */
+function placesAround([x, y], isAcross, side, far) {
+  return [far, far + LABEL_TALL, -far, -far - LABEL_TALL].map((by) =>
+    (isAcross ? [x + side * by, y, side * Math.sign(by)] : [x, y + side * (by + (Math.sign(by) * LABEL_TALL) / 2), 0]));
 }

@@ -13,7 +13,7 @@ class SequenceScope {
   constructor(model, filters) {
     Object.assign(this, { model, filters });
     this.trace = model.trace;
-    this.isManyMembers = model.network.members.length > MOST_COLUMNS;
+    this.most = MOST_COLUMNS;
     this.isDense = false;
     this.focus = null;
     if (model.history.losses.length) this.focusOn({ name: model.history.losses[0].name });
@@ -37,13 +37,19 @@ class SequenceScope {
     return true;
   }
 
-  /** Chooses the members, for a part of the run from one tick to another. */
-  choose(from, to) {
+  /** Whether there are more members than there is room for. */
+  get isManyMembers() {
+    return this.order.length > this.most;
+  }
+
+  /** Chooses at most so many members, for a part of the run from one tick to another. */
+  choose(from, to, most) {
+    this.most = most;
     const { members } = this.filters;
     let wanted = this.order;
     if (members) wanted = wanted.filter((member) => members.has(member));
     else if (this.isManyMembers) wanted = this._concerned(wanted);
-    this.isCut = wanted.length > MOST_COLUMNS;
+    this.isCut = wanted.length > most;
     this.columns = this.isCut ? this._nearest(wanted) : wanted;
     this.isDense = this._countIn(from, to) * this.columns.length > MOST_PACKET_LINES;
   }
@@ -55,7 +61,7 @@ class SequenceScope {
 
   /** The members that the loss concerns, or where there is none the nearest to the source. */
   _concerned(wanted) {
-    if (this.subject === null) return wanted.slice(0, MOST_COLUMNS);
+    if (this.subject === null) return wanted.slice(0, this.most);
     const concerned = this.model.reasonsOf(this.subject).members();
     return wanted.filter((member) => concerned.has(member));
   }
@@ -65,7 +71,7 @@ class SequenceScope {
     const about = this.trace.packets.filter((packet) => this.filters.showsName(packet.name));
     const senders = new Set(about.map((packet) => packet.sender));
     const ranked = wanted.slice().sort((one, other) => senders.has(other) - senders.has(one));
-    const kept = new Set(ranked.slice(0, MOST_COLUMNS));
+    const kept = new Set(ranked.slice(0, this.most));
     return wanted.filter((member) => kept.has(member));
   }
 
@@ -121,14 +127,14 @@ class SequenceScope {
     return losses.flatMap((loss) => [tick(loss.detected), tick(history.endOf(loss))]);
   }
 
-  /** What is shown, in words. */
+  /** What is shown, in one or two phrases. */
   told() {
     const all = this.model.network.members.length;
     const name = this.subject === null ? "" : this.trace.nameText(this.subject);
     const parts = [this.columns.length === all ? "Members by their distance from the source" : this._toldMembers(all, name)];
     if (this.isFocused) parts.push(`only packets of ${name}${this.isManyMembers ? "" : ": zoom in to see all"}`);
     else if (this.isDense) parts.push("not all packets: zoom in to see all");
-    return parts.join("; ");
+    return parts;
   }
 
   _toldMembers(all, name) {
