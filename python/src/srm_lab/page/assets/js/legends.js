@@ -41,6 +41,16 @@ function sequenceLegend(theme) {
     { told: "stopped or set anew", draw: (context, x, y) => timerEndMark(context, theme, KIND.request, "stopped", x, y) },
     { told: "packet dropped", draw: (context, x, y) => cross(context, x, y, 4.5, theme.cross) },
     { told: "left", draw: (context, x, y) => cross(context, x, y, 4.5, theme.ink, 2) },
-    { told: "timers in the colour of what they send; wheel: zoom, drag: move" },
+    { told: "timers in the colour of what they send" },
   ];
+}
+
+/** The legend of a picture that stands alone: with the packets that it shows, and of the states those that members are in. */
+function pictureLegend(theme, entries, filters, states) {
+  const census = states.census();
+  const packets = KIND_WORDS.map((told, kind) => ({ told, draw: (context, x, y) => packetKey(context, theme, kind, x, y) }));
+  const counted = ({ told, draw, state }) => ({ told: `${told}: ${grouping(census[state])}`, draw });
+  return [...packets.filter((_, kind) => filters.kinds[kind]),
+    ...entries.filter(({ state }) => state === undefined || census[state] > 0)
+      .map((entry) => (entry.state === undefined ? entry : counted(entry)))];
 }

@@ -81,6 +81,12 @@ function timerEndMark(context, theme, kind, how, x, y) {
 /** How packets of one kind are drawn as lines. */
 const DASHES = [[], [7, 3], [2, 3], [1, 4]];
 
+/** The mark of a legend for packets of one kind: on a line. */
+function packetKey(context, theme, kind, x, y) {
+  strokeLine(context, [[0, y], [2 * x, y]], theme.kinds[kind], 2, DASHES[kind]);
+  drawPacket(context, theme, kind, x, y, 4.5);
+}
+
 /** A small canvas for a legend, on which something is drawn. */
 function swatch(draw, width = 22, height = 14) {
   const style = `width:${width}px;height:${height}px`;

@@ -89,7 +89,17 @@ class NetworkView {
   draw() {
     if (this.surface.isHidden) return;
     const context = this.surface.cleared(this.theme.paper);
-    this.surface.paste(this._links());
+    this.surface.paste(this._background());
+    this._drawMoment(context);
+  }
+
+  /** Draws the view onto another context. */
+  drawOn(context) {
+    this._drawStill(context);
+    this._drawMoment(context);
+  }
+
+  _drawMoment(context) {
     this.labels.restart();
     this._selectedLink(context);
     this._outages(context);
@@ -107,9 +117,15 @@ class NetworkView {
   // ---- links and nodes ----------------------------------------------------------------
 
   /** Links and what else stays as it is, drawn once for a place. */
-  _links() {
+  _background() {
     if (this.background) return this.background;
     const { canvas, context } = this.surface.copy(this.theme.paper);
+    this._drawStill(context);
+    this.background = canvas;
+    return canvas;
+  }
+
+  _drawStill(context) {
     if (this.hasHalos) this._halos(context);
     context.strokeStyle = this.theme.node;
     context.lineWidth = Math.max(0.6, Math.min(2, this.room / 4));
@@ -122,8 +138,6 @@ class NetworkView {
     this._emptyNodes(context);
     this._placeLinkNumbers(context);
     if (this.isSmall) this.smallMembers.drawPlaces(context);
-    this.background = canvas;
-    return canvas;
   }
 
   get _emptyRadius() {

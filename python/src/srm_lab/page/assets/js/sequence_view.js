@@ -86,9 +86,21 @@ class SequenceView {
   }
 
   _drawPicture() {
+    const { canvas, context } = this.surface.copy(this.theme.paper);
+    this._drawRun(context);
+    this.picture = canvas;
+    this._describe();
+  }
+
+  /** Draws the view onto another context. */
+  drawOn(context) {
+    this._drawRun(context);
+    this._now(context);
+  }
+
+  _drawRun(context) {
     this._scales();
     this.hits = [];
-    const { canvas, context } = this.surface.copy(this.theme.paper);
     context.save();
     context.beginPath();
     context.rect(0, this.top, this.surface.width, this.surface.height - this.top);
@@ -101,8 +113,6 @@ class SequenceView {
     this._timers(context);
     context.restore();
     this._heads(context);
-    this.picture = canvas;
-    this._describe();
   }
 
   // ---- ticks, outages, members' lines -------------------------------------------------
