@@ -1,14 +1,19 @@
 """Pages in Chromium: they open without errors and without the network, play, and show what the program's tables say."""
+import base64
 import csv
 import gzip
 import io
 import json
 import os
+import random
 import shutil
+import subprocess
 import time
 from pathlib import Path
+from xml.etree import ElementTree
 
 import pytest
+from matplotlib import pyplot
 
 from srm_lab import scenario as scenarios
 from srm_lab.page.command import main
@@ -262,6 +267,65 @@ def test_the_story_of_a_loss(browser, make_page):
     assert "All of them had it by tick 19, 0.625 to 1.25 round trips to the source after finding out." in story
 
 
+def span_of(losses, name, member, last):
+    """The tick at which the loss of an operation, by all or by one member, is found, and the one at which it ends."""
+    some = [it for it in csv.DictReader(io.StringIO(losses))
+            if f"{it['source']}/{it['page']}/{it['number']}" == name and member in (None, it["member"])]
+    ends = [last if it["recovered"] == "-" else int(it["recovered"]) for it in some]
+    return min(int(it["detected"]) for it in some), max(ends)
+
+
+def shown_span(browser):
+    browser.execute_async_script("requestAnimationFrame(() => requestAnimationFrame(arguments[0]))")
+    return browser.execute_script("const { sequence } = srmPage.views; return [sequence.from, sequence.to];")
+
+
+def assert_shows(browser, begin, end):
+    """The sequence shows these ticks, with a little room before and after them."""
+    first, last = shown_span(browser)
+    room = max(2, 0.25 * (end - begin))
+    assert begin - room <= first < begin and end < last <= end + room
+
+
+def test_the_sequence_opens_on_the_selected_loss(browser, make_page, srm_lab):
+    scenario = EXAMPLES / "losses-on-two-pages.toml"
+    losses = srm_lab(scenario.read_text(), "--show", "losses")
+    path = make_page(scenario)
+    show(browser, path)
+    begin, end = browser.execute_script("return srmPage.views.sequence.base.domain()")
+    rows = list(csv.DictReader(io.StringIO(losses)))
+    names = sorted({f"{it['source']}/{it['page']}/{it['number']}" for it in rows})
+    member = rows[0]["member"]
+    show(browser, path, f"view=sequence&select=loss:{names[0]}")
+    assert_shows(browser, *span_of(losses, names[0], None, end))
+    press(browser, "0")
+    first, last = shown_span(browser)
+    assert first <= begin and end <= last
+    show(browser, path, f"select=loss:{names[0]}:{member}")
+    press(browser, "2")
+    assert_shows(browser, *span_of(losses, names[0], member, end))
+    browser.execute_script("srmPage.showTable('losses')")
+    click(browser, "#grid .body .line:last-child")
+    other = f"{rows[-1]['source']}/{rows[-1]['page']}/{rows[-1]['number']}"
+    assert_shows(browser, *span_of(losses, other, rows[-1]["member"], end))
+    show(browser, path, "view=sequence")
+    first, last = shown_span(browser)
+    assert first <= begin and end <= last, "with nothing selected the whole run is shown"
+    assert errors(browser) == []
+
+
+def test_the_sequence_opens_on_a_loss_that_stays(browser, make_page, srm_lab, tmp_path):
+    """The only link goes out when the loss is found, so that it lasts as long as the run."""
+    made = scenarios.chain(2, delay=10).drawing(2, every=100).drop(0, 0).outage(0, 111, 1_000_000).ends(5000)
+    scenario = made.write(tmp_path / "stays.toml")
+    losses = srm_lab(scenario.read_text(), "--show", "losses")
+    assert [it["recovered"] for it in csv.DictReader(io.StringIO(losses))] == ["-"]
+    show(browser, make_page(scenario), "view=sequence&select=loss:0/0/0")
+    begin, end = browser.execute_script("return srmPage.views.sequence.base.domain()")
+    first, last = shown_span(browser)
+    assert first <= int(losses.splitlines()[1].split(",")[4]) and last >= end > begin
+
+
 def test_little_motion(browser, make_page):
     """Ticks with events one after the other, some few a second, and no packet between two nodes."""
     reduce = [{"name": "prefers-reduced-motion", "value": "reduce"}]
@@ -273,6 +337,197 @@ def test_little_motion(browser, make_page):
         assert browser.execute_script("return srmPage.player.tick") in (3, 5, 8)
     finally:
         browser.execute_cdp_cmd("Emulation.setEmulatedMedia", {"features": []})
+
+
+@pytest.fixture
+def sized(browser):
+    """Gives the window another size, for one test."""
+    def size(width, height, scale=1):
+        browser.execute_cdp_cmd("Emulation.setDeviceMetricsOverride",
+                                {"width": width, "height": height, "deviceScaleFactor": scale, "mobile": False})
+
+    yield size
+    browser.execute_cdp_cmd("Emulation.clearDeviceMetricsOverride", {})
+
+
+def many_losers(kind):
+    """A thousand members, hundreds of which lose the first operation; some join late, and some leave early."""
+    if kind == "star":
+        made = scenarios.star(1001, delay=10).constants(c2="sqrt", d2="sqrt").drawing(2, every=100)
+        for link in random.Random(1).sample(range(1, 1000), 412):
+            made = made.drop(link, 0)
+    else:
+        made = scenarios.regular_tree(1024, degree=3, delay=10) if kind == "tree" else scenarios.random_tree(1000, delay=10)
+        made = made.drawing(2, every=100).lose(every=2, link="adjacent", seed=1)
+    last = len(made.members)
+    return made.join(list(range(last - 60, last - 40)), at=700).leave(list(range(last - 20, last)), at=150)
+
+
+@pytest.mark.parametrize("kind, tick", [("star", 186), ("tree", 150), ("tree", 232), ("random", 300)])
+def test_states_of_a_thousand_members_are_told_apart(browser, make_page, srm_lab, sized, tmp_path, kind, tick):
+    """No mark lies on another, middles have their states' colours, and the legend counts each state."""
+    scenario = many_losers(kind).write(tmp_path / "many.toml")
+    path, text = make_page(scenario), scenario.read_text()
+    members = expected(srm_lab(text), srm_lab(text, "--show", "losses"), tick).values()
+    lacking = [it for it in members if it["lacked"]]
+    must = {
+        "has not joined": 20,
+        "left": sum(it["left"] for it in members),
+        "lacks, and waits to ask": sum(not it["lacked"] <= it["asked"] for it in lacking),
+        "lacks, and asked or heard a request": sum(it["lacked"] <= it["asked"] for it in lacking),
+        "plans a repair": sum(not it["lacked"] and len(it["plans"]) > 0 for it in members),
+    }
+    for size in ((1280, 800, 1), (390, 844, 2)):
+        sized(*size)
+        show(browser, path, f"tick={tick}&select=loss:0/0/0")
+        legend = browser.execute_script("""return Array.from(document.querySelectorAll("#legend span"),
+            (entry) => [entry.firstChild.nextSibling.textContent, entry.querySelector("b")?.textContent]);""")
+        counts = {word: int(count.replace(",", "")) for word, count in legend if count is not None}
+        assert {word: counts[word] for word in must} == must and sum(counts.values()) == len(many_losers(kind).members)
+        nearest, widest, wrong = browser.execute_script("""
+            const { model, theme, views: { network: view } } = srmPage;
+            const places = model.network.memberNodes.map((node) => [view.x[node], view.y[node]]);
+            let nearest = Infinity;
+            places.forEach(([x, y], one) => places.slice(0, one).forEach(([left, top]) => {
+              nearest = Math.min(nearest, Math.hypot(x - left, y - top));
+            }));
+            const colours = [theme.paper, null, theme.repair, theme.paper, theme.lacks, theme.asked, null];
+            const { canvas, context, scale } = view.surface;
+            const { data } = context.getImageData(0, 0, canvas.width, canvas.height);
+            const wrong = places.flatMap(([x, y], member) => {
+              const state = model.states.of(member);
+              if (!colours[state]) return [];
+              const at = 4 * (Math.floor(y * scale) * canvas.width + Math.floor(x * scale));
+              const { r, g, b } = d3.rgb(colours[state]);
+              return Math.hypot(data[at] - r, data[at + 1] - g, data[at + 2] - b) < 60 ? [] : [[member, state]];
+            });
+            return [nearest, 2 * view.smallMembers.sizeOf(4, "receiver"), wrong];""")
+        assert wrong == [] and widest <= nearest
+    assert errors(browser) == []
+
+
+def last_tick(browser):
+    return browser.execute_script("return srmPage.model.moments.end")
+
+
+@pytest.mark.parametrize("name", ["chain-of-five-one-loss", "star-loss-at-one-member", "outage-in-mid-session",
+                                  "losses-on-two-pages", "parents-and-repetition"])
+def test_on_a_phone_no_label_lies_on_a_node_or_another_label(browser, make_page, sized, name):
+    path = make_page(EXAMPLES / f"{name}.toml")
+    for width in (360, 390, 420):
+        sized(width, 800)
+        show(browser, path)
+        last = last_tick(browser)
+        for tick in {0, 1, *(last * part // 7 for part in range(8))}:
+            labels, nodes, links = browser.execute_script(f"""
+                srmPage.player.seek({tick});
+                const {{ labels, x, y, radius, network }} = srmPage.views.network;
+                return [labels.items.map(({{ text, box }}) => [text, ...box]),
+                        network.memberNodes.map((node) => [x[node], y[node], radius]), network.links.length];""")
+            assert [text for text, *_ in labels][:links] == [f"link {link}" for link in range(links)], "all are there"
+            boxes = [box for _, *box in labels] + [[x - r, y - r, x + r, y + r] for x, y, r in nodes]
+            for place, (left, top, right, bottom) in enumerate(boxes):
+                assert left >= 0 and top >= 0 and right <= width
+                for other in boxes[:place]:
+                    assert left >= other[2] or right <= other[0] or top >= other[3] or bottom <= other[1], (tick, labels)
+        assert browser.execute_script("return document.documentElement.scrollWidth") <= width
+        press(browser, "2")
+        assert browser.execute_script("return document.documentElement.scrollWidth") <= width
+    assert errors(browser) == []
+
+
+@pytest.mark.parametrize("size", [(1280, 800), (390, 844)])
+def test_a_packet_at_its_sender_hides_no_label(browser, make_page, sized, tmp_path, size):
+    """Numbers of members and of links look the same at the tick of sending as where packets are not shown."""
+    made = scenarios.chain(4, delay=10)
+    for draw in range(5):
+        made = made.draw(0, ink=draw)
+    page = make_page(made.write(tmp_path / "five.toml"))
+    sized(*size)
+    pictures = []
+    for hide in ("", "data,request,repair,session"):
+        show(browser, page, f"tick=0&hide={hide}")
+        pictures.append(browser.execute_script("""
+            const { surface, x, y, labels, network } = srmPage.views.network;
+            const numbers = network.memberNodes.map((node) => [x[node] - 7, y[node] - 7, x[node] + 7, y[node] + 7]);
+            const words = labels.items.filter(({ text }) => text.startsWith("link")).map(({ box }) => box);
+            return [...numbers, ...words].map(([left, top, right, bottom]) => Array.from(
+              surface.context.getImageData(left, top, right - left, bottom - top).data));"""))
+        assert browser.execute_script("return srmPage.model.trace.packets.length") >= 5
+    shown, bare = pictures
+    assert len(shown) == len(bare) == 7
+    for one, other in zip(shown, bare):
+        assert max(abs(a - b) for a, b in zip(one, other)) < 60
+
+
+@pytest.fixture
+def saved(browser, tmp_path):
+    """Saves something by a key or a button, and gives the file that comes of it."""
+    folder = tmp_path / "saved"
+    browser.execute_cdp_cmd("Browser.setDownloadBehavior", {"behavior": "allow", "downloadPath": str(folder)})
+
+    def save(name, act):
+        path, until = folder / name, time.monotonic() + 20
+        act()
+        while not path.exists():
+            assert time.monotonic() < until, name
+            time.sleep(0.05)
+        return path
+
+    return save
+
+
+def pixels(png):
+    """A PNG's pixels, of three numbers from 0 to 1 each."""
+    return pyplot.imread(png if isinstance(png, Path) else io.BytesIO(png), format="png")[:, :, :3]
+
+
+def assert_alike(one, other):
+    """Two pictures are of one size, and differ no more than at the edges of letters."""
+    assert one.shape == other.shape
+    assert (abs(one - other).max(axis=2) > 0.5).mean() < 0.0015
+
+
+@pytest.mark.parametrize("name, moment, view, words", [
+    ("chain-of-five-one-loss", "tick=15.5&select=loss:0/0/0", "network",
+     ["chain-of-five-one-loss, tick 15", "0", "4", "link 3", "0/0/0", "lacks, and waits to ask: 1", "request"]),
+    ("outage-in-mid-session", "tick=85&view=sequence&theme=dark", "sequence",
+     ["outage-in-mid-session, tick 85", "2", "85", "link 1 out", "timer set", "repair"]),
+])
+def test_a_view_is_saved_as_a_picture(browser, make_page, saved, sized, name, moment, view, words):
+    show(browser, make_page(EXAMPLES / f"{name}.toml"), moment)
+    paper = browser.execute_script("return srmPage.theme.paper")
+    named = browser.execute_script("return Array.from(document.querySelectorAll('.save button'), (it) => it.ariaLabel)")
+    assert named == ["Save the picture as SVG", "Save the picture as PNG"]
+    svg = saved(f"{name}.{view}.svg", lambda: click(browser, "#svg"))
+    png = saved(f"{name}.{view}.png", lambda: click(browser, "#png"))
+    assert errors(browser) == [] and requests(browser) == []
+    root = ElementTree.parse(svg).getroot()
+    tags = {element.tag.removeprefix("{http://www.w3.org/2000/svg}") for element in root.iter()}
+    assert tags == {"svg", "title", "desc", "g", "clipPath", "path", "rect", "text"}, "no script, no style, no picture"
+    for element in root.iter():
+        assert not [key for key in element.keys() if key.startswith("on") or key in ("class", "style", "href")]
+        assert all(not value.startswith("url(") or value.startswith("url(#") for value in element.attrib.values())
+    assert root[2].get("fill") == paper
+    assert set(words) <= {element.text for element in root.iter() if element.tag.endswith("}text")}
+    width, height = int(root.get("width")), int(root.get("height"))
+    sized(width, height, 2)
+    browser.get(svg.as_uri())
+    drawn = base64.b64decode(browser.execute_cdp_cmd("Page.captureScreenshot", {"format": "png"})["data"])
+    assert errors(browser) == [] and requests(browser) == []
+    assert_alike(pixels(drawn), pixels(png))
+    rsvg = shutil.which("rsvg-convert")
+    if rsvg:
+        done = subprocess.run([rsvg, "--zoom", "2", str(svg)], capture_output=True, check=True)
+        assert_alike(pixels(done.stdout), pixels(png))
+
+
+def test_pictures_are_saved_by_keys(browser, make_page, saved):
+    show(browser, make_page(EXAMPLES / "two-nodes.toml"))
+    assert saved("two-nodes.network.svg", lambda: press(browser, "v")).read_text().startswith("<svg ")
+    assert saved("two-nodes.network.png", lambda: press(browser, "b")).read_bytes().startswith(b"\x89PNG")
+    assert browser.execute_script("return document.getElementById('told').textContent") == (
+        "The picture is saved as two-nodes.network.png.")
 
 
 def large(draws):

@@ -7,11 +7,12 @@ from ..errors import ScenarioError
 
 ASSETS = Path(__file__).parent / "assets"
 # in the order in which later files use what earlier ones define
-SCRIPTS = ("codes", "decode", "spans", "network", "trace", "history", "states", "tables", "moments", "reasons", "model",
-           "elements", "geometry", "surface", "theme", "layout", "marks", "player", "address", "selection", "filters",
-           "rules", "story", "refs", "lanes", "why_member", "why_loss", "why",
-           "sprites", "network_packets", "network_view", "sequence_scope", "sequence_packets", "sequence_view",
-           "slider", "grid", "table_panel", "controls", "legends", "tips", "facts", "keys", "app")
+SCRIPTS = ("codes", "decode", "spans", "network", "trace", "history", "states", "tables", "moments", "reasons",
+           "model", "elements", "geometry", "surface", "vector_context", "theme", "layout", "marks", "labels",
+           "player", "address", "selection", "filters", "rules", "story", "refs", "lanes", "why_member", "why_loss",
+           "why", "sprites", "small_members", "network_packets", "network_view", "sequence_scope", "sequence_packets",
+           "sequence_view", "slider", "grid", "table_panel", "controls", "legends", "picture", "tips", "facts",
+           "keys", "app")
 D3 = ("/usr/share/nodejs/d3/dist/d3.min.js",)
 
 

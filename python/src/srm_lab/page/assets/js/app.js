@@ -44,6 +44,8 @@ class App {
       theme: () => this.theme.toggle(),
       link: () => this._copyLink(),
       csv: () => this.tables.save(),
+      svg: () => this.savePicture("svg"),
+      png: () => this.savePicture("png"),
       "zoom-in": () => this._zoom(ZOOM),
       "zoom-out": () => this._zoom(1 / ZOOM),
       "zoom-all": () => this.views[this.view].zoomAll(),
@@ -81,6 +83,8 @@ class App {
       f: () => byId("filter-name").focus(),
       l: () => this._copyLink(),
       d: () => this.theme.toggle(),
+      v: () => this.savePicture("svg"),
+      b: () => this.savePicture("png"),
       Escape: () => { document.activeElement?.blur(); this.pick(null); },
       "?": () => this._help(),
     };
@@ -134,8 +138,21 @@ class App {
   }
 
   _legend() {
-    const { theme, model } = this;
-    byId("legend").replaceChildren(...(this.view === "sequence" ? sequenceLegend(theme) : networkLegend(theme, model.network)));
+    showLegend(byId("legend"), this._legendEntries(), this.model.states);
+  }
+
+  _legendEntries() {
+    return this.view === "sequence" ? sequenceLegend(this.theme) : networkLegend(this.theme, this.model.network);
+  }
+
+  /** Saves the shown view as a picture, `svg` or `png`. */
+  async savePicture(format) {
+    const { theme, model, player, filters } = this;
+    const legend = pictureLegend(theme, this._legendEntries(), filters, model.states);
+    const title = `${model.about.title}, tick ${grouping(Math.floor(player.tick))}`;
+    const name = `${model.about.title}.${this.view}.${format}`;
+    save(await new Picture(this.views[this.view], theme, title, legend)[format](), name);
+    this.tell(`The picture is saved as ${name}.`);
   }
 
   // ---- what is selected ----------------------------------------------------------------
@@ -206,6 +223,7 @@ class App {
   _panels() {
     if (this.table === "rows") this.tables.reveal();
     this.why.show(this.selection);
+    showCensus(byId("legend"), this.model.states);
     if (this.player.isPlaying) return;
     this.tell(this._inWords());
     this.views.network.describe();

@@ -21,6 +21,13 @@ function byId(id) {
   return document.getElementById(id);
 }
 
+/** Saves something as a file of this name. */
+function save(blob, name) {
+  const url = URL.createObjectURL(blob);
+  element("a", { href: url, download: name }).click();
+  setTimeout(() => URL.revokeObjectURL(url), 10000);
+}
+
 /** A number with commas between its thousands. */
 const grouping = d3.format(",");
 

@@ -1,6 +1,7 @@
 // What is shown: kinds of packets, operations, members.
 
 const MOST_OFFERED = 500;
+const KIND_WORDS = KINDS.map((kind) => (kind === "session" ? "session message" : kind));
 
 /** The reader's choice of what the pictures show. */
 class Filters {
@@ -41,10 +42,7 @@ class Filters {
   /** Draws the legend of packets anew. */
   recolour(theme) {
     const labels = KINDS.map((kind, number) => element("label", {}, this.boxes[number],
-      swatch((context, x, y) => {
-        strokeLine(context, [[0, y], [2 * x, y]], theme.kinds[number], 2, DASHES[number]);
-        drawPacket(context, theme, number, x, y, 4.5);
-      }), kind === "session" ? "session message" : kind));
+      swatch((context, x, y) => packetKey(context, theme, number, x, y)), KIND_WORDS[number]));
     this.kindsBox.replaceChildren(element("legend", { class: "hidden" }, "Packets"), ...labels);
   }
 

@@ -16,6 +16,7 @@ const KEY_HELP = [
   [["F"], "to the filters"],
   [["L"], "copy the address of this moment"],
   [["D"], "dark or light"],
+  [["V", "B"], "save the picture as SVG or PNG"],
   [["Esc"], "select nothing"],
   [["?"], "these keys"],
 ];

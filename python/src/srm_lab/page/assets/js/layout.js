@@ -3,6 +3,12 @@
 const MOST_IN_A_LINE = 14;
 const MOST_LAYERED_LEAVES = 36;
 const MOST_ON_A_RING = 160;
+const INNERMOST_RING = 0.3;
+const MOVES_APART = 40;
+// how much of a layer's distance from the root goes by the nodes up to it, the rest by its depth
+const SHARE_BY_NODES = 0.5;
+// how far apart nodes are at least, as a part of the distance at which they would fill the disc
+const SHARE_OF_ROOM = 0.6;
 
 /** Positions of nodes, in units of their own, and whether they may be stretched to fill a box. */
 class Layout {
@@ -40,15 +46,17 @@ class Layout {
     this.isStretched = true;
   }
 
-  /** The hub within a ring, or within rings whose nodes stand in turn. */
+  _placeAround(node, angle, radius) {
+    this._place(node, radius * Math.sin(angle), -radius * Math.cos(angle));
+  }
+
+  /** The hub within a ring, or within rings as far apart as the nodes on them. */
   _star(network, hub) {
     const leaves = network.near[hub].map((it) => it.node).sort((one, other) => one - other);
-    const rings = Math.ceil(leaves.length / MOST_ON_A_RING);
-    leaves.forEach((node, at) => {
-      const angle = (2 * Math.PI * at) / leaves.length - Math.PI / 2;
-      const radius = 1 - (0.6 * (at % rings)) / Math.max(rings, 1);
-      this._place(node, radius * Math.cos(angle), radius * Math.sin(angle));
-    });
+    let placed = 0;
+    for (const { radius, count } of ringsFor(leaves.length)) {
+      for (let at = 0; at < count; at++) this._placeAround(leaves[placed++], (2 * Math.PI * at) / count, radius);
+    }
     this._place(hub, 0, 0);
   }
 
@@ -65,7 +73,31 @@ class Layout {
     }
     const separation = (one, other) => (one.parent === other.parent ? 1 : 1.6) / Math.max(1, one.depth);
     d3.tree().size([2 * Math.PI, 1]).separation(separation)(hierarchy);
-    hierarchy.each((it) => this._place(it.data.node, it.y * Math.sin(it.x), -it.y * Math.cos(it.x)));
+    this._layers(hierarchy);
+    this._moveApart();
+  }
+
+  /** Moves nodes apart that stand too close to be told apart. */
+  _moveApart() {
+    const places = Array.from(this.x, (x, node) => ({ x, y: this.y[node] }));
+    const reach = (SHARE_OF_ROOM * Math.sqrt(Math.PI / places.length)) / 2;
+    d3.forceSimulation(places).force("apart", d3.forceCollide(reach).iterations(2)).stop().tick(MOVES_APART);
+    places.forEach(({ x, y }, node) => this._place(node, x, y));
+  }
+
+  /** Layers around the root, as wide as their nodes need; nodes of a crowded layer stand on several rings in turn. */
+  _layers(hierarchy) {
+    const layers = Array.from(grouped(hierarchy.descendants(), (it) => it.depth).values());
+    const crowds = layers.map(crowdOf);
+    let inner = 0;
+    layers.forEach((layer, depth) => {
+      const share = Math.sqrt(d3.sum(crowds.slice(0, depth + 1)) / d3.sum(crowds));
+      const outer = depth && (1 - SHARE_BY_NODES) * (depth / hierarchy.height) + SHARE_BY_NODES * share;
+      const gap = outer - inner;
+      const rings = Math.max(1, Math.floor(Math.sqrt((crowds[depth] * gap) / (2 * Math.PI * outer || 1))));
+      layer.forEach(({ data, x }, at) => this._placeAround(data.node, x, outer - (gap * (at % rings)) / rings));
+      inner = outer;
+    });
   }
 
   /** Functions from a node to its place in a box of this size, with a margin. */
@@ -82,4 +114,20 @@ class Layout {
     const ys = this.y.map((y) => height / 2 + (y - (top + bottom) / 2) * (down > 1e-6 ? scaleY : 0));
     return { x: xs, y: ys };
   }
+}
+
+/** Rings with room for so many nodes, the outermost first: their radii, and how many nodes each has. */
+function ringsFor(nodes) {
+  if (nodes <= MOST_ON_A_RING) return [{ radius: 1, count: nodes }];
+  const width = 1 - INNERMOST_RING;
+  const number = Math.round(width / Math.sqrt((Math.PI * (1 - INNERMOST_RING ** 2)) / nodes));
+  const radii = d3.range(number).map((ring) => 1 - (width * ring) / (number - 1));
+  const upTo = (ring) => Math.round((nodes * d3.sum(radii.slice(0, ring))) / d3.sum(radii));
+  return radii.map((radius, ring) => ({ radius, count: upTo(ring + 1) - upTo(ring) }));
+}
+
+/** How many nodes a layer would have if all around it they stood as close as most of its nodes do. */
+function crowdOf(layer) {
+  const turns = d3.pairs(layer, (one, other) => other.x - one.x);
+  return layer.length > 2 ? (2 * Math.PI) / d3.quantile(turns.sort(d3.ascending), 0.25) : layer.length;
 }

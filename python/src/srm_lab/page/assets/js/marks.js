@@ -81,6 +81,12 @@ function timerEndMark(context, theme, kind, how, x, y) {
 /** How packets of one kind are drawn as lines. */
 const DASHES = [[], [7, 3], [2, 3], [1, 4]];
 
+/** The mark of a legend for packets of one kind: on a line. */
+function packetKey(context, theme, kind, x, y) {
+  strokeLine(context, [[0, y], [2 * x, y]], theme.kinds[kind], 2, DASHES[kind]);
+  drawPacket(context, theme, kind, x, y, 4.5);
+}
+
 /** A small canvas for a legend, on which something is drawn. */
 function swatch(draw, width = 22, height = 14) {
   const style = `width:${width}px;height:${height}px`;
@@ -120,6 +126,30 @@ function drawMember(context, theme, role, state, x, y, r) {
   context.stroke();
   context.setLineDash([]);
   if (style.crossed) cross(context, x, y, 0.7 * r, theme.soft, 1.5);
+}
+
+/** Draws a member so small that its fill and the width of its rim have to tell its state. */
+function drawSmallMember(context, theme, role, state, x, y, r) {
+  const { fill, ring, width } = smallStyle(theme, state);
+  context.beginPath();
+  roleOutline(context, role, x, y, r - width / 2);
+  context.fillStyle = fill;
+  context.fill();
+  context.lineWidth = Math.min(width, r / 3);
+  context.strokeStyle = ring;
+  context.stroke();
+  if (state === STATE.left) cross(context, x, y, 0.8 * r, theme.soft, 1.2);
+}
+
+function smallStyle(theme, state) {
+  switch (STATES[state]) {
+    case "holds": return { fill: theme.node, ring: theme.node, width: 0.5 };
+    case "plans": return { fill: theme.repair, ring: theme.repair, width: 1 };
+    case "rests": return { fill: theme.paper, ring: theme.repair, width: 1.2 };
+    case "lacks": return { fill: theme.lacks, ring: theme.lacks, width: 1 };
+    case "asked": return { fill: theme.asked, ring: theme.lacks, width: 1.2 };
+    default: return { fill: theme.paper, ring: theme.soft, width: 0.8 };
+  }
 }
 
 /** Fills a packet's mark. */

@@ -1,7 +1,6 @@
 // The packets of the network's picture: those that are on a link, and those that a link took out.
 
 const MOST_LABELLED_PACKETS = 8;
-const LABEL_HEIGHT = 14;
 const MOST_EDGED = 150;
 
 /** Draws packets at the present moment onto a network's view. */
@@ -29,9 +28,12 @@ class NetworkPackets {
       const packet = this.packets[id];
       if (view.filters.shows(packet) && packet.row < states.rows) this._follow(context, packet);
     }
-    const r = Math.max(2.2, Math.min(6.5, view.radius * 0.55));
-    this.places.forEach((places, kind) => this._drawKind(context, kind, places, r));
-    if (this.labels.length <= MOST_LABELLED_PACKETS && view.radius >= 8) this._drawLabels(context, r);
+    this.places.forEach((places, kind) => this._drawKind(context, kind, places, this.radius));
+    if (this.labels.length <= MOST_LABELLED_PACKETS && view.hasNumbers) this._addLabels(context);
+  }
+
+  get radius() {
+    return Math.max(2.2, Math.min(6.5, this.view.radius * 0.55));
   }
 
   /** Packets of one kind: where they are many, without an edge. */
@@ -62,11 +64,20 @@ class NetworkPackets {
     for (const at of fate?.dropped ?? []) this._dropped(context, packet, at, age);
   }
 
-  /** Where a packet is, a part of the way along a place of its route. */
+  /** Where a packet is, a part of the way along a place of its route: from rim to rim, so that it hides no number. */
   _on(packet, at, part) {
+    const { view } = this;
     const route = this.network.routeOf(packet.sender);
-    const aside = laneOffset(this.lanes[packet.id]) * Math.max(4, this.view.radius * 0.7);
-    return this.view.beside(route.near[at], route.far[at], part, aside);
+    const [near, far] = [route.near[at], route.far[at]];
+    const length = Math.hypot(view.x[far] - view.x[near], view.y[far] - view.y[near]);
+    const [first, last] = [this._rim(near), this._rim(far)].map((rim) => Math.min(0.45, rim / length));
+    const aside = laneOffset(this.lanes[packet.id]) * Math.max(4, view.radius * 0.7);
+    return view.beside(near, far, first + part * (1 - first - last), aside);
+  }
+
+  /** How far from a node's middle packets are clear of its number. */
+  _rim(node) {
+    return this.view.hasNumbers && this.network.memberAt[node] >= 0 ? this.view.radius + this.radius : 0;
   }
 
   _move(packet, at, part) {
@@ -91,20 +102,14 @@ class NetworkPackets {
   }
 
   /** The operations that packets are about, above them, or left of them on steep links; where several meet, once. */
-  _drawLabels(context, r) {
+  _addLabels(context) {
     const { view } = this;
-    const { trace } = view.model;
     const labelled = new Set();
-    context.font = `11px ${TEXT_FONT}`;
-    context.textAlign = "center";
-    context.textBaseline = "middle";
+    const style = { font: `11px ${TEXT_FONT}`, colour: view.theme.ink };
     for (const { packet, place: [x, y], isSteep } of this.labels) {
-      const text = packet.name >= 0 ? trace.nameText(packet.name) : "session";
-      const lane = LABEL_HEIGHT * this.lanes[packet.id];
-      const left = isSteep ? x - r - 6 - context.measureText(text).width / 2 : x;
-      const top = isSteep ? y - lane : y - r - 10 - lane;
+      const text = packet.name >= 0 ? view.model.trace.nameText(packet.name) : "session";
       const key = `${text} ${Math.round(x / 8)} ${Math.round(y / 8)}`;
-      if (!labelled.has(key)) view.plate(context, text, left, top);
+      if (!labelled.has(key)) view.labels.add(context, text, placesAround([x, y], isSteep, -1, this.radius + 3), style);
       labelled.add(key);
     }
   }

@@ -6,8 +6,8 @@ const LEAST_RADIUS = 1.6;
 const MOST_SPACING = 120;
 const NETWORK_MARGIN = 46;
 const MOST_PICKED_LABELS = 12;
-// in the order in which small members are drawn
-const SMALL_STATES = [STATE.absent, STATE.left, STATE.rests, STATE.plans, STATE.lacks, STATE.asked];
+// parts of the way along a link
+const LINK_LABEL_PLACES = [0.3, 0.5, 0.7];
 
 /** Draws the network at a moment. */
 class NetworkView {
@@ -21,6 +21,7 @@ class NetworkView {
     this.surface = new Surface(canvas, () => this.resize());
     this.zoom = zoomOn(this.surface, [0.5, 60], (transform) => this._zoomed(transform), (place) => onPick(this.at(place)));
     this.sprites = new Sprites(this.surface);
+    this.smallMembers = new SmallMembers(this);
     this.packets = new NetworkPackets(this);
     this.resize();
   }
@@ -34,12 +35,19 @@ class NetworkView {
   /** Takes the box's size. */
   resize() {
     this.surface.fit();
-    this.fitted = this.layout.fitted(this.surface.width, this.surface.height, NETWORK_MARGIN);
+    const { width, height } = this.surface;
+    this.fitted = this.layout.fitted(width, height, Math.min(NETWORK_MARGIN, 0.08 * Math.min(width, height)));
     const points = Array.from(this.fitted.x, (x, node) => [x, this.fitted.y[node]]);
     this.spacing = spacingOf(points, MOST_SPACING);
     this.memberSpacing = spacingOf(this.network.memberNodes.map((node) => points[node]), MOST_SPACING);
+    this._spacePicked();
     this._place();
     this.draw();
+  }
+
+  _spacePicked() {
+    const nodes = this.picked.map((member) => this.network.memberNodes[member]);
+    this.pickedSpacing = spacingOf(nodes.map((node) => [this.fitted.x[node], this.fitted.y[node]]), MOST_SPACING);
   }
 
   /** The nodes' places on the canvas. Members that are few among many nodes are drawn larger than there is room for nodes. */
@@ -81,22 +89,44 @@ class NetworkView {
   draw() {
     if (this.surface.isHidden) return;
     const context = this.surface.cleared(this.theme.paper);
-    this.surface.paste(this._links());
+    this.surface.paste(this._background());
+    this._drawMoment(context);
+  }
+
+  /** Draws the view onto another context. */
+  drawOn(context) {
+    this._drawStill(context);
+    this._drawMoment(context);
+  }
+
+  _drawMoment(context) {
+    this.labels.restart();
     this._selectedLink(context);
     this._outages(context);
-    if (this.isSmall) this._smallMembers(context);
-    else this._members(context);
-    this._rings(context);
-    this._labels(context);
-    this.packets.draw(context);
+    if (this.isSmall) {
+      this.packets.draw(context);
+      this.smallMembers.draw(context);
+    } else this._members(context);
+    if (!this.hasHalos) this._rings(context);
+    if (!this.isSmall) this.packets.draw(context);
+    this._pickedNumbers(context);
+    this.labels.draw(context, this.theme);
+    if (this.hasNumbers) this._numbers(context);
   }
 
   // ---- links and nodes ----------------------------------------------------------------
 
   /** Links and what else stays as it is, drawn once for a place. */
-  _links() {
+  _background() {
     if (this.background) return this.background;
     const { canvas, context } = this.surface.copy(this.theme.paper);
+    this._drawStill(context);
+    this.background = canvas;
+    return canvas;
+  }
+
+  _drawStill(context) {
+    if (this.hasHalos) this._halos(context);
     context.strokeStyle = this.theme.node;
     context.lineWidth = Math.max(0.6, Math.min(2, this.room / 4));
     context.beginPath();
@@ -106,14 +136,16 @@ class NetworkView {
     }
     context.stroke();
     this._emptyNodes(context);
-    this._linkNumbers(context);
-    if (this.isSmall) this._memberPlaces(context);
-    this.background = canvas;
-    return canvas;
+    this._placeLinkNumbers(context);
+    if (this.isSmall) this.smallMembers.drawPlaces(context);
+  }
+
+  get _emptyRadius() {
+    return Math.max(1, Math.min(MOST_RADIUS, this.room) * 0.3);
   }
 
   _emptyNodes(context) {
-    const r = Math.max(1, Math.min(MOST_RADIUS, this.room) * 0.3);
+    const r = this._emptyRadius;
     context.fillStyle = this.theme.node;
     context.beginPath();
     for (let node = 0; node < this.network.nodes; node++) {
@@ -129,18 +161,37 @@ class NetworkView {
     return Math.abs(this.y[a] - this.y[b]) > Math.abs(this.x[a] - this.x[b]);
   }
 
-  /** The links' numbers, where there is room. */
-  _linkNumbers(context) {
+  /** Finds places for the links' numbers, where there is room, off the nodes. */
+  _placeLinkNumbers(context) {
+    this.labels = new Labels(this.surface.width, this.surface.height);
+    if (!this.isSmall) for (const node of this.network.memberNodes) this._avoid(node, this.radius);
     if (this.room < READABLE_RADIUS) return;
-    context.fillStyle = this.theme.soft;
-    context.font = `11px ${TEXT_FONT}`;
-    context.textBaseline = "middle";
+    for (const node of d3.range(this.network.nodes)) this._avoid(node, this._emptyRadius);
+    const style = { font: `11px ${TEXT_FONT}`, colour: this.theme.soft };
     this.network.links.forEach(({ a, b }, link) => {
-      const isSteep = this.isSteep(a, b);
-      context.textAlign = isSteep ? "left" : "center";
-      const along = [0.7 * this.x[a] + 0.3 * this.x[b] + 9, 0.7 * this.y[a] + 0.3 * this.y[b]];
-      context.fillText(`link ${link}`, ...(isSteep ? along : this.beside(a, b, 0.3, 14)));
+      const places = LINK_LABEL_PLACES.flatMap((part) => [1, -1].map((side) => this._placeBeside(a, b, part, side)));
+      if (places.some((place) => this._isInSight(place))) this.labels.add(context, `link ${link}`, places, style);
     });
+    this.labels.keep();
+  }
+
+  /** Keeps labels off a node. */
+  _avoid(node, r) {
+    const place = [this.x[node], this.y[node]];
+    if (this._isInSight(place)) this.labels.avoid(...place, r);
+  }
+
+  _isInSight([x, y]) {
+    const { width, height } = this.surface;
+    return x > -MOST_RADIUS && y > -MOST_RADIUS && x < width + MOST_RADIUS && y < height + MOST_RADIUS;
+  }
+
+  /** A place for a label part of the way along a link: below or right of it (1), or above or left (-1). */
+  _placeBeside(a, b, part, side) {
+    const [dx, dy] = [this.x[b] - this.x[a], this.y[b] - this.y[a]];
+    if (this.isSteep(a, b)) return [this.x[a] + part * dx + 6 * side, this.y[a] + part * dy, side];
+    const slope = Math.abs(dy) / (Math.hypot(dx, dy) || 1);
+    return [...this.beside(a, b, part, (14 + 14 * slope) * side), 0];
   }
 
   /** A place a part of the way along a link, so far beside it. */
@@ -148,9 +199,8 @@ class NetworkView {
     const dx = this.x[to] - this.x[from];
     const dy = this.y[to] - this.y[from];
     const length = Math.hypot(dx, dy) || 1;
-    const side = dx < 0 || (dx === 0 && dy < 0) ? -1 : 1;
-    const [across, down] = [(side * aside * dy) / length, (side * aside * dx) / length];
-    return [this.x[from] + part * dx + across, this.y[from] + part * dy + down];
+    const side = (aside / length) * (dx < 0 || (dx === 0 && dy > 0) ? -1 : 1);
+    return [this.x[from] + part * dx - side * dy, this.y[from] + part * dy + side * dx];
   }
 
   /** Links that are out now: broken, with a word beside them. */
@@ -177,13 +227,9 @@ class NetworkView {
 
   /** A word at the middle of a link: below or right of it (1), or above or left (-1), clear of a cross there. */
   note(context, from, to, side, text) {
-    const [x, y] = [(this.x[from] + this.x[to]) / 2, (this.y[from] + this.y[to]) / 2];
-    const isSteep = this.isSteep(from, to);
-    context.font = `bold 12px ${TEXT_FONT}`;
-    context.textAlign = !isSteep ? "center" : side > 0 ? "left" : "right";
-    context.textBaseline = "middle";
-    context.fillStyle = this.theme.cross;
-    context.fillText(text, isSteep ? x + 20 * side : x, isSteep ? y : y + 24 * side);
+    const middle = [(this.x[from] + this.x[to]) / 2, (this.y[from] + this.y[to]) / 2];
+    const places = placesAround(middle, this.isSteep(from, to), side, 17);
+    this.labels.add(context, text, places, { font: `bold 12px ${TEXT_FONT}`, colour: this.theme.cross });
   }
 
   // ---- members --------------------------------------------------------------------------
@@ -192,48 +238,6 @@ class NetworkView {
     const { states } = this.model;
     this.network.members.forEach(({ node, role }, member) =>
       drawMember(context, this.theme, role, states.of(member), this.x[node], this.y[node], this.radius));
-  }
-
-  /** Members as small marks. Those that hold all stand on the background; those that lack something come last. */
-  _smallMembers(context) {
-    const { states } = this.model;
-    const places = STATES.map(() => new Map());
-    this.network.members.forEach(({ node, role }, member) => {
-      const state = states.of(member);
-      if (state === STATE.holds) return;
-      if (!places[state].has(role)) places[state].set(role, []);
-      places[state].get(role).push([this.x[node], this.y[node]]);
-    });
-    for (const state of SMALL_STATES) {
-      for (const [role, some] of places[state]) this.sprites.copyTo(context, some, this._smallMark(state, role));
-    }
-  }
-
-  /** The mark of small members of a state and a role. */
-  _smallMark(state, role) {
-    const r = role === "sender" ? Math.max(4, this.radius) : this.radius;
-    const size = isLacking(state) ? Math.max(3.2, 1.3 * r) : r;
-    const draw = (context, x, y) => this._drawSmall(context, state, role, [x, y], size);
-    return { key: `${state} ${role}`, reach: 1.3 * size + 2, draw };
-  }
-
-  _drawSmall(context, state, role, [x, y], size) {
-    const style = stateStyle(this.theme, state);
-    context.beginPath();
-    roleOutline(context, role, x, y, size);
-    context.fillStyle = state === STATE.holds ? this.theme.node : style.fill;
-    context.fill();
-    context.strokeStyle = style.ring;
-    context.lineWidth = isLacking(state) ? 1.2 : 0.5;
-    context.stroke();
-  }
-
-  /** All members as if they held all, for the background. */
-  _memberPlaces(context) {
-    for (const { node, role } of this.network.members) {
-      const size = role === "sender" ? Math.max(4, this.radius) : this.radius;
-      this._drawSmall(context, STATE.holds, role, [this.x[node], this.y[node]], size);
-    }
   }
 
   /** Rings around the members that the selection concerns. */
@@ -248,34 +252,44 @@ class NetworkView {
     }
   }
 
-  /** Members' numbers: inside their marks, or where marks are small, only those of the picked ones. */
-  _labels(context) {
-    context.textAlign = "center";
-    context.textBaseline = "middle";
-    if (this.radius >= 8) {
-      context.font = `600 ${Math.min(13, this.radius + 1)}px ${TEXT_FONT}`;
-      this.network.members.forEach(({ node, role }, member) => {
-        context.fillStyle = textOn(stateStyle(this.theme, this.model.states.of(member)).fill);
-        context.fillText(member, this.x[node], this.y[node] + (role === "late" ? 1.5 : 0.5));
-      });
-    } else if (this.picked.length <= MOST_PICKED_LABELS) {
-      context.font = `600 12px ${TEXT_FONT}`;
-      for (const member of this.picked) {
-        const { node } = this.network.members[member];
-        this.plate(context, `${member}`, this.x[node], this.y[node] - this.radius - 14);
-      }
-    }
+  /** Whether rings around the picked members would meet: these then have halos, below the marks. */
+  get hasHalos() {
+    return this.pickedSpacing * this.transform.k < 2 * (this.radius + 7);
   }
 
-  /** A text on a plate of its own. */
-  plate(context, text, x, y) {
-    const width = context.measureText(text).width + 6;
-    context.fillStyle = this.theme.paper;
-    context.globalAlpha = 0.85;
-    context.fillRect(x - width / 2, y - 7, width, 14);
-    context.globalAlpha = 1;
-    context.fillStyle = this.theme.ink;
-    context.fillText(text, x, y);
+  _halos(context) {
+    context.beginPath();
+    for (const member of this.picked) {
+      const { node } = this.network.members[member];
+      outline(context, "circle", this.x[node], this.y[node], this.radius + 4);
+    }
+    context.fillStyle = this.theme.halo;
+    context.fill();
+  }
+
+  /** Whether members' numbers stand inside their marks. */
+  get hasNumbers() {
+    return this.radius >= 8;
+  }
+
+  _numbers(context) {
+    context.textAlign = "center";
+    context.textBaseline = "middle";
+    context.font = `600 ${Math.min(13, this.radius + 1)}px ${TEXT_FONT}`;
+    this.network.members.forEach(({ node, role }, member) => {
+      context.fillStyle = textOn(stateStyle(this.theme, this.model.states.of(member)).fill);
+      context.fillText(member, this.x[node], this.y[node] + (role === "late" ? 1.5 : 0.5));
+    });
+  }
+
+  /** The numbers of the picked members, where marks are too small for them. */
+  _pickedNumbers(context) {
+    if (this.hasNumbers || this.picked.length > MOST_PICKED_LABELS) return;
+    const style = { font: `600 12px ${TEXT_FONT}`, colour: this.theme.ink, isNeeded: true };
+    for (const member of this.picked) {
+      const { node } = this.network.members[member];
+      this.labels.add(context, `${member}`, placesAround([this.x[node], this.y[node]], false, -1, this.radius + 7), style);
+    }
   }
 
   // ---- selection ----------------------------------------------------------------------------
@@ -283,8 +297,7 @@ class NetworkView {
   /** What is seen, in words, for those who do not see it. */
   describe() {
     const { states } = this.model;
-    const byState = grouped(this.network.members, (_, member) => states.of(member));
-    const told = Array.from(byState, ([state, members]) => `${members.length} ${STATE_WORDS[STATES[state]]}`).join("; ");
+    const told = states.census().map((count, state) => count && `${count} ${STATE_WORDS[STATES[state]]}`).filter(Boolean).join("; ");
     this.surface.canvas.setAttribute("aria-label", `The network at tick ${Math.floor(states.tick)}. Members: ${told || "none"}.`);
   }
 
@@ -292,6 +305,8 @@ class NetworkView {
   select(selection, members) {
     this.selection = selection;
     this.picked = members;
+    this._spacePicked();
+    this.background = null;
     this.draw();
   }
 
@@ -304,4 +319,10 @@ class NetworkView {
     const link = nearestOf(links, ({ a, b }) => distanceToLine([x, y], place(a), place(b)), 5);
     return link && { kind: "link", link: links.indexOf(link) };
   }
+}
+
+/** Places for a label so far from a point: above (-1) or below it, or left (-1) or right of it; then on the other side. */
+function placesAround([x, y], isAcross, side, far) {
+  return [far, far + LABEL_TALL, -far, -far - LABEL_TALL].map((by) =>
+    (isAcross ? [x + side * by, y, side * Math.sign(by)] : [x, y + side * (by + (Math.sign(by) * LABEL_TALL) / 2), 0]));
 }

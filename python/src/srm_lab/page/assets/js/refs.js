@@ -1,7 +1,7 @@
 // Pieces of the panel that explains: words that lead to a member, a row, a packet; lists; tables.
 
 const MOST_LINES = 40;
-const MOST_MEMBERS = 16;
+const MOST_REFS = 16;
 
 /** Words that select what they name when they are clicked. */
 class References {
@@ -39,12 +39,16 @@ class References {
   /** Members one after the other; of many only the first. */
   members(members) {
     const sorted = members.slice().sort((one, other) => one - other);
-    const shown = sorted.slice(0, MOST_MEMBERS).flatMap((member, at) => [at ? ", " : "", this.member(member)]);
-    return sorted.length > MOST_MEMBERS ? [...shown, ` and ${sorted.length - MOST_MEMBERS} more`] : shown;
+    return this._first(sorted, (member) => this.member(member));
   }
 
   links(links) {
-    return links.flatMap((link, at) => [at ? " and " : "", this._to({ kind: "link", link }, `link ${link}`)]);
+    return this._first(links, (link) => this._to({ kind: "link", link }, `link ${link}`));
+  }
+
+  _first(items, made) {
+    const shown = items.slice(0, MOST_REFS).flatMap((item, at) => [at ? ", " : "", made(item)]);
+    return items.length > MOST_REFS ? [...shown, ` and ${items.length - MOST_REFS} more`] : shown;
   }
 }
 

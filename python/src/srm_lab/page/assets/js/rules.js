@@ -146,7 +146,7 @@ class Rules {
   _sent(row) {
     const packet = this.trace.packets[this.trace.sent[row]];
     const links = this.network.linksThatTookOut(packet);
-    const dropped = links.length ? ` It is dropped at link ${links.join(" and link ")}.` : "";
+    const dropped = links.length ? ` It is dropped at ${links.length > 1 ? "links" : "link"} ${ranges(links)}.` : "";
     return `It sends its packet ${this.trace.packetText(packet)} to all members.${dropped}`;
   }
 

@@ -31,7 +31,7 @@ class SequencePackets {
       const near = view.place.has(member) ? behind.before.get(this.network.memberNodes[member]) : null;
       if (near === null || near === undefined) continue;
       const way = this._way(packet, route, near, member);
-      if (way.y1 < TOP_MARGIN - 40 || way.y0 > view.surface.height) continue;
+      if (way.y1 < view.top - 40 || way.y0 > view.surface.height) continue;
       this._line(packet, way, this._shift(near, member, way.begin), row);
     }
     for (const at of this.network.fateOf(packet)?.dropped ?? []) this._dropped(packet, route, at, behind);

@@ -13,10 +13,10 @@ class SequenceScope {
   constructor(model, filters) {
     Object.assign(this, { model, filters });
     this.trace = model.trace;
-    this.isManyMembers = model.network.members.length > MOST_COLUMNS;
+    this.most = MOST_COLUMNS;
     this.isDense = false;
     this.focus = null;
-    this.focusOn(model.history.losses[0]?.name);
+    if (model.history.losses.length) this.focusOn({ name: model.history.losses[0].name });
     this.order = this._order();
     this.columns = this.order;
   }
@@ -29,21 +29,27 @@ class SequenceScope {
     return members.sort((one, other) => far[one] - far[other] || one - other);
   }
 
-  /** Takes an operation's loss as the one that is looked at; whether it is another than before. */
-  focusOn(name) {
-    if (name === undefined || name === this.focus?.name) return false;
+  /** Takes the loss of an operation, or that of one member, as the one that is looked at; whether it is another. */
+  focusOn({ name, member }) {
+    if (name === this.focus?.name && member === this.focus.member) return false;
     const losses = this.model.history.lossesOfName.get(name) ?? [];
-    this.focus = { name, finders: new Set(losses.map((loss) => this.trace.packet[loss.detected])) };
+    this.focus = { name, member, finders: new Set(losses.map((loss) => this.trace.packet[loss.detected])) };
     return true;
   }
 
-  /** Chooses the members, for a part of the run from one tick to another. */
-  choose(from, to) {
+  /** Whether there are more members than there is room for. */
+  get isManyMembers() {
+    return this.order.length > this.most;
+  }
+
+  /** Chooses at most so many members, for a part of the run from one tick to another. */
+  choose(from, to, most) {
+    this.most = most;
     const { members } = this.filters;
     let wanted = this.order;
     if (members) wanted = wanted.filter((member) => members.has(member));
     else if (this.isManyMembers) wanted = this._concerned(wanted);
-    this.isCut = wanted.length > MOST_COLUMNS;
+    this.isCut = wanted.length > most;
     this.columns = this.isCut ? this._nearest(wanted) : wanted;
     this.isDense = this._countIn(from, to) * this.columns.length > MOST_PACKET_LINES;
   }
@@ -55,7 +61,7 @@ class SequenceScope {
 
   /** The members that the loss concerns, or where there is none the nearest to the source. */
   _concerned(wanted) {
-    if (this.subject === null) return wanted.slice(0, MOST_COLUMNS);
+    if (this.subject === null) return wanted.slice(0, this.most);
     const concerned = this.model.reasonsOf(this.subject).members();
     return wanted.filter((member) => concerned.has(member));
   }
@@ -65,7 +71,7 @@ class SequenceScope {
     const about = this.trace.packets.filter((packet) => this.filters.showsName(packet.name));
     const senders = new Set(about.map((packet) => packet.sender));
     const ranked = wanted.slice().sort((one, other) => senders.has(other) - senders.has(one));
-    const kept = new Set(ranked.slice(0, MOST_COLUMNS));
+    const kept = new Set(ranked.slice(0, this.most));
     return wanted.filter((member) => kept.has(member));
   }
 
@@ -99,26 +105,36 @@ class SequenceScope {
     return this.isManyMembers || this.trace.packets.length * this.columns.length > MOST_PACKET_LINES;
   }
 
-  /** The ticks to begin with in a large run: from the loss's operation to its last recovery, or the first packets. */
-  extent() {
-    const { packets, time } = this.trace;
+  /**
+   * The first and the last tick to show: from a selected loss's detection to its end; else in a large run those of its
+   * first loss's operation, or the first packets; else none, for all.
+   */
+  extent(selection) {
+    const { packets } = this.trace;
+    const span = selection?.kind === "loss" ? this._spanOf(selection) : [];
+    if (span.length || !this.isLarge) return d3.extent(span);
     if (!this.focus) return d3.extent(packets.slice(0, FIRST_PACKETS), (packet) => packet.time);
-    const { name } = this.focus;
-    const { history } = this.model;
-    const losses = history.lossesOfName.get(name) ?? [];
-    const rows = losses.flatMap((loss) => [loss.detected, history.endOf(loss)]).filter((row) => row >= 0);
-    const sent = packets.filter((packet) => packet.name === name).map((packet) => packet.time);
-    return d3.extent([...sent, ...rows.map((row) => time[row])]);
+    const sent = packets.filter((packet) => packet.name === this.focus.name).map((packet) => packet.time);
+    return d3.extent([...sent, ...this._spanOf(this.focus)]);
   }
 
-  /** What is shown, in words. */
+  /** The ticks at which an operation's losses, or one member's, are found and end; a loss that stays ends with the run. */
+  _spanOf({ name, member = -1 }) {
+    const { history, moments } = this.model;
+    const all = history.lossesOfName.get(name) ?? [];
+    const losses = member < 0 ? all : all.filter((loss) => loss.member === member);
+    const tick = (row) => (row < 0 ? moments.end : this.trace.time[row]);
+    return losses.flatMap((loss) => [tick(loss.detected), tick(history.endOf(loss))]);
+  }
+
+  /** What is shown, in one or two phrases. */
   told() {
     const all = this.model.network.members.length;
     const name = this.subject === null ? "" : this.trace.nameText(this.subject);
     const parts = [this.columns.length === all ? "Members by their distance from the source" : this._toldMembers(all, name)];
     if (this.isFocused) parts.push(`only packets of ${name}${this.isManyMembers ? "" : ": zoom in to see all"}`);
     else if (this.isDense) parts.push("not all packets: zoom in to see all");
-    return parts.join("; ");
+    return parts;
   }
 
   _toldMembers(all, name) {

@@ -1,9 +1,13 @@
 // Time down, members across: packets, losses and timers.
 
 const TOP_MARGIN = 44;
+// below this width what is shown is told in two lines
+const NARROW = 560;
 const LEFT_MARGIN = 74;
 const RIGHT_MARGIN = 24;
 const WIDEST_COLUMN = 150;
+const LEAST_COLUMN = 11;
+const TOLD_TALL = 13;
 
 /** Draws the sequence of a run. */
 class SequenceView {
@@ -26,21 +30,21 @@ class SequenceView {
     this.redrawAll();
   }
 
-  /** Zooms to what a large run begins with; once, as soon as there is room, and when another loss is looked at. */
+  /** Zooms to the selected loss, or to what a large run begins with: once there is room, and when another is selected. */
   _place() {
     if (this.isPlaced) return;
     this.isPlaced = true;
-    const [begin, end] = this.scope.extent();
-    if (this.scope.isLarge && end !== undefined) this._zoomTo(begin, end);
+    const [begin, end] = this.scope.extent(this.selection);
+    if (end !== undefined) this._zoomTo(begin, end);
   }
 
   _zoomTo(begin, end) {
     const [first, last] = this.base.domain();
-    const [top, bottom] = this.base.range();
+    const [top] = this.base.range();
     const margin = Math.max(1, 0.08 * (end - begin));
-    const k = Math.max(1, (last - first) / (end - begin + 2 * margin));
-    const y = top - k * this.base(Math.max(first, begin - margin));
-    this.transform = d3.zoomIdentity.translate(0, k === 1 ? 0 : Math.max(y, bottom - k * bottom)).scale(k);
+    const from = Math.max(first, begin - margin);
+    const k = (last - first) / (Math.min(last, end + margin) - from);
+    this.transform = d3.zoomIdentity.translate(0, top - k * this.base(from)).scale(k);
     this.surface.canvas.__zoom = this.transform;
   }
 
@@ -66,26 +70,40 @@ class SequenceView {
   /** The scales for the present size, zoom and members. */
   _scales() {
     const { width, height } = this.surface;
-    this.base.range([TOP_MARGIN + 14, height - 20]);
+    this.isNarrow = width < NARROW;
+    this.top = TOP_MARGIN + (this.isNarrow ? TOLD_TALL : 0);
+    this.base.range([this.top + 14, height - 20]);
     this._place();
     this.y = this.transform.rescaleY(this.base);
-    [this.from, this.to] = [this.y.invert(TOP_MARGIN), this.y.invert(height)];
-    this.scope.choose(this.from, this.to);
+    [this.from, this.to] = [this.y.invert(this.top), this.y.invert(height)];
+    const room = width - LEFT_MARGIN - RIGHT_MARGIN;
+    this.scope.choose(this.from, this.to, Math.max(1, Math.min(MOST_COLUMNS, Math.floor(room / LEAST_COLUMN))));
     const { columns } = this.scope;
     this.place = new Map(columns.map((member, at) => [member, at]));
-    const room = width - LEFT_MARGIN - RIGHT_MARGIN;
     this.step = Math.min(room / Math.max(1, columns.length), WIDEST_COLUMN);
     const left = LEFT_MARGIN + (room - this.step * columns.length) / 2;
     this.x = (member) => left + this.step * (this.place.get(member) + 0.5);
   }
 
   _drawPicture() {
+    const { canvas, context } = this.surface.copy(this.theme.paper);
+    this._drawRun(context);
+    this.picture = canvas;
+    this._describe();
+  }
+
+  /** Draws the view onto another context. */
+  drawOn(context) {
+    this._drawRun(context);
+    this._now(context);
+  }
+
+  _drawRun(context) {
     this._scales();
     this.hits = [];
-    const { canvas, context } = this.surface.copy(this.theme.paper);
     context.save();
     context.beginPath();
-    context.rect(0, TOP_MARGIN, this.surface.width, this.surface.height - TOP_MARGIN);
+    context.rect(0, this.top, this.surface.width, this.surface.height - this.top);
     context.clip();
     this._ticks(context);
     this._outages(context);
@@ -95,8 +113,6 @@ class SequenceView {
     this._timers(context);
     context.restore();
     this._heads(context);
-    this.picture = canvas;
-    this._describe();
   }
 
   // ---- ticks, outages, members' lines -------------------------------------------------
@@ -113,7 +129,7 @@ class SequenceView {
       const y = Math.round(this.y(tick)) + 0.5;
       context.moveTo(LEFT_MARGIN - 4, y);
       context.lineTo(this.surface.width - 8, y);
-      if (y > TOP_MARGIN + 8) context.fillText(grouping(tick), LEFT_MARGIN - 8, y);
+      if (y > this.top + 8) context.fillText(grouping(tick), LEFT_MARGIN - 8, y);
     }
     context.stroke();
   }
@@ -131,7 +147,7 @@ class SequenceView {
       context.textAlign = "left";
       const row = rows.get(from) ?? 0;
       rows.set(from, row + 1);
-      if (row < 4) context.fillText(`link ${link} out`, LEFT_MARGIN + 2, Math.max(top, TOP_MARGIN) + 9 + 12 * row);
+      if (row < 4) context.fillText(`link ${link} out`, LEFT_MARGIN + 2, Math.max(top, this.top) + 9 + 12 * row);
     }
   }
 
@@ -143,7 +159,7 @@ class SequenceView {
     for (const member of this.scope.columns) {
       const x = this.x(member);
       const [top, end] = [yOf(joined[member]), yOf(left[member])];
-      strokeLine(context, [[x, TOP_MARGIN], [x, top]], this.theme.node, 1, [2, 4]);
+      strokeLine(context, [[x, this.top], [x, top]], this.theme.node, 1, [2, 4]);
       strokeLine(context, [[x, top], [x, end]], this.theme.node, 1.2, []);
       if (left[member] < 0) continue;
       cross(context, x, end, 5, this.theme.ink, 2);
@@ -201,19 +217,20 @@ class SequenceView {
   /** The members' names, on a band that stays above. */
   _heads(context) {
     context.fillStyle = this.theme.paper;
-    context.fillRect(0, 0, this.surface.width, TOP_MARGIN);
+    context.fillRect(0, 0, this.surface.width, this.top);
     context.fillStyle = this.theme.soft;
     context.font = `11px ${TEXT_FONT}`;
     context.textAlign = "left";
     context.textBaseline = "middle";
-    context.fillText(this.scope.told(), 10, 8);
+    const lines = this.isNarrow ? this.scope.told() : [this.scope.told().join("; ")];
+    lines.forEach((line, at) => context.fillText(line, 10, 8 + TOLD_TALL * at, this.surface.width - 20));
     context.textAlign = "right";
-    context.fillText("tick", LEFT_MARGIN - 8, 30);
+    context.fillText("tick", LEFT_MARGIN - 8, this.top - 14);
     for (const member of this.scope.columns) {
       if (this.step < 24) this._steepHead(context, member);
       else this._head(context, member);
     }
-    strokeLine(context, [[0, TOP_MARGIN - 0.5], [this.surface.width, TOP_MARGIN - 0.5]], this.theme.line, 1, []);
+    strokeLine(context, [[0, this.top - 0.5], [this.surface.width, this.top - 0.5]], this.theme.line, 1, []);
   }
 
   _isPicked(member) {
@@ -224,7 +241,7 @@ class SequenceView {
     const x = this.x(member);
     const colour = this._isPicked(member) ? this.theme.accent : this.theme.holds;
     context.beginPath();
-    roleOutline(context, this.network.members[member].role, x, 29, Math.min(11, this.step * 0.45));
+    roleOutline(context, this.network.members[member].role, x, this.top - 15, Math.min(11, this.step * 0.45));
     context.fillStyle = colour;
     context.fill();
     context.strokeStyle = this.theme.ink;
@@ -233,13 +250,13 @@ class SequenceView {
     context.fillStyle = textOn(colour);
     context.font = `600 11px ${TEXT_FONT}`;
     context.textAlign = "center";
-    context.fillText(member, x, 30);
+    context.fillText(member, x, this.top - 14);
   }
 
   /** A member's number upwards, where columns are narrow. */
   _steepHead(context, member) {
     context.save();
-    context.translate(this.x(member), TOP_MARGIN - 4);
+    context.translate(this.x(member), this.top - 4);
     context.rotate(-Math.PI / 2);
     context.fillStyle = this._isPicked(member) ? this.theme.accent : this.theme.ink;
     context.font = `600 10px ${TEXT_FONT}`;
@@ -252,7 +269,7 @@ class SequenceView {
   _now(context) {
     const { tick } = this.model.states;
     const y = this.y(tick);
-    if (y < TOP_MARGIN - 1 || y > this.surface.height + 1) return;
+    if (y < this.top - 1 || y > this.surface.height + 1) return;
     strokeLine(context, [[LEFT_MARGIN - 4, y], [this.surface.width, y]], this.theme.accent, 1.6, []);
     context.font = `bold 11px ${TEXT_FONT}`;
     const text = grouping(Math.floor(tick));
@@ -268,7 +285,7 @@ class SequenceView {
   /** What is seen, in words, for those who do not see it. */
   _describe() {
     const [from, to] = [Math.max(0, Math.floor(this.from)), Math.ceil(this.to)];
-    this.surface.canvas.setAttribute("aria-label", `Sequence from tick ${from} to ${to}: time down. ${this.scope.told()}.`);
+    this.surface.canvas.setAttribute("aria-label", `Sequence from tick ${from} to ${to}: time down. ${this.scope.told().join("; ")}.`);
   }
 
   // ---- zoom, selection -----------------------------------------------------------------------
@@ -278,7 +295,7 @@ class SequenceView {
     this.draw();
     if (this.transform.k === 1 || !this.y || this.surface.isHidden) return;
     const y = this.y(this.model.states.tick);
-    if (y >= TOP_MARGIN + 10 && y <= this.surface.height - 30) return;
+    if (y >= this.top + 10 && y <= this.surface.height - 30) return;
     d3.select(this.surface.canvas).call(this.zoom.translateBy, 0, (this.surface.height * 0.4 - y) / this.transform.k);
   }
 
@@ -286,7 +303,7 @@ class SequenceView {
   zoomBy(factor) {
     const { width, height } = this.surface;
     const y = this.y(this.model.states.tick);
-    const centre = [width / 2, y > TOP_MARGIN && y < height ? y : height / 2];
+    const centre = [width / 2, y > this.top && y < height ? y : height / 2];
     d3.select(this.surface.canvas).call(this.zoom.scaleBy, factor, centre);
   }
 
@@ -294,16 +311,16 @@ class SequenceView {
     d3.select(this.surface.canvas).call(this.zoom.transform, d3.zoomIdentity);
   }
 
-  /** Shows what is selected. A loss that was not looked at before is zoomed to where the run is large. */
+  /** Shows what is selected. A loss that was not looked at before is zoomed to. */
   select(selection) {
     this.selection = selection;
-    if (selection?.kind === "loss" && this.scope.focusOn(selection.name) && this.scope.isLarge) this.isPlaced = false;
+    if (selection?.kind === "loss" && this.scope.focusOn(selection)) this.isPlaced = false;
     this.redrawAll();
   }
 
   /** The event, packet or member at a place. */
   at([x, y]) {
-    if (y < TOP_MARGIN) {
+    if (y < this.top) {
       const member = this.scope.columns.find((it) => Math.abs(this.x(it) - x) < this.step / 2);
       return member === undefined ? null : { kind: "member", member };
     }

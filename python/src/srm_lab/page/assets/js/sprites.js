@@ -11,8 +11,15 @@ class Sprites {
     this.kept = new Map();
   }
 
-  /** Copies a mark to places. `draw(context, x, y)` draws it, within so many pixels of its middle. */
+  /**
+   * Copies a mark to places. `draw(context, x, y)` draws it, within so many pixels of its middle; it is not copied to other
+   * contexts than the surface's own.
+   */
   copyTo(context, places, { key, reach, draw }) {
+    if (context !== this.surface.context) {
+      for (const [x, y] of places) draw(context, x, y);
+      return;
+    }
     if (!this.kept.has(key)) this.kept.set(key, this._made(reach, draw));
     const { canvas, half } = this.kept.get(key);
     for (const [x, y] of places) context.drawImage(canvas, x - half, y - half, 2 * half, 2 * half);

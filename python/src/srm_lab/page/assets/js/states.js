@@ -113,6 +113,13 @@ class States {
     return this.counts[count][member];
   }
 
+  /** How many members are in each state. */
+  census() {
+    const found = STATES.map(() => 0);
+    for (let member = 0; member < this.members; member++) found[this.of(member)]++;
+    return found;
+  }
+
   /** A member's state, a number of STATES. */
   of(member) {
     const { left, joined } = this.history;

@@ -106,10 +106,8 @@ class TablePanel {
 
   /** Saves the shown table as the program writes it. */
   save() {
-    const url = URL.createObjectURL(new Blob([this.model.csv(this.name)], { type: "text/csv" }));
     const name = this.name === "rows" ? "trace" : this.name;
-    element("a", { href: url, download: `${this.model.about.title}.${name}.csv` }).click();
-    setTimeout(() => URL.revokeObjectURL(url), 10000);
+    save(new Blob([this.model.csv(this.name)], { type: "text/csv" }), `${this.model.about.title}.${name}.csv`);
   }
 }
 
