@@ -62,7 +62,7 @@ def test_refused_run_fails_alone_and_is_run_again(sweep, tmp_path):
     assert first.returncode != 0 and "refused: bad-drop 0" in first.stderr
     assert not (results / "tables/one.csv").exists()
     assert [(runs / f"seed-{seed}.losses.csv").exists() for seed in (1, 2, 3)] == [True, False, True]
-    assert (runs / "seed-2.run.log").read_text() == "refused: bad-drop 0\n"
+    assert (runs / "part-0.log").read_text() == "seed 2: refused: bad-drop 0\n"
     before = [(runs / f"seed-{seed}.losses.csv").stat().st_mtime_ns for seed in (1, 3)]
     second = sweep("none")
     assert second.returncode == 0, second.stderr
