@@ -2,6 +2,7 @@
 
 Each test needs a program of its own (mandoc, fish, zsh), and is skipped without it.
 """
+import argparse
 import re
 import shutil
 import subprocess
@@ -37,8 +38,8 @@ def options(srm_lab):
 
 def options_of(kind):
     """The long options of a kind of network, or of pages."""
-    kinds = next(action.choices for action in cli.parser()._actions if action.dest == "kind")
-    parser = page_command.parser() if kind == "page" else kinds[kind]
+    kinds = next(action for action in cli.parser()._actions if isinstance(action, argparse._SubParsersAction))
+    parser = page_command.parser() if kind == "page" else kinds.choices[kind]
     return [word for action in parser._actions for word in action.option_strings if word.startswith("--")]
 
 
@@ -77,8 +78,8 @@ def test_man_page_of_the_format_names_each_key():
 
 
 def test_example_of_the_man_page_runs(srm_lab):
-    example = re.search(r"^\.Bd -literal.*?\n(.*?)^\.Ed", (ROOT / "man/srm_lab.5").read_text(), re.MULTILINE | re.DOTALL)
-    members = [line.split(",")[0] for line in srm_lab(example[1], "--show", "losses").splitlines()]
+    (example,) = re.findall(r"^\.Bd -literal.*?\n(.*?)^\.Ed", (ROOT / "man/srm_lab.5").read_text(), re.MULTILINE | re.DOTALL)
+    members = [line.split(",")[0] for line in srm_lab(example, "--show", "losses").splitlines()]
     assert members == ["member", "2", "3", "4"]
 
 
