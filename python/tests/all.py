@@ -67,7 +67,7 @@ def main() -> int:
         told = passes(PYTHON, "-m", "flake8", ".")
         passed, failed = passed + told, failed + (not told)
     if "the type checker" not in lacking:
-        told = passes("mypy") and passes("mypy", "--allow-untyped-defs", "python/tests")
+        told = passes(PYTHON, "-m", "mypy") and passes(PYTHON, "-m", "mypy", "--allow-untyped-defs", "python/tests")
         passed, failed = passed + told, failed + (not told)
     if "the tests of the package" not in lacking:
         of_tests = tests()
