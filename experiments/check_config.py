@@ -2,7 +2,8 @@
 
 usage: check_config.py CONFIG
 
-Ends with status 1 and one line on standard error where a part of the configuration could not be made.
+It is run in the configuration's folder, in which that names files. Ends with status 1 and one line on standard error where
+a part of the configuration could not be made.
 """
 import sys
 

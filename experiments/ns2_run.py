@@ -1,11 +1,8 @@
 """One run of a sweep by the SRM agent of ns-2 in place of srm_lab: its rounds of loss, in the same tables.
 
-usage: ns2_run.py SCENARIO SEED LOSSES OPERATIONS
-
-The seed is that of ns-2's own random numbers. LOSSES and OPERATIONS are the files that are written. Where members adapt
-their timers, it is Agent/SRM/Adaptive as it ships, for a group of so many members, and otherwise Agent/SRM.
+Where members adapt their timers, it is Agent/SRM/Adaptive as it ships, for a group of so many members, and otherwise
+Agent/SRM.
 """
-import sys
 from collections import Counter
 from collections.abc import Iterator
 from pathlib import Path
@@ -39,13 +36,9 @@ def operations_of(given: Scenario, result: Result) -> Iterator[tuple[Any, ...]]:
         yield (0, 0, number, len(ends), 0, len(ends) - len(done), sent["ask", number], sent["answer", number], *delays)
 
 
-def main(scenario: str, seed: str, losses: str, operations: str) -> None:
-    """Runs, and writes."""
-    text = Path(scenario).read_text()
-    given, result = read_scenario(text), ns2(text, seed=int(seed))
+def run(scenario: Path, seed: int, losses: Path, operations: Path) -> None:
+    """Runs a scenario's file with a seed of ns-2's own random numbers, and writes its losses and its operations."""
+    text = scenario.read_text()
+    given, result = read_scenario(text), ns2(text, seed=seed)
     write(losses, LossesTable.columns, losses_of(given, result))
     write(operations, OperationsTable.columns, operations_of(given, result))
-
-
-if __name__ == "__main__":
-    main(*sys.argv[1:])

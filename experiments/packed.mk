@@ -6,9 +6,9 @@ ARGUMENTS ?=
 .PHONY: help run
 
 help: ## lists these targets
-	@sed -n 's/^\([a-z0-9-]*\):[^#]*## \(.*\)/\1\t\2/p' $(MAKEFILE_LIST) | awk -F '\t' '{ printf "make %-12s %s\n", $$1, $$2 }'
+	@$(HELP)
 
 run: ## prints the trace of a scenario, or what ARGUMENTS ask for: make run SCENARIO=examples/two-nodes.toml ARGUMENTS="--show links"
-	@$(PROGRAM) $(ARGUMENTS) < $(SCENARIO)
+	@$(PROGRAM) $(EXPLAIN) $(ARGUMENTS) < $(SCENARIO)
 
 include experiments/targets.mk

@@ -1,11 +1,13 @@
 # What of the Python package and the experiments needs the repository: their tests, and what is packed and installed.
-.PHONY: check-experiments
+.PHONY: check-experiments test-package test-clean-root
 
-check-experiments: $(SRM_LAB) ## runs a linter and a type checker over all Python of the repository, then the package's tests, and every command of the tutorial and the study
-	$(PYTHON) -m flake8 .
-	mypy && mypy --allow-untyped-defs python/tests
-	cd python && SRM_LAB=$(abspath $(SRM_LAB)) $(PYTHON) -m pytest -q -p no:cacheprovider
-	@$(MAKE) --no-print-directory check-tutorial
+test-package: $(SRM_LAB) ## runs linter, type checker and tests of all Python, as far as Debian's packages for it are installed
+	@SRM_LAB=$(abspath $(SRM_LAB)) python/tests/all.py
+
+check-experiments: test-package check-tutorial ## the same, and then each command of the tutorial and the study
+
+test-clean-root: $(SRM_LAB) ## installs wheel and Debian package in a root of Debian that has nothing else, and tests them there
+	cd python && SRM_LAB=$(abspath $(SRM_LAB)) $(PYTHON) -m pytest -q -rs -p no:cacheprovider -m clean_root
 
 # time and memory beside the plain program of bench/, which `make bench` builds too, and beside ns-2
 PLAIN := out/baseline
@@ -15,10 +17,10 @@ $(PLAIN): $(wildcard bench/baseline/*.rs)
 	rustc -O --edition 2021 -o $@ bench/baseline/main.rs
 
 .PHONY: compare-sizes
-compare-sizes: $(SRM_LAB) $(PLAIN) ## prints time and memory at four sizes, of the program, of a plain program and, where it is there, of ns-2, which takes long
+compare-sizes: $(SRM_LAB) $(PLAIN) ## prints time and memory at four sizes, of the program, of a plain one and, if it is there, of ns-2
 	cd experiments && PYTHONPATH=$(abspath python/src) $(PYTHON) -u compare_sizes.py $(abspath $(SRM_LAB)) --plain $(abspath $(PLAIN))
 
-# ---- a program that installs ---------------------------------------------------
+# ---- what a user without the toolchain gets --------------------------------------
 SHARE = $(DESTDIR)$(PREFIX)/share
 PACKED ?= out
 # the program's own version; of a commit that is not tagged with it, with the commit's number
@@ -26,38 +28,71 @@ RELEASE = $(shell $(PROGRAM) --version 2> /dev/null | cut -d ' ' -f 2)
 TAG = $(shell git describe --tags --exact-match 2> /dev/null)
 VERSION ?= $(RELEASE)$(if $(TAG),,+$(shell git rev-parse --short HEAD))
 DIST = srm_lab-$(VERSION)
-DIST_FILES = README.md CHANGELOG.md CITATION.cff LICENSE-MIT LICENSE-APACHE docs examples python experiments
+TREE = $(PACKED)/$(DIST)
+DIST_FILES = CHANGELOG.md CITATION.cff LICENSE-MIT LICENSE-APACHE NOTICES.md docs examples python experiments packaging
+COMPLETED = srm_lab srm-scenarios
+EPOCH = $(shell git log -1 --format=%ct)
+# a Debian package names who made it, and a commit before a release is older than the release
+MAINTAINER ?= $(shell git log -1 --format='%an <%ae>')
+DEB_VERSION = $(subst +,~,$(VERSION))
+# the oldest C library with all that the program asks of it: of every Linux with that one or a later one
+GLIBC = $(shell objdump -T $(PROGRAM) | grep -o 'GLIBC_2\.[0-9]*' | sort -V | tail -n 1 | tr -dc '0-9.' | tr . _)
+PLATFORM = manylinux_$(GLIBC)_$(shell uname -m)
 
-.PHONY: install-shared dist
+.PHONY: install-shared packed-tree dist wheel deb
 
 # `make install` puts the program in place, and with it these
 install: install-shared
 
 install-shared:
-	install -D -m 644 man/srm_lab.1 $(SHARE)/man/man1/srm_lab.1
-	install -D -m 644 completions/srm_lab.bash $(SHARE)/bash-completion/completions/srm_lab
-	install -D -m 644 completions/_srm_lab $(SHARE)/zsh/site-functions/_srm_lab
-	install -D -m 644 completions/srm_lab.fish $(SHARE)/fish/vendor_completions.d/srm_lab.fish
+	install -D -m 644 -t $(SHARE)/man/man1 man/*.1
+	install -D -m 644 -t $(SHARE)/man/man5 man/*.5
+	for command in $(COMPLETED); do \
+		install -D -m 644 completions/$$command.bash $(SHARE)/bash-completion/completions/$$command && \
+		install -D -m 644 completions/_$$command $(SHARE)/zsh/site-functions/_$$command && \
+		install -D -m 644 completions/$$command.fish $(SHARE)/fish/vendor_completions.d/$$command.fish || exit 1; done
 	mkdir -p $(SHARE)/doc/srm_lab
-	cp -r --no-preserve=mode README.md CHANGELOG.md CITATION.cff LICENSE-MIT LICENSE-APACHE docs examples $(SHARE)/doc/srm_lab/
+	cp -r --no-preserve=mode README.md $(filter %.md %.cff LICENSE-% docs examples,$(DIST_FILES)) $(SHARE)/doc/srm_lab/
 
-# the same commit and program give the same bytes
-dist: $(PROGRAM) ## packs program, man page, completions, the Python package, examples, docs and licences for machines without the toolchain: out/srm_lab-VERSION.tar.gz
+# the folder that is packed, and of which the wheel and the Debian package are made; its documents and package are the
+# commit's, with a README and a Makefile of its own
+packed-tree: $(PROGRAM)
 	@test -z "$(TAG)" -o "$(TAG)" = "v$(RELEASE)" || \
 		{ echo "this commit is tagged $(TAG), and the program says that it is $(RELEASE)" >&2; exit 1; }
-	rm -rf $(PACKED)/$(DIST) && mkdir -p $(PACKED)/$(DIST)
-	install -D -m 755 $(PROGRAM) $(PACKED)/$(DIST)/bin/srm_lab
-	$(MAKE) --no-print-directory install-shared PREFIX= DESTDIR=$(abspath $(PACKED)/$(DIST))
-	git archive HEAD $(DIST_FILES) | tar -x -C $(PACKED)/$(DIST)
-	mv $(PACKED)/$(DIST)/experiments/packed.mk $(PACKED)/$(DIST)/Makefile
-	rm -r $(PACKED)/$(DIST)/python/tests $(PACKED)/$(DIST)/experiments/repository.mk
-	strip $(PACKED)/$(DIST)/bin/srm_lab
-	tar -C $(PACKED) --sort=name --owner=0 --group=0 --numeric-owner --mtime=@$$(git log -1 --format=%ct) -cf - $(DIST) \
-		| gzip -n9 > $(PACKED)/$(DIST).tar.gz
-	@echo $(PACKED)/$(DIST).tar.gz
+	rm -rf $(TREE) && mkdir -p $(TREE)
+	git archive HEAD $(DIST_FILES) man completions | tar -x -C $(TREE)
+	mv $(TREE)/packaging/packed.md $(TREE)/README.md
+	mv $(TREE)/experiments/packed.mk $(TREE)/Makefile
+	install -D -m 755 $(PROGRAM) $(TREE)/bin/srm_lab && strip $(TREE)/bin/srm_lab
+	cd $(TREE) && $(MAKE) --no-print-directory -f $(abspath experiments/repository.mk) install-shared PREFIX= DESTDIR=.
+	rm -r $(addprefix $(TREE)/,man completions packaging python/tests experiments/repository.mk)
+
+# the same commit and program give the same bytes
+dist: packed-tree ## packs the program, and all that needs no sources, for machines without the toolchain: out/srm_lab-VERSION.tar.gz
+	tar -C $(PACKED) --sort=name --owner=0 --group=0 --numeric-owner --mtime=@$(EPOCH) -cf - $(DIST) | gzip -n9 > $(TREE).tar.gz
+	@echo $(TREE).tar.gz
+
+wheel: packed-tree ## makes a wheel of the Python package with the program in it
+	rm -rf $(PACKED)/wheel && cp -r $(TREE)/python $(PACKED)/wheel && cp -r $(TREE)/bin $(TREE)/share $(PACKED)/wheel/
+	cp $(TREE)/LICENSE-* $(TREE)/NOTICES.md $(PACKED)/wheel/
+	git show HEAD:packaging/wheel.toml | sed 's/@PLATFORM@/$(PLATFORM)/' >> $(PACKED)/wheel/pyproject.toml
+	sed -i 's/^version = .*/version = "$(VERSION)"/' $(PACKED)/wheel/pyproject.toml
+	SOURCE_DATE_EPOCH=$(EPOCH) $(PYTHON) -m pip --quiet --disable-pip-version-check wheel --no-deps --no-index \
+		--no-build-isolation --wheel-dir $(PACKED) $(PACKED)/wheel
+	@ls -t $(PACKED)/srm_lab-*.whl | head -n 1
+
+deb: packed-tree ## makes a Debian package of the program and the Python package
+	rm -rf $(PACKED)/deb && mkdir -p $(PACKED)/deb && cp -r $(TREE) $(PACKED)/deb/srm-lab
+	git archive HEAD packaging/debian | tar -x -C $(PACKED)/deb/srm-lab --strip-components=1
+	cd $(PACKED)/deb/srm-lab/debian && sed -i 's/@MAINTAINER@/$(MAINTAINER)/' control && printf '%s\n' \
+		'srm-lab ($(DEB_VERSION)) unstable; urgency=medium' '' '  * What changed is in CHANGELOG.md.' '' \
+		" -- $(MAINTAINER)  $$(LC_ALL=C date -R -u -d @$(EPOCH))" > changelog
+	cd $(PACKED)/deb/srm-lab && SOURCE_DATE_EPOCH=$(EPOCH) dpkg-buildpackage --build=binary --no-sign > ../log 2>&1 || { cat ../log; exit 1; } >&2
+	mv $(PACKED)/deb/*.deb $(PACKED)
+	@ls -t $(PACKED)/srm-lab_*.deb | head -n 1
 
 .PHONY: experiments-figures
 SHOWN = $(shell grep -o 'figures/[a-z0-9_]*\.svg' docs/EXPERIMENTS.md)
-experiments-figures: ## puts the figures of the last `make experiments`, with each CONFIG of the repository, where docs/EXPERIMENTS.md shows them
+experiments-figures: ## puts the figures of the last `make experiments`, with each CONFIG, where docs/EXPERIMENTS.md shows them
 	install -D -m 644 -t docs/figures \
 		$(foreach results,results results-sparse results-adaptive results-adaptive-ns2,$(wildcard $(SHOWN:%=experiments/$(results)/%)))

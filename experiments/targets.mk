@@ -2,13 +2,23 @@
 # in what `make dist` packs. All of it needs the packages in experiments/packages.txt, and Debian's own Python.
 PYTHON ?= /usr/bin/python3
 SRM_LAB ?= $(PROGRAM)
+# a refusal is explained, unless ARGUMENTS say so themselves: an option may be given once
+EXPLAIN = $(if $(filter --explain,$(ARGUMENTS)),,--explain)
+
+# a line for each target with what stands after its ##, wrapped at 100 columns
+HELP = sed -n 's/^\([a-z0-9-]*\):[^\#]*\#\# \(.*\)/\1\t\2/p' $(MAKEFILE_LIST) | awk -F '\t' '{ \
+	line = sprintf("make %-20s", $$1); count = split($$2, words, " "); \
+	for (at = 1; at <= count; at++) { \
+		if (length(line) + 1 + length(words[at]) > 100) { print line; line = sprintf("%25s", "") } \
+		line = line " " words[at] } \
+	print line }'
 
 .PHONY: experiments-packages check-tutorial
 
-experiments-packages: ## installs the Debian packages that experiments need (as root, after apt-get update)
+experiments-packages: ## installs the Debian packages that these targets need (as root, after apt-get update)
 	apt-get install -y --no-install-recommends $$(cat experiments/packages.txt)
 
-check-tutorial: $(SRM_LAB) ## runs every command of the tutorial and the study, and compares what they write with the pages
+check-tutorial: $(SRM_LAB) ## runs each command of the tutorial and the study, and compares what it writes with the page
 	$(PYTHON) experiments/check_tutorial.py $(SRM_LAB) docs/TUTORIAL.md docs/STUDY.md
 
 .PHONY: picture
@@ -30,23 +40,24 @@ CONFIG ?= experiments/config.yaml
 JOBS ?= $(shell nproc)
 # a name is taken from where make was called, and where there is no such file, from experiments/
 CONFIG_FILE = $(firstword $(wildcard $(PWD)/$(CONFIG) $(abspath $(CONFIG)) $(abspath experiments/$(CONFIG))) $(CONFIG))
-# only one sweep at a time into one folder; the lock is the process's, so that a killed sweep leaves none behind
-SNAKEMAKE = cd experiments && export PYTHONPATH=$(abspath python/src) && \
-	results=$$($(PYTHON) check_config.py $(CONFIG_FILE)) && mkdir -p "$$results" && \
+# it runs in the folder of its configuration, in which that names files; only one sweep at a time into one folder of
+# results: the lock is the process's, so that a killed sweep leaves none behind
+SNAKEMAKE = cd $(dir $(CONFIG_FILE)) && export PYTHONPATH=$(abspath python/src) && \
+	results=$$($(PYTHON) $(abspath experiments/check_config.py) $(CONFIG_FILE)) && mkdir -p "$$results" && \
 	flock --verbose --nonblock --conflict-exit-code 3 "$$results/.lock" \
-	snakemake --nolock --rerun-incomplete --keep-going --show-failed-logs --configfile $(CONFIG_FILE)
+	snakemake --snakefile $(abspath experiments/Snakefile) --nolock --rerun-incomplete --keep-going --show-failed-logs \
+	--configfile $(CONFIG_FILE) --config program=$(abspath $(SRM_LAB))
+REPORT = && realpath "$$results/report.html"
 
 .PHONY: experiments experiments-slurm
-experiments: $(SRM_LAB) ## runs the sweeps of experiments/config.yaml, or CONFIG=.., with their tables, figures and report; what is there is kept
-	$(SNAKEMAKE) --cores $(JOBS) --config program=$(abspath $(SRM_LAB))
+experiments: $(SRM_LAB) ## makes the sweeps of experiments/config.yaml or CONFIG=.., their figures and report; keeps what is there
+	$(SNAKEMAKE) --cores $(JOBS) $(REPORT)
 
-# fifty runs in a job, of which as many run side by side as the job has processors; the directory has to be one that all
-# nodes share
+# up to fifty runs in a job; the directory has to be one that all nodes share
 experiments-slurm: CORES ?= 4
-experiments-slurm: $(SRM_LAB) ## the same, its runs submitted to Slurm: make experiments-slurm JOBS=2 CORES=2
-	$(SNAKEMAKE) --jobs $(JOBS) --cores $(CORES) --config program=$(abspath $(SRM_LAB)) \
-		--group-components runs=50 --latency-wait 60 \
-		--cluster "sbatch --parsable --cpus-per-task={threads} --output=$(abspath experiments)/.snakemake/slurm-%j.log"
+experiments-slurm: $(SRM_LAB) ## the same by Slurm: make experiments-slurm JOBS=2 CORES=2 SBATCH="--partition=short --time=30"
+	$(SNAKEMAKE) --jobs $(JOBS) --cores $(CORES) --latency-wait 60 \
+		--cluster "sbatch --parsable --cpus-per-task={threads} --output=.snakemake/slurm-%j.log $(SBATCH)" $(REPORT)
 
 .PHONY: compare-ns2
 compare-ns2: $(SRM_LAB) ## runs 320 scenarios in srm_lab and in ns-2, and explains each difference

@@ -4,6 +4,9 @@
 #   slurm/one_node.sh start DIR    starts munged, slurmctld and slurmd with their files under DIR, and waits till the
 #                                  node is idle; then: export SLURM_CONF=DIR/slurm.conf
 #   slurm/one_node.sh stop DIR     stops the processes that start started, by their numbers
+#
+# It has one partition, `all`, no accounts and no time limit, so that jobs need no options for these. For a cluster that
+# wants them: make experiments-slurm SBATCH="--partition=NAME --account=NAME --time=MINUTES"
 set -eu
 what=${1:?start or stop}
 dir=$(realpath -m "${2:?a directory}")

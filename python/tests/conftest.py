@@ -7,7 +7,7 @@ import pytest
 ROOT = Path(__file__).resolve().parents[2]
 
 
-@pytest.fixture
+@pytest.fixture(scope="session")
 def program():
     """The path of the built program; without it the test is skipped."""
     path = Path(os.environ.get("SRM_LAB", ROOT / "crates/srm_lab/out/srm_lab"))

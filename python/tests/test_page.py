@@ -13,14 +13,14 @@ from srm_lab.page.columns import packed, steps
 from srm_lab.page.command import main
 from srm_lab.page.cut import Cut
 from srm_lab.page.document import Document
-from srm_lab.page.html import filled, in_script
+from srm_lab.page.html import ASSETS, filled, in_script
 from srm_lab.page.words import Words
 from srm_lab.reading import read_scenario
 from srm_lab.tables import read_trace
 
 ROOT = Path(__file__).resolve().parents[2]
 EXAMPLES = ROOT / "examples"
-STYLES = (ROOT / "python/src/srm_lab/page/assets/page.css").read_text()
+STYLES = (ASSETS / "page.css").read_text()
 LATE = """version = 1
 until = 100
 c1 = 1000

@@ -62,7 +62,7 @@ def test_refused_run_fails_alone_and_is_run_again(sweep, tmp_path):
     assert first.returncode != 0 and "refused: bad-drop 0" in first.stderr
     assert not (results / "tables/one.csv").exists()
     assert [(runs / f"seed-{seed}.losses.csv").exists() for seed in (1, 2, 3)] == [True, False, True]
-    assert (runs / "seed-2.run.log").read_text() == "refused: bad-drop 0\n"
+    assert (runs / "part-0.log").read_text() == "seed 2: refused: bad-drop 0\n"
     before = [(runs / f"seed-{seed}.losses.csv").stat().st_mtime_ns for seed in (1, 3)]
     second = sweep("none")
     assert second.returncode == 0, second.stderr
@@ -110,8 +110,7 @@ def started(tmp_path):
         waiting = f"touch {begun}\nuntil [ -e {waits_for} ]; do sleep 0.1; done\n"
         program.write_text(PROGRAM.replace("#!/bin/sh\n", f"#!/bin/sh\n{waiting}"))
         program.chmod(0o755)
-        config.write_text(json.dumps({"experiments": {"one": {**ONE, "seeds": 1}},
-                                      "results": str(tmp_path / name)}))
+        config.write_text(json.dumps({"experiments": {"one": {**ONE, "seeds": 1}}, "results": name}))
         return subprocess.Popen(["make", "-s", f"--directory={HERE.parent}", "experiments", f"CONFIG={config}",
                                  f"SRM_LAB={program}", "JOBS=1"], stderr=subprocess.PIPE, stdout=subprocess.PIPE,
                                 text=True)
@@ -120,11 +119,15 @@ def started(tmp_path):
 
 
 def test_sweeps_with_different_results_run_side_by_side(started, tmp_path):
-    """The program of each waits until that of the other has begun, so neither would end after the other."""
+    """The program of each waits until that of the other has begun, so neither would end after the other.
+
+    Results lie beside the configuration, and the last line is the report's path.
+    """
     sweeps = started("first", tmp_path / "second.begun"), started("second", tmp_path / "first.begun")
     for sweep, name in zip(sweeps, ("first", "second")):
-        _, told = sweep.communicate(timeout=600)
+        out, told = sweep.communicate(timeout=600)
         assert sweep.returncode == 0, told
+        assert out.splitlines()[-1] == str(tmp_path / name / "report.html")
         assert len((tmp_path / name / "tables/one.csv").read_text().splitlines()) == 2
 
 

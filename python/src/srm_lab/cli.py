@@ -276,16 +276,20 @@ def parser() -> argparse.ArgumentParser:
     return whole
 
 
+def text_of(words: Sequence[str]) -> str:
+    """The scenario file of the words of a command line, which it names."""
+    scenario = build(parser().parse_args(words))
+    command = shlex.join(words).encode("unicode_escape").decode()  # one line, whatever the words have
+    return replace(scenario, comments=(f"made by: srm-scenarios {command}",)).text()
+
+
 def main(words: Sequence[str] | None = None) -> int:
     """Writes the scenario of the words, or says on standard error why there is none and ends with status 1."""
     words = sys.argv[1:] if words is None else words
     if words[:1] == ["page"]:
         return page_command.main(words[1:])
-    options = parser().parse_args(words)
     try:
-        scenario = build(options)
-        command = shlex.join(words).encode("unicode_escape").decode()  # one line, whatever the words have
-        sys.stdout.write(replace(scenario, comments=(f"made by: srm-scenarios {command}",)).text())
+        sys.stdout.write(text_of(words))
     except ScenarioError as fault:
         sys.stderr.write(f"srm-scenarios: {fault}\n")
         return 1

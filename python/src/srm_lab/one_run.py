@@ -1,18 +1,12 @@
-"""One run of a sweep: the program is run once, and the tables that the sweep needs are written.
-
-usage: python3 -m srm_lab.one_run PROGRAM SCENARIO SEED LOSSES OPERATIONS [NAME=FILE.py:FUNCTION ..]
-
-LOSSES and OPERATIONS are the files that are written. Each NAME is a metric: a column of OPERATIONS, the number that
-FUNCTION of FILE.py gives for the run, of which it is handed the tables (srm_lab.Runs of one seed).
-"""
+"""One run of a sweep: the program is run once, and the tables that the sweep needs are written."""
 import csv
 import importlib.util
-import sys
-from collections.abc import Callable, Iterable, Sequence
+import os
+from collections.abc import Callable, Iterable, Mapping
 from pathlib import Path
 from typing import Any
 
-from .errors import RefusedError, ScenarioError
+from .errors import ScenarioError
 from .measures import TABLES, Measure, measure
 from .reading import load_scenario
 from .scenario import Scenario
@@ -37,38 +31,30 @@ def function_of(text: str) -> Callable[..., Any]:
     return getattr(module, name)
 
 
-def metrics_of(given: Scenario, seed: int, measured: dict[str, Measure], words: Iterable[str]) -> dict[str, Any]:
-    """The metrics of a run, by name."""
+def metrics_of(given: Scenario, seed: int, measured: dict[str, Measure], metrics: Mapping[str, str]) -> dict[str, Any]:
+    """The metrics of a run, by name: the number that each FILE.py:FUNCTION gives for the tables of the run."""
     from .runs import Runs, framed
 
     runs = Runs(given, (seed,), framed(given, [(seed, measured)]))
-    return {name: function_of(text)(runs) for name, _, text in (word.partition("=") for word in words)}
+    return {name: function_of(text)(runs) for name, text in metrics.items()}
 
 
-def write(path: str, columns: Iterable[str], rows: Iterable[Iterable[Any]]) -> None:
-    """Writes a table; what has no value is an empty field."""
-    with open(path, "w", newline="", encoding="utf-8") as out:
+def write(path: str | Path, columns: Iterable[str], rows: Iterable[Iterable[Any]]) -> None:
+    """Writes a table, at once when it is whole; what has no value is an empty field."""
+    part = f"{path}.part"
+    with open(part, "w", newline="", encoding="utf-8") as out:
         table = csv.writer(out, lineterminator="\n")
         table.writerow(columns)
         table.writerows(rows)
+    os.replace(part, path)
 
 
-def main(words: Sequence[str] | None = None) -> int:
-    """Runs, and writes; or says on standard error why not, and ends with status 1."""
-    program, scenario, seed, losses, operations, *metrics = sys.argv[1:] if words is None else words
-    try:
-        given = load_scenario(scenario)
-        with trace_of(given, int(seed), find_program(program)) as rows:
-            measured = measure(given, rows, [name for name in TABLES if name != "trace"] if metrics else NEEDED)
-        extra = metrics_of(given, int(seed), measured, metrics) if metrics else {}
-    except (ScenarioError, RefusedError) as fault:
-        sys.stderr.write(f"{fault}\n")
-        return 1
+def run(program: str, scenario: Path, seed: int, losses: Path, operations: Path, metrics: Mapping[str, str]) -> None:
+    """Runs a scenario's file, and writes its losses and its operations, with the metrics as columns of the latter."""
+    given = load_scenario(scenario)
+    with trace_of(given, seed, find_program(program)) as rows:
+        measured = measure(given, rows, [name for name in TABLES if name != "trace"] if metrics else NEEDED)
+    extra = metrics_of(given, seed, measured, metrics) if metrics else {}
     write(losses, measured["losses"].columns, measured["losses"].rows())
     write(operations, [*measured["operations"].columns, *extra],
           ([*row, *extra.values()] for row in measured["operations"].rows()))
-    return 0
-
-
-if __name__ == "__main__":
-    sys.exit(main())

@@ -160,8 +160,8 @@ def run(given: Scenario, seeds: Iterable[int] = range(1), tables: Iterable[str] 
     on all); a bar shows the progress where standard error is a terminal, or where `progress` says so. What a run gave
     is kept in the folder `cache` (by default the user's, srm_lab in XDG_CACHE_HOME), and read from there where the
     scenario, the seed and the program are the same; with None nothing is kept. The program is `program`, or SRM_LAB of
-    the environment, or srm_lab on the path; `options` are more words of its command line that leave the trace as it is,
-    such as `--engine` and `window`.
+    the environment, or the one of the package's wheel, or srm_lab on the path; `options` are more words of its command
+    line that leave the trace as it is, such as `--engine` and `window`.
 
     Raises RefusedError with the program's line where it refuses a run, and ScenarioError where no table has a name.
     """

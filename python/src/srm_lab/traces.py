@@ -5,6 +5,7 @@ import subprocess
 import tempfile
 from collections.abc import Iterable, Iterator, Sequence
 from contextlib import contextmanager
+from importlib.metadata import PackageNotFoundError, distribution
 from pathlib import Path
 from typing import IO
 
@@ -14,13 +15,25 @@ from .tables import Row, read_trace
 
 
 def find_program(program: str | Path | None = None) -> Path:
-    """The program: the one given, or SRM_LAB of the environment, or srm_lab on the path."""
-    named = program or os.environ.get("SRM_LAB") or shutil.which("srm_lab")
-    if named is None:
+    """The program: the one given, or SRM_LAB of the environment, or the one of the package's wheel, or srm_lab."""
+    named = program or os.environ.get("SRM_LAB") or _of_the_wheel() or "srm_lab"
+    found = shutil.which(named)
+    if found is not None:
+        return Path(found).resolve()
+    if named == "srm_lab":
         raise ScenarioError("there is no program srm_lab: put it on the path, or say where it is in SRM_LAB")
-    if not Path(named).exists():
-        raise ScenarioError(f"there is no program {named}")
-    return Path(named).resolve()
+    raise ScenarioError(f"there is no program {named}")
+
+
+def _of_the_wheel() -> Path | None:
+    """The program that was installed with this package, and not with another of its name."""
+    try:
+        installed = distribution("srm_lab")
+    except PackageNotFoundError:
+        return None
+    if Path(str(installed.locate_file("srm_lab"))).resolve() != Path(__file__).resolve().parent:
+        return None
+    return next((Path(str(one.locate())) for one in installed.files or () if one.parts[-2:] == ("bin", "srm_lab")), None)
 
 
 @contextmanager

@@ -2,8 +2,6 @@
 import argparse
 import csv
 import io
-import os
-import shutil
 import subprocess
 import sys
 from collections.abc import Sequence
@@ -12,13 +10,14 @@ from pathlib import Path
 from ..errors import ScenarioError
 from ..reading import read_scenario
 from ..tables import read_trace
+from ..traces import find_program
 from .cut import MOST_ROWS, Cut
 from .document import Document
 from .html import page
 
 ABOUT = """Writes a page that plays a run to standard output: one HTML file, which opens from disk and asks nothing
-of the network. Without a trace the run is made: by --program, by the program that the environment's SRM_LAB names, or
-by srm_lab of the PATH.
+of the network. Without a trace the run is made: by --program, by the program that the environment's SRM_LAB names, by
+that which was installed with this package, or by srm_lab of the PATH.
 """
 COLUMNS = ["time", "member", "cause", "ref", "result", "lost", "sent"]
 
@@ -62,11 +61,9 @@ def trace_of(options: argparse.Namespace, scenario: bytes) -> str:
     """The trace's text: of the file, or of a run."""
     if options.trace is not None:
         return Path(options.trace).read_text(encoding="utf-8")
-    named = options.program or os.environ.get("SRM_LAB") or "srm_lab"
-    program = shutil.which(named)
-    if program is None:
-        raise ScenarioError(f"there is no program {named}: name one with --program or in SRM_LAB, or give a trace")
-    done = subprocess.run([program, "--seed", str(options.seed)], input=scenario, capture_output=True, check=False)
+    program = find_program(options.program)
+    done = subprocess.run([program, "--explain", "--seed", str(options.seed)], input=scenario, capture_output=True,
+                          check=False)
     if done.returncode != 0:
         raise ScenarioError(f"{options.scenario}: {done.stderr.decode(errors='replace').strip()}")
     return done.stdout.decode()
