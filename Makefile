@@ -36,10 +36,10 @@ check: ## what an edit needs: proves what changed (or CRATE=srm_net), and checks
 	cd crates/$(CRATE) && $(RT) $(if $(CRATE),check,all check --jobs $(JOBS))
 
 test: ## the merge gate: `rt ci`, then the scripts of tests/ on what it built
-	@tools/gate.py tests/sources tests/fuzz tests/program python/tests/plain.py
+	@SRM_LAB=$(abspath $(SRM_LAB)) tools/gate.py tests/sources tests/fuzz tests/program python/tests/plain.py python/tests/all.py
 
 test-program: $(PROGRAM) $(TEST_PROGRAMS) ## runs the built program: its tables, refusals, options, limits, memory
-	@tools/gate.py --scripts tests/program tests/fuzz
+	@SRM_LAB=$(abspath $(SRM_LAB)) tools/gate.py --scripts tests/program tests/fuzz
 
 fuzz: $(PROGRAM) ## tries random scenarios, each table computed a second time: make fuzz SECONDS=60
 	@tests/fuzz/fuzz.py --seconds $(SECONDS)
@@ -56,7 +56,9 @@ clean: ## removes what was built, and every proof that was kept
 	rm -rf out crates/*/out
 
 help: ## lists these targets
-	@sed -n 's/^\([a-z0-9-]*\):[^#]*## \(.*\)/\1\t\2/p' $(MAKEFILE_LIST) | awk -F '\t' '{ printf "make %-12s %s\n", $$1, $$2 }'
+	@sed -n 's/^\([a-z0-9-]*\):[^#]*## \(.*\)/\1 \2/p' $(MAKEFILE_LIST) | awk '{ line = sprintf("make %-19s", $$1); \
+		for (i = 2; i <= NF; i++) { if (length(line $$i) > 98) { print line; line = sprintf("%24s", "") } line = line " " $$i } \
+		print line }'
 
 install: $(PROGRAM) ## copies the program to PREFIX/bin, by default /usr/local/bin
 	install -D -m 755 $(PROGRAM) $(DESTDIR)$(PREFIX)/bin/srm_lab

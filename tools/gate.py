@@ -36,22 +36,22 @@ def scripts(places: Iterable[str]) -> list[pathlib.Path]:
     return [it.resolve() for paths in held for it in paths if it.is_file() and os.access(it, os.X_OK)]
 
 
-def passes(script: pathlib.Path) -> bool:
-    """Runs a script to its end, prints what it told, and whether it passed."""
+def passes(script: pathlib.Path) -> tuple[bool, list[str]]:
+    """Runs a script to its end, prints what it told, and gives whether it passed, and its lines on what it did not run."""
     began = time.monotonic()
     ran = subprocess.run([script], stdin=subprocess.DEVNULL, stdout=subprocess.PIPE, stderr=subprocess.STDOUT, check=False)
     verdict = "passed" if ran.returncode == 0 else f"FAILED with status {ran.returncode}"
-    head = f"== {os.path.relpath(script)}: {verdict} in {time.monotonic() - began:.0f} seconds\n"
-    print(head + ran.stdout.decode(errors="replace"), end="", flush=True)
-    return ran.returncode == 0
+    told = ran.stdout.decode(errors="replace")
+    print(f"== {os.path.relpath(script)}: {verdict} in {time.monotonic() - began:.0f} seconds\n{told}", end="", flush=True)
+    return ran.returncode == 0, [line for line in told.splitlines() if line.startswith("not run: ")]
 
 
 def main() -> int:
     status, passed, failed = (0, 0, 0) if "--scripts" in sys.argv else of_rt()
     with ThreadPoolExecutor(len(os.sched_getaffinity(0))) as threads:
-        results = [*threads.map(passes, scripts(it for it in sys.argv[1:] if it != "--scripts"))]
-    passed, failed = passed + sum(results), failed + results.count(False)
-    print(f"{passed} passed, {failed} failed")
+        ends = [*threads.map(passes, scripts(it for it in sys.argv[1:] if it != "--scripts"))]
+    passed, failed = passed + sum(well for well, _ in ends), failed + sum(not well for well, _ in ends)
+    print(*(line for _, lines in ends for line in lines), f"{passed} passed, {failed} failed", sep="\n")
     return max(status, int(failed > 0 or not passed))
 
 
