@@ -23,7 +23,7 @@ check-tutorial: $(SRM_LAB) ## runs each command of the tutorial and the study, a
 
 .PHONY: picture
 picture: $(SRM_LAB) ## draws a run: make picture SCENARIO=examples/star-loss-at-one-member.toml ARGUMENTS="--seed 2" PICTURE="--from 10 --to 40" > star.svg
-	@trace=$$(mktemp) && trap 'rm -f "$$trace"' EXIT && $(SRM_LAB) $(ARGUMENTS) < $(SCENARIO) > "$$trace" && \
+	@trace=$$(mktemp) && trap 'rm -f "$$trace"' EXIT && $(SRM_LAB) $(EXPLAIN) $(ARGUMENTS) < $(SCENARIO) > "$$trace" && \
 		PYTHONPATH=python/src $(PYTHON) -m srm_lab.picture $(SCENARIO) "$$trace" $(PICTURE)
 
 .PHONY: page pages
