@@ -3,7 +3,7 @@ import csv
 from collections.abc import Callable
 from typing import TextIO
 
-from .sweep import COLUMNS, NAME, Experiment
+from .experiment import COLUMNS, NAME, Experiment
 
 
 def write_table(experiment: Experiment, path_of: Callable[[str, int], str], out: TextIO) -> None:

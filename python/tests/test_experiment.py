@@ -6,7 +6,7 @@ import pytest
 
 from srm_lab import ScenarioError
 from srm_lab.gather import write_table
-from srm_lab.sweep import Experiment, Needs, check_config
+from srm_lab.experiment import Experiment, Needs, check_config
 
 ROOT = Path(__file__).resolve().parents[2]
 
