@@ -39,7 +39,8 @@ def function_of(text: str) -> Callable[..., Any]:
 
 def metrics_of(given: Scenario, seed: int, measured: dict[str, Measure], words: Iterable[str]) -> dict[str, Any]:
     """The metrics of a run, by name."""
-    from .runs import Runs, framed
+    from .frames import framed
+    from .runs import Runs
 
     runs = Runs(given, (seed,), framed(given, [(seed, measured)]))
     return {name: function_of(text)(runs) for name, _, text in (word.partition("=") for word in words)}

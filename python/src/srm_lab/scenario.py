@@ -7,6 +7,7 @@ Every function and verb gives a scenario that the format takes, or raises Scenar
 key and the rule. Times and delays are in ticks. All random choices are those of the scenario's seed, of each verb its
 own.
 """
+import hashlib
 import math
 import random
 from collections.abc import Iterable
@@ -176,6 +177,10 @@ class Scenario:
     def text(self) -> str:
         """The scenario file."""
         return writing.text_of(self.check())
+
+    def digest(self) -> str:
+        """The SHA-256 of the scenario file without its comments in front: what tells scenarios apart."""
+        return hashlib.sha256(replace(self, comments=()).text().encode()).hexdigest()
 
     def write(self, path: str | Path) -> Path:
         """Writes the scenario file, and gives its path."""

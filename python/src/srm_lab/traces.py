@@ -23,6 +23,11 @@ def find_program(program: str | Path | None = None) -> Path:
     return Path(named).resolve()
 
 
+def version_of(program: Path) -> str:
+    """What the program says that it is, such as `srm_lab 0.2.0`."""
+    return subprocess.run([program, "--version"], capture_output=True, text=True, check=False).stdout.strip()
+
+
 @contextmanager
 def trace_of(given: Scenario, seed: int, program: Path, options: Sequence[str] = ()) -> Iterator[Iterator[Row]]:
     """The rows of a run, while the program writes them; RefusedError where it refuses the run.
