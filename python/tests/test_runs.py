@@ -262,7 +262,7 @@ def test_other_endings_are_refused(ending, program, tmp_path):
 
 
 def test_follower_forgets_packets_that_have_come_to_everyone(srm_lab):
-    given = scenario.chain(5, delay=10).drawing(2000, every=10).lose(every=50, link=2)
+    given = scenario.chain(5, delay=10).drawing(2000, every=10).lose(every=50, link=2, any_packet=True)
     follower = Follower(given)
     most = 0
     for _ in follower.follow(read_trace(io.StringIO(srm_lab(given.text())))):

@@ -120,6 +120,28 @@ def test_every_third_packet_is_lost():
         Drop(1, 0, count) for count in (0, 3, 6))
 
 
+SLOW = scenario.chain(3, delay=10).drawing(9, every=100)  # from member 0 to member 2 it is 20 ticks
+
+
+@pytest.mark.parametrize("given, words, tick", [
+    # member 1 finds its loss at 110, asks at 130, is heard at 140 and answered at 150; member 2 at 120, 160, 180 and 200
+    (SLOW, {"every": 4, "link": 0}, 150),
+    (SLOW, {"every": 4, "link": 1}, 200),
+    (SLOW.constants(c1=0.5, d1=0.1), {"every": 4, "link": 0}, 126),
+    # the first packet is lost on the other link too
+    (SLOW.drop(0, 0), {"every": 8, "link": 1}, 150),
+    (SLOW.outage(0, 0, 0), {"every": 8, "link": 1}, 150),
+    (SLOW.session(60), {"every": 4, "link": 0}, 60),
+    # member 2 draws at 0 and at 5; member 1 finds its loss at 15, asks at 35, is heard at 45 and answered at 55
+    (SLOW.role([2], "sender").draw(0, 2).draw(5, 2).drop(1, 0, sender=2), {"every": 4, "link": 0}, 55),
+    # member 2 comes at 30, and asks for what was before at 70
+    (SLOW.role([2], "late", pages=[0]).join([2], at=30), {"every": 4, "link": 0}, 110),
+])
+def test_data_is_lost_and_no_repair_in_place_of_it(given, words, tick):
+    with pytest.raises(ScenarioError, match=rf"packet \d of the source is drawn at tick \d00, and from tick {tick} on"):
+        given.lose(**words)
+
+
 def test_losses_of_one_of_several_senders():
     given = scenario.chain(6, seed=3).role([4], "sender").drawing(50).drawing(30, member=4)
     assert given.lose(every=10, link="adjacent", sender=4).drops in (
@@ -166,15 +188,13 @@ def test_one_seed_gives_one_scenario_and_verbs_choose_apart():
     (lambda: scenario.chain(3).constants(d2=2, d2_most=1), "`d2_most` is 1000, and has to be 2000 to 1024000"),
     (lambda: replace(scenario.chain(3).constants(c2_most=9), version=2).check(), "`c2_most` is no key here before version 3"),
     (lambda: replace(scenario.chain(3), backoff=4).check(), "`backoff` is 4, and has to be 2 to 3"),
-    (lambda: scenario.chain(3).ends(4), "draw 0: `at`"),
+    (lambda: scenario.chain(3).ends(4), "draw 4: `at` is 4, which is not before the end of the run at 4"),
     (lambda: replace(scenario.chain(3).back(7), version=1).check(), "`back` is no key here in version 1"),
     (lambda: scenario.star(3).back(7, most=9), "one delay back for all links of a star"),
     (lambda: scenario.chain(3, source=5), "there is no node 5"),
     (lambda: scenario.star(3, source=0), "no node that may host"),
 ])
 def test_what_is_refused_has_a_sentence_with_the_key_and_the_rule(make, told):
-    if told == "draw 0: `at`":
-        told = "draw 1: `at` is 100, which is not before the end of the run at 4"
     with pytest.raises(ScenarioError) as fault:
         make()
     assert told in str(fault.value)

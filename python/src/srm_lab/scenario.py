@@ -27,7 +27,8 @@ from .rules import check_rules
 from .setting import logarithm, setting
 from .tree import Tree
 
-DELAY = 100
+# a session's links, and its source's draws: they are over before the first loss is asked for
+DELAY, DRAWS, EVERY = 1000, 100, 1
 Ticks = int | tuple[int, int]
 
 
@@ -274,7 +275,7 @@ class Scenario:
         """Lets a member send a session message."""
         return self._with(sessions=(*self.sessions, Session(member, at)))
 
-    def drawing(self, count: int, every: int = DELAY, start: int = 0, member: int = 0, page: int = 0) -> "Scenario":
+    def drawing(self, count: int, every: int = EVERY, start: int = 0, member: int = 0, page: int = 0) -> "Scenario":
         """In place of all draws and session messages of a sender: so many draws, `every` ticks apart, on one page.
 
         A session message follows `every` ticks after the last of them, so that a loss of the last one is found too.
@@ -308,14 +309,17 @@ class Scenario:
         return self._with(drops=(*self.drops, *(Drop(link, sender, one) for one in counts)))
 
     def lose(self, rate: float | None = None, every: int | None = None, link: int | str | None = None,
-             packets: int | None = None, seed: int | None = None, sender: int | None = None) -> "Scenario":
-        """Drops packets by a rule, which is written as the list of drops that it gives.
+             packets: int | None = None, seed: int | None = None, sender: int | None = None,
+             any_packet: bool = False) -> "Scenario":
+        """Drops packets of senders by a rule, which is written as the list of drops that it gives.
 
         With a `rate` each link on the way from a sender to another member drops each packet of that sender with this
         probability, or only those of one `sender`. With `every` a link drops the packets 0, K, 2 K and so on of the
         `sender`, by default member 0. `link` says which one: a number, `adjacent` to the sender, `random`, or `hops:H`
         away from it; with a rate all links do where none is named. A packet counts among all that its sender sends; the
-        first `packets` may be lost, by default as many as it draws.
+        first `packets` may be lost, by default as many as it draws. Every K-th has to be data of the draws, losses and
+        timers that the scenario has by now: where a repair might come in place of it that is refused, unless
+        `any_packet` allows it.
         """
         if (rate is None) == (every is None):
             raise ScenarioError("lose: give either a rate or every")
@@ -327,7 +331,10 @@ class Scenario:
             if named is None:
                 raise ScenarioError("lose: every needs a link")
             counts = range(0, self._packets(one, packets), within("every", every, 1, NEWEST.elements))
-            return self._with(drops=(*self.drops, *(Drop(named, one, count) for count in counts)))
+            made = self.drop(named, counts, one)
+            if not any_packet:
+                losses.check_that_data_is_lost(made, one)
+            return made
         found = losses.bernoulli(self, _probability(rate), named, rng, lambda sender: self._packets(sender, packets))
         return self._with(drops=(*self.drops, *(drop for drop in found if sender in (None, drop.sender))))
 
@@ -453,7 +460,7 @@ def from_router_map(graph: Any, delays: Delays | int = Delays(), members: int | 
 
 
 def on(tree: Tree, members: int | str = "all", source: int | str = "first", seed: int = 0) -> Scenario:
-    """A session on a network: member 0, a sender, draws 100 times, 100 ticks apart, and the others receive.
+    """A session on a network: member 0, a sender, draws 100 times, a tick apart, and the others receive.
 
     `members` is how many there are, the source among them, on nodes chosen at random, or `all`. `source` is a node by
     its number or name, `first` or `random`. `drawing` puts other draws in place of these.
@@ -464,7 +471,7 @@ def on(tree: Tree, members: int | str = "all", source: int | str = "first", seed
 def _session(tree: Tree, nodes: Iterable[int], seed: int) -> Scenario:
     """A session of members on these nodes, the source's first."""
     made = tuple(Member(node, "receiver" if place else "sender", place + 1) for place, node in enumerate(nodes))
-    return Scenario(tree, made, seed=seed).drawing(100)
+    return Scenario(tree, made, seed=seed).drawing(DRAWS)
 
 
 def place_members(tree: Tree, members: int | str, source: int | str, rng: random.Random) -> list[int]:
