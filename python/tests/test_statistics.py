@@ -89,6 +89,7 @@ def test_group_of_nothing_has_no_row():
 @pytest.mark.parametrize("words, told", [
     ({"expression": "lag"}, "there is no column 'lag': there are c2, seed"),
     ({"expression": "dealy / 2"}, "no column 'dealy' .did you mean 'delay'"),
+    ({"expression": "delya"}, "no column 'delya' .did you mean 'delay'"),
     ({"expression": "delay +"}, "'delay .' gives no number for each row"),
     ({"expression": "ended"}, "'ended' gives no number for each row"),
     ({"expression": "delay", "by": ["sede"]}, "no column 'sede' .did you mean 'seed'"),

@@ -4,6 +4,7 @@ from collections.abc import Callable, Iterable
 from typing import TYPE_CHECKING
 
 from .errors import ScenarioError
+from .limits import within
 from .parts import Drop
 from .tree import Tree
 
@@ -27,9 +28,8 @@ def links_in_use(tree: Tree, source: int, nodes: Iterable[int]) -> dict[int, int
 
 def link_of(choice: str, given: "Scenario", rng: random.Random, sender: int = 0) -> int:
     """The link of a choice (`choose_link`), seen from a member."""
-    if sender >= len(given.members):
-        raise ScenarioError(f"there is no member {sender}, from which the link could be chosen")
     nodes = [member.node for member in given.members]
+    within("sender", sender, 0, len(nodes) - 1)
     return choose_link(choice, given.tree, nodes.pop(sender), nodes, rng)
 
 
