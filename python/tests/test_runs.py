@@ -3,6 +3,7 @@ import hashlib
 import io
 import json
 import os
+import re
 import stat
 import subprocess
 import sys
@@ -15,6 +16,7 @@ import pytest
 
 from srm_lab import RefusedError, ScenarioError, __version__, read_scenario, run, save, scenario
 from srm_lab.follower import Follower
+from srm_lab.frames import COLUMNS
 from srm_lab.tables import read_trace
 
 ROOT = Path(__file__).resolve().parents[2]
@@ -286,3 +288,12 @@ def test_memory_does_not_grow_with_the_trace_where_only_tables_are_asked_for(pro
         found.append([int(word) for word in done.stdout.split()])
     (few, before), (many, after) = found
     assert many > 15 * few and after < before + 8 * 1024  # kilobytes
+
+
+def test_page_of_tables_has_each_column_in_order():
+    page = (ROOT / "docs/TABLES.md").read_text()
+    for section in page.split("\n## `")[1:]:
+        name = section.split("`")[0]
+        lines = [line.split(":", 1)[0] for line in section.splitlines() if line.startswith("- ")]
+        assert re.findall("`([a-z0-9_]+)`", " ".join(lines)) == list(COLUMNS[name]), name
+    assert page.count("\n## ") == len(COLUMNS)

@@ -177,15 +177,6 @@ def test_one_seed_gives_one_scenario_and_verbs_choose_apart():
     (lambda: scenario.chain(3).leave(3, 5), "members is 3, and has to be 0 to 2"),
     (lambda: scenario.chain(3).leave([7], 5), "there is no member 7: there are 3"),
     (lambda: scenario.chain(3).leave([1], (9, 5)), "its first tick is after its last"),
-    (lambda: scenario.chain(3).leave("some", 5), "members is 'some', and has to be a whole number"),
-    (lambda: scenario.chain(3).leave(1, "soon"), "at is 'soon', and has to be a tick, or the first and the last tick"),
-    (lambda: scenario.chain(3).leave(1, (5, 6, 7)), "at is (5, 6, 7), and has to be a tick"),
-    (lambda: scenario.chain(3).role(1.5, "sender"), "members is 1.5, and has to be a whole number"),
-    (lambda: scenario.chain(3).draw("5"), "at is '5', and has to be a whole number"),
-    (lambda: scenario.chain(3).drawing(5, start=None), "start is None, and has to be a whole number"),
-    (lambda: scenario.chain(3).drop(0, 1.5), "count is 1.5, and has to be a whole number"),
-    (lambda: scenario.chain(3).outage(0, 1, "9"), "last is '9', and has to be a whole number"),
-    (lambda: scenario.chain(3).rounds(2, "adjacent", sender="0"), "sender is '0', and has to be a whole number"),
     (lambda: scenario.chain(3).lose(), "give either a rate or every"),
     (lambda: scenario.chain(3).lose(every=2), "every needs a link"),
     (lambda: scenario.chain(3).lose(rate=0.5, sender=3), "sender is 3, and has to be 0 to 2"),
@@ -210,6 +201,23 @@ def test_one_seed_gives_one_scenario_and_verbs_choose_apart():
 def test_what_is_refused_has_a_sentence_with_the_key_and_the_rule(make, told):
     with pytest.raises(ScenarioError) as fault:
         make()
+    assert told in str(fault.value)
+
+
+@pytest.mark.parametrize("verb, words, told", [
+    ("leave", {"members": "some", "at": 5}, "members is 'some', and has to be a whole number"),
+    ("leave", {"members": 1, "at": "soon"}, "at is 'soon', and has to be a tick, or the first and the last tick"),
+    ("leave", {"members": 1, "at": (5, 6, 7)}, "at is (5, 6, 7), and has to be a tick"),
+    ("role", {"members": 1.5, "role": "sender"}, "members is 1.5, and has to be a whole number"),
+    ("draw", {"at": "5"}, "at is '5', and has to be a whole number"),
+    ("drawing", {"count": 5, "start": None}, "start is None, and has to be a whole number"),
+    ("drop", {"link": 0, "count": 1.5}, "count is 1.5, and has to be a whole number"),
+    ("outage", {"link": 0, "first": 1, "last": "9"}, "last is '9', and has to be a whole number"),
+    ("rounds", {"count": 2, "link": "adjacent", "sender": "0"}, "sender is '0', and has to be a whole number"),
+])
+def test_value_of_a_wrong_type_is_told_in_a_sentence(verb, words, told):
+    with pytest.raises(ScenarioError) as fault:
+        getattr(scenario.chain(3), verb)(**words)
     assert told in str(fault.value)
 
 

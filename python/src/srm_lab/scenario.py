@@ -1,7 +1,7 @@
 """A scenario, and the verbs that build one.
 
     from srm_lab import scenario
-    scenario.random_tree(nodes=200, members=60, seed=7).lose(rate=0.01).leave(members=20, at=(5_000, 15_000))
+    scenario.random_tree(nodes=200, members=60, seed=7).lose(rate=0.01).leave(members=20, at=(40_000, 120_000))
 
 Every function and verb gives a scenario that the format takes, or raises ScenarioError with a sentence that names the
 key and the rule. Times and delays are in ticks. All random choices are those of the scenario's seed, of each verb its
