@@ -86,6 +86,12 @@ def test_group_of_nothing_has_no_row():
     assert summarise(LOSSES[:0], "delay", by="c2").empty and summarise(LOSSES[:0], "delay")["seeds"] == 0
 
 
+@pytest.mark.parametrize("ask", [lambda given: summarise(given, "delay"), lambda given: paired(LOSSES, given, "delay")])
+def test_what_is_no_table(ask):
+    with pytest.raises(TypeError, match="a list was given, and has to be a table .a DataFrame. or runs"):
+        ask([1, 2])
+
+
 @pytest.mark.parametrize("words, told", [
     ({"expression": "lag"}, "there is no column 'lag': there are c2, seed"),
     ({"expression": "dealy / 2"}, "no column 'dealy' .did you mean 'delay'"),

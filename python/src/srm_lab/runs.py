@@ -49,8 +49,10 @@ class Asked:
 
     def place(self, scenario: str, seed: int) -> Path | None:
         """Where the cache has the tables of a run: they depend on scenario, seed, program and its other options."""
+        if self.cache is None:
+            return None
         words = json.dumps([LAYOUT, scenario, seed, self.digest, *self.options])
-        return None if self.cache is None else self.cache / hashlib.sha256(words.encode()).hexdigest()
+        return self.cache / hashlib.sha256(words.encode()).hexdigest()
 
 
 def perform(given: Scenario, seeds: Iterable[int], asked: Asked) -> Frames:
@@ -95,9 +97,12 @@ def perform_all(make: Callable[[int], Scenario], units: Sequence[Unit], asked: A
             parts.append({name: with_number("scenario", number, frame) for name, frame in frames.items()})
         return digests, _stacked(parts)
 
-    digests, parts = zip(*in_parallel(work, units, workers, progress))
-    return _stacked(parts), [digest for _, digest in sorted({key: one for found in digests
-                                                             for key, one in found.items()}.items())]
+    digests: dict[int, str] = {}
+    parts = []
+    for found, frames in in_parallel(work, units, workers, progress):
+        digests |= found
+        parts.append(frames)
+    return _stacked(parts), list(digests.values())
 
 
 def _stacked(parts: Sequence[Frames]) -> Frames:

@@ -2,7 +2,7 @@
 import math
 from collections.abc import Callable, Iterable, Sequence
 from dataclasses import dataclass
-from typing import TYPE_CHECKING, Any, Union
+from typing import TYPE_CHECKING, Union
 
 import numpy
 import pandas
@@ -85,14 +85,21 @@ def evaluated(frame: pandas.DataFrame, expression: str) -> pandas.Series:
         found = numbers.eval(expression, engine="python")
         return pandas.Series(found, frame.index).astype(float)
     except pandas.errors.UndefinedVariableError as fault:
-        name = str(fault).split("'")[1]
-        raise ScenarioError(f"there is no column {name!r}{perhaps(name, frame.columns)}: "
-                            f"there are {', '.join(frame.columns)}") from None
-    except (SyntaxError, TypeError, ValueError, NotImplementedError) as fault:
+        raise _no_column(str(fault).split("'")[1], frame) from None
+    except (SyntaxError, TypeError, ValueError, NotImplementedError, AttributeError) as fault:
         raise ScenarioError(f"{expression!r} gives no number for each row: {fault}") from None
 
 
-def summarise(frame: pandas.DataFrame, expression: str, by: str | Sequence[str] | None = None,
+def table_of(given: "Runs | pandas.DataFrame", expression: str) -> pandas.DataFrame:
+    """The table that is given, or the one of runs that has the columns of an expression."""
+    if isinstance(given, pandas.DataFrame):
+        return given
+    if not hasattr(given, "holding"):
+        raise TypeError(f"a {type(given).__name__} was given, and has to be a table (a DataFrame) or runs")
+    return given.holding(expression)
+
+
+def summarise(given: "Runs | pandas.DataFrame", expression: str, by: str | Sequence[str] | None = None,
               statistic: Statistic | Sequence[Statistic] = "mean", method: str = "t",
               level: float = 0.95) -> pandas.DataFrame | pandas.Series:
     """The mean over seeds of what a column, or an expression of columns, is in each of them, with its interval.
@@ -103,9 +110,11 @@ def summarise(frame: pandas.DataFrame, expression: str, by: str | Sequence[str] 
     `frame.groupby(by).apply(summarise, expression)` has.
     """
     _check(method, level)
+    frame = table_of(given, expression)
     if by is not None:
-        _check_columns(frame, [by] if isinstance(by, str) else by)
-        found = frame.groupby(by if isinstance(by, str) else list(by)).apply(
+        names = [by] if isinstance(by, str) or not isinstance(by, Iterable) else list(by)
+        _check_columns(frame, names)
+        found = frame.groupby(by if isinstance(by, str) else names).apply(
             summarise, expression, None, statistic, method, level) if len(frame) else pandas.DataFrame(columns=SUMMARY)
         found = found.astype(dict.fromkeys(SUMMARY[3:], int))
     elif isinstance(statistic, Sequence) and not isinstance(statistic, str):
@@ -120,8 +129,11 @@ def summarise(frame: pandas.DataFrame, expression: str, by: str | Sequence[str] 
 def _check_columns(frame: pandas.DataFrame, names: Iterable[str]) -> None:
     for name in names:
         if name not in frame:
-            raise ScenarioError(f"there is no column {name!r}{perhaps(name, frame.columns)}: "
-                                f"there are {', '.join(frame.columns)}")
+            raise _no_column(name, frame)
+
+
+def _no_column(name: object, frame: pandas.DataFrame) -> ScenarioError:
+    return ScenarioError(f"there is no column {name!r}{perhaps(name, frame.columns)}: there are {', '.join(frame.columns)}")
 
 
 def _summary(frame: pandas.DataFrame, expression: str, statistic: Statistic, method: str, level: float) -> pandas.Series:
@@ -157,7 +169,7 @@ def paired(first: "Runs | pandas.DataFrame", second: "Runs | pandas.DataFrame", 
     Each setting is runs, or a table with their seeds; both need the same seeds. An interval without 0 in it tells the
     two apart.
     """
-    (one, seeds), (other, others) = _means(first, expression), _means(second, expression)
+    (one, seeds), (other, others) = (_means(table_of(given, expression), expression) for given in (first, second))
     if seeds != others:
         raise ScenarioError("a paired comparison needs the same seeds in both settings")
     table = pandas.DataFrame({"first": one, "second": other})
@@ -165,8 +177,7 @@ def paired(first: "Runs | pandas.DataFrame", second: "Runs | pandas.DataFrame", 
     return Paired(table, interval(table["difference"], method, level), method)
 
 
-def _means(given: Any, expression: str) -> tuple[pandas.Series, set[int]]:
+def _means(frame: pandas.DataFrame, expression: str) -> tuple[pandas.Series, set[int]]:
     """The mean of each seed, and the seeds, also those without a row."""
-    frame = given if isinstance(given, pandas.DataFrame) else given.holding(expression)
     _check_columns(frame, ["seed"])
     return evaluated(frame, expression).groupby(frame["seed"]).mean(), set(frame.attrs.get("seeds", frame["seed"]))
