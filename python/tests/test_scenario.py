@@ -132,6 +132,8 @@ SLOW = scenario.chain(3, delay=10).drawing(9, every=100)  # from member 0 to mem
     (SLOW.drop(0, 0), {"every": 8, "link": 1}, 150),
     (SLOW.outage(0, 0, 0), {"every": 8, "link": 1}, 150),
     (SLOW.session(60), {"every": 4, "link": 0}, 60),
+    # no sooner than the lost draw would, member 1 tells member 2 of it: 20, 60, 80 and 100
+    (SLOW.session(60, member=1), {"every": 4, "link": 1}, 100),
     # member 2 draws at 0 and at 5; member 1 finds its loss at 15, asks at 35, is heard at 45 and answered at 55
     (SLOW.role([2], "sender").draw(0, 2).draw(5, 2).drop(1, 0, sender=2), {"every": 4, "link": 0}, 55),
     # member 2 comes at 30, and asks for what was before at 70

@@ -128,7 +128,8 @@ def times_to_answer(given: "Scenario", source: int, sender: int) -> dict[int, in
 def first_answer(given: "Scenario", sender: int) -> int | None:
     """A tick before which a member sends no request and no repair, or None where nobody asks for anything.
 
-    A loss is found when the next draw or a session message comes to a loser; who comes late asks for what was before.
+    A loss is found when the next draw or a session message comes to a loser, one of another member's no earlier than the
+    draw itself would; who comes late asks for what was before.
     """
     ticks = []
     for other in sorted({draw.member for draw in given.draws}):
@@ -139,9 +140,10 @@ def first_answer(given: "Scenario", sender: int) -> int | None:
         way = given.tree.distances(source)
         behind = least_behind(given.tree, source, {node: way[node] + time for node, time in times.items()})
         for link, place in first_lost(given, other, draws).items():
-            later = [*draws[place + 1:place + 2], *(session.at for session in given.sessions)]
-            if link in behind and later:
-                ticks.append(min(later) + behind[link])
+            if link in behind:
+                ticks += [at + behind[link] for at in draws[place + 1:place + 2]]
+                ticks += [session.at + behind[link] if session.member == other else max(session.at, draws[place] + behind[link])
+                          for session in given.sessions]
     return min(ticks, default=None)
 
 
