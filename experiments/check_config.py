@@ -10,7 +10,7 @@ import sys
 import yaml
 from figures import NEEDS
 from srm_lab import ScenarioError
-from srm_lab.sweep import check_config
+from srm_lab.experiment import check_config
 
 
 def main(path: str) -> int:

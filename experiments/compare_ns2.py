@@ -39,20 +39,20 @@ def from_words(words: str) -> str:
 
 def one_loss_on_a_chain(rng: random.Random) -> str:
     size = rng.randint(3, 30)
-    return from_words(f"chain --size {size} --delay {2 * rng.randint(1, 20)} --every 1000 --no-session "
+    return from_words(f"chain --size {size} --delay {2 * rng.randint(1, 20)} --draws 2 --every 1000 --no-session "
                       f"--drop-link hops:{rng.randint(1, size - 1)} {constants(rng)}")
 
 
 def one_loss_on_a_star(rng: random.Random) -> str:
     size = rng.randint(4, 20)
     link = rng.randint(0, size - 2)
-    return from_words(f"star --size {size} --delay {2 * rng.randint(1, 20)} --every 1000 --no-session "
+    return from_words(f"star --size {size} --delay {2 * rng.randint(1, 20)} --draws 2 --every 1000 --no-session "
                       f"--drop-link {link} {constants(rng)}")
 
 
 def one_loss_on_a_regular_tree(rng: random.Random) -> str:
     return from_words(f"tree --size {rng.randint(4, 40)} --degree {rng.randint(3, 5)} --delay {2 * rng.randint(1, 20)} "
-                      f"--every 1000 --no-session --drop-link random --seed {rng.randrange(10**6)} {constants(rng)}")
+                      f"--draws 2 --every 1000 --no-session --drop-link random --seed {rng.randrange(10**6)} {constants(rng)}")
 
 
 def random_tree(rng: random.Random) -> tree.Tree:

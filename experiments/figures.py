@@ -30,7 +30,7 @@ from matplotlib.text import Annotation  # noqa: E402
 from matplotlib.ticker import FixedLocator, FuncFormatter, NullLocator  # noqa: E402
 from matplotlib.transforms import Bbox  # noqa: E402
 from srm_lab.statistics import interval  # noqa: E402
-from srm_lab.sweep import Needs  # noqa: E402
+from srm_lab.experiment import Needs  # noqa: E402
 
 BLUE, ORANGE, GREEN, PURPLE, GREY = "#0072b2", "#d55e00", "#009e73", "#cc79a7", "#666666"
 COLOURS = (BLUE, ORANGE, GREEN, PURPLE, "#e69f00", "#56b4e9", "#000000")

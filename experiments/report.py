@@ -18,7 +18,7 @@ import pandas
 import yaml
 from figures import read
 from srm_lab.statistics import interval
-from srm_lab.sweep import Experiment, experiments_of
+from srm_lab.experiment import Experiment, experiments_of
 
 STYLE = """
 body { font: 15px/1.5 sans-serif; color: #222; max-width: 60em; margin: 2em auto; padding: 0 1em }

@@ -1,8 +1,10 @@
 """Scenarios as the command line writes them."""
 import tomllib
+from dataclasses import replace
 
 import pytest
 
+from srm_lab import ScenarioError, read_scenario, scenario
 from srm_lab.cli import main
 
 
@@ -149,7 +151,7 @@ def test_file_of_edges(write, tmp_path):
     ("chain --size 1 --drop-link random", "no link is on the way"),
     ("chain --size 5 --drop-every 2", "need --drop-link"),
     ("chain --size 5 --drop-link 0 --drop-every 0", "--drop-every is 0"),
-    ("chain --size 5 --drop-link 0 --drop-packet 2", "no draw 2 to lose"),
+    ("chain --size 5 --draws 2 --drop-link 0 --drop-packet 2", "no draw 2 to lose"),
     ("chain --size 5 --until 1099511627777", "`until` is 1099511627777"),
     ("chain --size 5 --start -3", "the tick of a draw is -3"),
     ("chain --size 5 --drop-link 0 --drop-packet -1 --any-packet", "number of a lost packet is -1"),
@@ -167,8 +169,20 @@ def test_lost_packets_that_may_be_repairs_are_refused(capsys):
     # draws 100 ticks apart on links of 10 ticks: the source may repair the first loss before it draws again
     words = "chain --size 3 --delay 10 --draws 9 --every 100 --drop-link 0 --drop-every 4".split()
     assert main(words) == 1
-    assert "packet 4 of the source is drawn at tick 400, and from tick 150 on" in capsys.readouterr().err
+    told = capsys.readouterr().err
+    assert "packet 4 of the source is drawn at tick 400, and from tick 150 on" in told
     assert main([*words, "--any-packet"]) == 0
+    slow = scenario.chain(3, delay=10).drawing(9, every=100)
+    with pytest.raises(ScenarioError) as fault:
+        slow.lose(every=4, link=0)
+    assert f"srm-scenarios: {fault.value}\n".replace("any_packet=True", "--any-packet") == told
+    assert [drop.count for drop in slow.lose(every=4, link=0, any_packet=True).drops] == [0, 4, 8]
+
+
+def test_session_without_words_is_that_of_the_package(capsys):
+    assert main("star --size 9 --seed 3 --drop-link adjacent --drop-every 2".split()) == 0
+    made = read_scenario(capsys.readouterr().out)
+    assert replace(made, comments=(), until=None, version=None, seed=0) == scenario.star(9).lose(every=2, link=0)
 
 
 def test_lost_packets_are_data_up_to_the_earliest_repair(srm_lab, capsys):

@@ -216,7 +216,7 @@ def test_a_text_that_is_too_large_says_how_much_of_it_is_names():
 def test_large_star_runs(program):
     # the loser's own link loses the first draw. The second, at 100, is there at 110; the request leaves at 120 and is
     # with the others at 130, the repair leaves them at 140
-    made = scenario.star(3000, members=5, delay=5, seed=2).constants(c1=1, c2=0, d1=1, d2=0).drawing(2)
+    made = scenario.star(3000, members=5, delay=5, seed=2).constants(c1=1, c2=0, d1=1, d2=0).drawing(2, every=100)
     losses = run(made.drop(made.members[4].node - 1, 0), program=program, cache=None).losses
     assert made.table()["version"] == 3
     assert [(one.member, one.detected, one.recovered, one.ended) for one in losses.itertuples()] == [

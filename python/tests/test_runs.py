@@ -1,16 +1,22 @@
 """Runs: their tables are the program's, computed from one trace; the cache, refusals, and what is kept."""
+import hashlib
 import io
+import json
 import os
+import re
 import stat
 import subprocess
 import sys
+import tomllib
+from dataclasses import replace
 from pathlib import Path
 
 import pandas
 import pytest
 
-from srm_lab import RefusedError, ScenarioError, read_scenario, run, scenario
+from srm_lab import RefusedError, ScenarioError, __version__, read_scenario, run, save, scenario
 from srm_lab.follower import Follower
+from srm_lab.frames import COLUMNS
 from srm_lab.tables import read_trace
 
 ROOT = Path(__file__).resolve().parents[2]
@@ -90,7 +96,7 @@ def test_loss_of_a_member_that_leaves_is_no_open_one(program):
 def counted(program, tmp_path):
     """A program that counts its runs, and how many there were."""
     path, log = tmp_path / "srm_lab", tmp_path / "log"
-    path.write_text(f'#!/bin/sh\necho run >> {log}\nexec {program} "$@"\n')
+    path.write_text(f'#!/bin/sh\ntest "$1" = --version || echo run >> {log}\nexec {program} "$@"\n')
     path.chmod(path.stat().st_mode | stat.S_IEXEC)
     log.write_text("")
     return path, lambda: len(log.read_text().splitlines())
@@ -147,14 +153,45 @@ def test_trace_that_breaks_off_with_a_refusal_is_that_refusal(tmp_path):
 
 
 @pytest.mark.parametrize("words, told", [
-    ({"tables": ["loss"]}, "there is no table 'loss': there are losses"),
+    ({"tables": ["loses"]}, "there is no table 'loses' .did you mean 'losses'..: there are losses"),
+    ({"tables": "link"}, "there is no table 'link' .did you mean 'links'"),
+    ({"tables": []}, "tables are .., and have to be one or more"),
+    ({"tables": 7}, "tables are 7, and have to be a list of words"),
+    ({"tables": [7]}, "tables have 7, and have to be words"),
     ({"seeds": [1, 1]}, "a seed is given twice"),
     ({"seeds": [-1]}, "a seed is -1"),
+    ({"seeds": 0}, "seeds is 0, and has to be 1"),
+    ({"seeds": []}, "there is no seed"),
+    ({"seeds": [0.5]}, "seeds are .0.5., and have to be whole numbers"),
+    ({"seeds": 2.5}, "seeds are 2.5, and have to be a number, or a list"),
+    ({"seeds": "12"}, "seeds are '12', and have to be a number, or a list"),
+    ({"seeds": scenario.chain(2)}, "seeds are a Scenario, and have to be a number, or a list"),
+    ({"workers": 0}, "workers is 0, and has to be 1"),
+    ({"workers": "4"}, "workers is '4', and has to be a whole number"),
+    ({"options": "--engine window"}, "options are '--engine window', and have to be a list of words"),
+    ({"cache": 5}, "cache is 5, and has to be a path"),
+    ({"program": 5}, "program is 5, and has to be a path"),
     ({"program": "/nowhere/srm_lab"}, "there is no program /nowhere/srm_lab"),
 ])
 def test_what_cannot_be_run(words, told, program):
-    with pytest.raises(ScenarioError, match=told):
+    with pytest.raises((ScenarioError, TypeError), match=told):
         run(scenario.chain(3), **{"program": program, "cache": None, **words})
+
+
+@pytest.mark.parametrize("given, told", [
+    ([scenario.chain(3)], "run takes one scenario, and was given a list"),
+    ("chain.toml", "run takes one scenario, and was given 'chain.toml'"),
+    (None, "run takes one scenario, and was given None"),
+])
+def test_what_is_no_scenario(given, told, program):
+    with pytest.raises(TypeError, match=told):
+        run(given, program=program, cache=None)
+
+
+def test_number_of_seeds_is_that_many_from_0_on(program):
+    given = scenario.chain(3).drop(1, 0)
+    runs = run(given, seeds=3, tables="members", program=program, cache=None)
+    assert runs.seeds == (0, 1, 2) and runs.members["seed"].tolist() == [0, 0, 0, 1, 1, 1, 2, 2, 2]
 
 
 def test_other_options_of_the_program_are_handed_on(program, tmp_path):
@@ -183,6 +220,26 @@ def test_tables_on_disk(program, tmp_path):
     runs = run(scenario.chain(3).drop(1, 0), range(2), program=program, cache=None)
     path, = runs.save(tmp_path / "out")
     assert pandas.read_csv(path)["delay"].tolist() == runs.losses["delay"].tolist()
+    means = save(runs.summary("delay", by="member"), tmp_path / "means.csv")
+    assert pandas.read_csv(means, index_col="member").loc[2, "seeds"] == 2
+
+
+def test_tables_say_what_they_are_of(program, srm_lab, tmp_path):
+    given = replace(scenario.chain(3).drop(1, 0), comments=("of no matter",))
+    runs = run(given, [4, 7], program=program, cache=None)
+    version = srm_lab("", "--version").strip()
+    text = given.text().removeprefix("# of no matter\n")
+    assert runs.losses.attrs == {
+        "table": "losses", "seeds": [4, 7], "program": version, "package": __version__, "options": [],
+        "scenario": hashlib.sha256(text.encode()).hexdigest()}
+    assert runs.summary("delay", by="member").attrs["scenario"] == given.digest()
+    runs.save(tmp_path)
+    assert json.loads((tmp_path / "losses.json").read_text()) == runs.losses.attrs
+
+
+def test_version_is_that_of_the_package():
+    project = tomllib.loads((ROOT / "python/pyproject.toml").read_text())["project"]
+    assert __version__ == project["version"]
 
 
 def test_tables_as_parquet(program, tmp_path):
@@ -207,7 +264,7 @@ def test_other_endings_are_refused(ending, program, tmp_path):
 
 
 def test_follower_forgets_packets_that_have_come_to_everyone(srm_lab):
-    given = scenario.chain(5, delay=10).drawing(2000, every=10).lose(every=50, link=2)
+    given = scenario.chain(5, delay=10).drawing(2000, every=10).lose(every=50, link=2, any_packet=True)
     follower = Follower(given)
     most = 0
     for _ in follower.follow(read_trace(io.StringIO(srm_lab(given.text())))):
@@ -231,3 +288,12 @@ def test_memory_does_not_grow_with_the_trace_where_only_tables_are_asked_for(pro
         found.append([int(word) for word in done.stdout.split()])
     (few, before), (many, after) = found
     assert many > 15 * few and after < before + 8 * 1024  # kilobytes
+
+
+def test_page_of_tables_has_each_column_in_order():
+    page = (ROOT / "docs/TABLES.md").read_text()
+    for section in page.split("\n## `")[1:]:
+        name = section.split("`")[0]
+        lines = [line.split(":", 1)[0] for line in section.splitlines() if line.startswith("- ")]
+        assert re.findall("`([a-z0-9_]+)`", " ".join(lines)) == list(COLUMNS[name]), name
+    assert page.count("\n## ") == len(COLUMNS)

@@ -120,6 +120,30 @@ def test_every_third_packet_is_lost():
         Drop(1, 0, count) for count in (0, 3, 6))
 
 
+SLOW = scenario.chain(3, delay=10).drawing(9, every=100)  # from member 0 to member 2 it is 20 ticks
+
+
+@pytest.mark.parametrize("given, words, tick", [
+    # member 1 finds its loss at 110, asks at 130, is heard at 140 and answered at 150; member 2 at 120, 160, 180 and 200
+    (SLOW, {"every": 4, "link": 0}, 150),
+    (SLOW, {"every": 4, "link": 1}, 200),
+    (SLOW.constants(c1=0.5, d1=0.1), {"every": 4, "link": 0}, 126),
+    # the first packet is lost on the other link too
+    (SLOW.drop(0, 0), {"every": 8, "link": 1}, 150),
+    (SLOW.outage(0, 0, 0), {"every": 8, "link": 1}, 150),
+    (SLOW.session(60), {"every": 4, "link": 0}, 60),
+    # no sooner than the lost draw would, member 1 tells member 2 of it: 20, 60, 80 and 100
+    (SLOW.session(60, member=1), {"every": 4, "link": 1}, 100),
+    # member 2 draws at 0 and at 5; member 1 finds its loss at 15, asks at 35, is heard at 45 and answered at 55
+    (SLOW.role([2], "sender").draw(0, 2).draw(5, 2).drop(1, 0, sender=2), {"every": 4, "link": 0}, 55),
+    # member 2 comes at 30, and asks for what was before at 70
+    (SLOW.role([2], "late", pages=[0]).join([2], at=30), {"every": 4, "link": 0}, 110),
+])
+def test_data_is_lost_and_no_repair_in_place_of_it(given, words, tick):
+    with pytest.raises(ScenarioError, match=rf"packet \d of the source is drawn at tick \d00, and from tick {tick} on"):
+        given.lose(**words)
+
+
 def test_losses_of_one_of_several_senders():
     given = scenario.chain(6, seed=3).role([4], "sender").drawing(50).drawing(30, member=4)
     assert given.lose(every=10, link="adjacent", sender=4).drops in (
@@ -161,22 +185,41 @@ def test_one_seed_gives_one_scenario_and_verbs_choose_apart():
     (lambda: scenario.chain(3).lose(rate=1.5), "rate is 1.5, and has to be from 0 to 1"),
     (lambda: scenario.chain(900).lose(rate=1), "`drop` has 89900 elements, and may have 65535"),
     (lambda: scenario.chain(3).constants(c3=1), "c3: the constants are c1, c2, d1 and d2"),
+    (lambda: scenario.chain(3).constants(c1_lesat=1), "c1_lesat: the constants are c1, c2, d1 and d2 (did you mean 'c1_least'?)"),
+    (lambda: scenario.chain(3).role([1], "recevier"), "has to be sender, receiver, late, listener (did you mean 'receiver'?)"),
+    (lambda: read_scenario(scenario.chain(3).text().replace("delay", "dealy")), "`dealy` is no key here (did you mean 'delay'?)"),
+    (lambda: read_scenario(scenario.chain(3).text().replace("delay", "delya")), "`delya` is no key here (did you mean 'delay'?)"),
     (lambda: scenario.chain(3).constants(c1=1025), "1025 in thousandths is 1025000"),
     (lambda: scenario.chain(3).constants(c1=2, c1_least=3), "`c1_least` is 3000, and has to be 0 to 2000"),
     (lambda: scenario.chain(3).constants(d2=2, d2_most=1), "`d2_most` is 1000, and has to be 2000 to 1024000"),
     (lambda: replace(scenario.chain(3).constants(c2_most=9), version=2).check(), "`c2_most` is no key here before version 3"),
     (lambda: replace(scenario.chain(3), backoff=4).check(), "`backoff` is 4, and has to be 2 to 3"),
-    (lambda: scenario.chain(3).ends(4), "draw 0: `at`"),
+    (lambda: scenario.chain(3).ends(4), "draw 4: `at` is 4, which is not before the end of the run at 4"),
     (lambda: replace(scenario.chain(3).back(7), version=1).check(), "`back` is no key here in version 1"),
     (lambda: scenario.star(3).back(7, most=9), "one delay back for all links of a star"),
     (lambda: scenario.chain(3, source=5), "there is no node 5"),
     (lambda: scenario.star(3, source=0), "no node that may host"),
 ])
 def test_what_is_refused_has_a_sentence_with_the_key_and_the_rule(make, told):
-    if told == "draw 0: `at`":
-        told = "draw 1: `at` is 100, which is not before the end of the run at 4"
     with pytest.raises(ScenarioError) as fault:
         make()
+    assert told in str(fault.value)
+
+
+@pytest.mark.parametrize("verb, words, told", [
+    ("leave", {"members": "some", "at": 5}, "members is 'some', and has to be a whole number"),
+    ("leave", {"members": 1, "at": "soon"}, "at is 'soon', and has to be a tick, or the first and the last tick"),
+    ("leave", {"members": 1, "at": (5, 6, 7)}, "at is (5, 6, 7), and has to be a tick"),
+    ("role", {"members": 1.5, "role": "sender"}, "members is 1.5, and has to be a whole number"),
+    ("draw", {"at": "5"}, "at is '5', and has to be a whole number"),
+    ("drawing", {"count": 5, "start": None}, "start is None, and has to be a whole number"),
+    ("drop", {"link": 0, "count": 1.5}, "count is 1.5, and has to be a whole number"),
+    ("outage", {"link": 0, "first": 1, "last": "9"}, "last is '9', and has to be a whole number"),
+    ("rounds", {"count": 2, "link": "adjacent", "sender": "0"}, "sender is '0', and has to be a whole number"),
+])
+def test_value_of_a_wrong_type_is_told_in_a_sentence(verb, words, told):
+    with pytest.raises(ScenarioError) as fault:
+        getattr(scenario.chain(3), verb)(**words)
     assert told in str(fault.value)
 
 

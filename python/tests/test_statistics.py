@@ -3,9 +3,15 @@ import math
 
 import pandas
 import pytest
+from scipy import stats
 
-from srm_lab import ScenarioError, interval, paired, run, scenario, summarise
-from srm_lab.statistics import difference
+from srm_lab import ScenarioError, difference, interval, paired, run, scenario, summarise
+
+
+def test_values_that_are_all_the_same_have_no_width():
+    for method in ("t", "bootstrap"):
+        one = interval([5, 5, 5], method)
+        assert (one.mean, one.low, one.high) == (5, 5, 5)
 
 
 def test_students_interval():
@@ -37,26 +43,66 @@ def test_welchs_interval_of_two_independent_samples():
     one = difference([1, 2, 3], [4, 6, 8])
     assert one.mean == 4
     assert (one.low, one.high) == (pytest.approx(4 - 4.155, abs=2e-3), pytest.approx(4 + 4.155, abs=2e-3))
+    # its end is at 0 where its level is one less the chance of scipy's own test
+    chance = stats.ttest_ind([1, 2, 3], [4, 6, 8], equal_var=False).pvalue
+    assert difference([1, 2, 3], [4, 6, 8], level=1 - chance).low == pytest.approx(0, abs=1e-9)
+    assert difference([1, 1], [3, 3]).low == 2
+
+
+LOSSES = pandas.DataFrame({
+    "c2": [0] * 4 + [1] * 4, "seed": [1, 1, 1, 2, 1, 2, 2, 2], "round_trip": [2] * 4 + [4] * 4,
+    "delay": pandas.array([10, 10, 10, 20, 4, 8, 8, None], dtype="Int64"), "ended": ["recovered"] * 7 + ["left"]})
 
 
 def test_replications_are_seeds_and_not_losses():
-    # seed 1 has nine losses of 10, seed 2 one of 20: the mean over seeds is 15, and not 11
-    frame = pandas.DataFrame({"seed": [1] * 9 + [2], "delay": [10] * 9 + [20]})
-    summary = summarise(frame, "delay")
-    assert summary.mean.mean == 15 and (summary.seeds, summary.rows, summary.left_out) == (2, 10, 0)
-    assert summary.mean.high == pytest.approx(15 + 12.7062 * 5, abs=1e-3)
+    # seed 1 has three losses of 10, seed 2 one of 20: the mean over seeds is 15, and not 12.5
+    one = summarise(LOSSES[LOSSES["c2"] == 0], "delay")
+    assert (one["mean"], one["seeds"], one["values"], one["left_out"]) == (15, 2, 4, 0)
+    assert one["high"] == pytest.approx(15 + 12.7062 * 5, abs=1e-3)
 
 
 def test_rows_without_a_value_are_counted():
-    frame = pandas.DataFrame({"seed": [1, 1, 2], "delay": pandas.array([4, None, 6], dtype="Int64")})
-    summary = summarise(frame, "delay")
-    assert (summary.rows, summary.left_out) == (2, 1) and summary.mean.mean == 5
-    assert "1 rows without one left out" in str(summary) and "(t)" in str(summary)
+    one = summarise(LOSSES[LOSSES["c2"] == 1], "delay")
+    assert (one["mean"], one["values"], one["left_out"]) == (6, 3, 1)
 
 
-def test_column_that_is_not_there():
-    with pytest.raises(ScenarioError, match="no column 'lag'"):
-        summarise(pandas.DataFrame({"seed": [1]}), "lag")
+def test_expressions_by_groups_are_those_of_pandas_own_words():
+    found = summarise(LOSSES, "delay / round_trip", by=["c2"])
+    assert found["mean"].to_dict() == {0: 7.5, 1: 1.5} and found["left_out"].tolist() == [0, 1]
+    applied = LOSSES.groupby("c2").apply(summarise, "delay / round_trip")
+    pandas.testing.assert_frame_equal(applied, found, check_dtype=False)
+    assert found.loc[1, "high"] == pytest.approx(1.5 + 12.7062 * 0.5, abs=1e-3)
+    # of seed 2 one loss of three ended so, of seed 1 none
+    assert summarise(LOSSES, "ended == 'left'", by="c2").loc[1, "mean"] == pytest.approx(1 / 6)
+
+
+def test_statistics_of_a_seed_other_than_the_mean():
+    found = summarise(LOSSES, "delay", by="c2", statistic=["max", 0.5, len])
+    assert found["mean"].to_dict() == {(0, "max"): 15, (0, "q50"): 15, (0, "len"): 2,
+                                       (1, "max"): 6, (1, "q50"): 6, (1, "len"): 2}
+
+
+def test_group_of_nothing_has_no_row():
+    assert summarise(LOSSES[:0], "delay", by="c2").empty and summarise(LOSSES[:0], "delay")["seeds"] == 0
+
+
+@pytest.mark.parametrize("ask", [lambda given: summarise(given, "delay"), lambda given: paired(LOSSES, given, "delay")])
+def test_what_is_no_table(ask):
+    with pytest.raises(TypeError, match="a list was given, and has to be a table .a DataFrame. or runs"):
+        ask([1, 2])
+
+
+@pytest.mark.parametrize("words, told", [
+    ({"expression": "lag"}, "there is no column 'lag': there are c2, seed"),
+    ({"expression": "dealy / 2"}, "no column 'dealy' .did you mean 'delay'"),
+    ({"expression": "delya"}, "no column 'delya' .did you mean 'delay'"),
+    ({"expression": "delay +"}, "'delay .' gives no number for each row"),
+    ({"expression": "ended"}, "'ended' gives no number for each row"),
+    ({"expression": "delay", "by": ["sede"]}, "no column 'sede' .did you mean 'seed'"),
+])
+def test_what_cannot_be_summarised(words, told):
+    with pytest.raises(ScenarioError, match=told):
+        summarise(LOSSES, **words)
 
 
 def test_settings_are_compared_seed_by_seed(program):

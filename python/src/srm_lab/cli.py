@@ -12,8 +12,8 @@ from .errors import ScenarioError
 from .graphs import Delays
 from .limits import MOST_NUMBERS, MOST_TIME, NEWEST, within
 from .page import command as page_command
-from .parts import CONSTANTS, Draw, Drop, Member, Session
-from .scenario import Scenario, Ticks, from_router_map, place_members, thousandths
+from .parts import CONSTANTS, Member, Session
+from .scenario import DELAY, DRAWS, EVERY, Scenario, Ticks, from_router_map, place_members, thousandths
 from .setting import setting
 from .tree import Tree
 
@@ -24,7 +24,6 @@ ticks, constants are plain numbers (2 is written as 2000 thousandths). All rando
 
 `srm-scenarios page SCENARIO [TRACE]` writes a page that plays a run instead; see its --help.
 """
-DELAY = 1000
 FIXED = {"c1": "2", "c2": "2", "d1": "1", "d2": "1"}  # constants that are not given
 
 
@@ -72,7 +71,8 @@ def as_options() -> Iterator[None]:
     except ScenarioError as fault:
         raise ScenarioError(str(fault).replace("no default delay is given", "--delay gives none")
                             .replace("spanning_tree=\"shortest\" or \"minimum\"", "--spanning-tree shortest or minimum")
-                            .replace("give a factor", "give a --factor")) from None
+                            .replace("give a factor", "give a --factor")
+                            .replace("any_packet=True", "--any-packet")) from None
 
 
 def members_of(options: argparse.Namespace, made: Tree, rng: random.Random) -> list[int]:
@@ -153,12 +153,12 @@ def constants(options: argparse.Namespace, members: int) -> dict[str, int]:
 
 def with_draws(scenario: Scenario, options: argparse.Namespace) -> Scenario:
     """The scenario with the source's draws, and its session message after them."""
-    count = within("--draws", 2 if options.draws is None else options.draws, 0, MOST_NUMBERS)
-    every = within("--every", 1 if options.every is None else options.every, 1, MOST_TIME)
-    draws = [within("the tick of a draw", options.start + place * every, 0, MOST_TIME) for place in range(count)]
-    after = [] if options.no_session or not draws else [draws[-1] + options.session_after]
-    return replace(scenario, draws=tuple(Draw(0, 0, number, at) for number, at in enumerate(draws)),
-                   sessions=tuple(Session(0, at) for at in after))
+    count = within("--draws", DRAWS if options.draws is None else options.draws, 0, MOST_NUMBERS)
+    every = within("--every", EVERY if options.every is None else options.every, 1, MOST_TIME)
+    made = scenario.drawing(count, every, within("the tick of a draw", options.start, 0, MOST_TIME))
+    if options.no_session or options.session_after is None or not count:
+        return replace(made, sessions=() if options.no_session else made.sessions)
+    return replace(made, sessions=(Session(0, made.draws[-1].at + options.session_after),))
 
 
 def in_rounds(scenario: Scenario, options: argparse.Namespace, rng: random.Random) -> Scenario:
@@ -181,15 +181,15 @@ def with_drops(scenario: Scenario, options: argparse.Namespace, rng: random.Rand
             raise ScenarioError("--drop-every and --drop-packet need --drop-link")
         return scenario
     link = losses.link_of(options.drop_link, scenario, rng)
-    counts: Sequence[int] = options.drop_packet or [0]
-    if options.drop_every is not None:
-        counts = range(0, len(scenario.draws), within("--drop-every", options.drop_every, 1, MOST_NUMBERS))
-    for count in counts:
-        within("the number of a lost packet", count, 0, NEWEST.count)
-    scenario = replace(scenario, drops=tuple(Drop(link, 0, count) for count in counts))
-    if not options.any_packet:
-        losses.check_that_data_is_lost(scenario, link)
-    return scenario
+    with as_options():
+        if options.drop_every is not None:
+            every = within("--drop-every", options.drop_every, 1, MOST_NUMBERS)
+            return scenario.lose(every=every, link=link, any_packet=options.any_packet)
+        made = scenario.drop(link, [within("the number of a lost packet", count, 0, NEWEST.count)
+                                    for count in options.drop_packet or [0]])
+        if not options.any_packet:
+            losses.check_that_data_is_lost(made)
+    return made
 
 
 def disturbed(scenario: Scenario, options: argparse.Namespace) -> Scenario:
@@ -220,9 +220,9 @@ def common_options() -> argparse.ArgumentParser:
     add("--adaptive", action="store_true", help="members adapt their timers, with the limits and the backoff of Floyd "
         "et al. (1997) for so many members; C1 and C2 begin with 2, D1 and D2 with log10 of the members, where no "
         "constant is given")
-    add("--draws", type=int, help="how many draws (default 2)")
-    add("--every", type=int, help="ticks from a draw to the next (default 1, in rounds as many as 64 rounds of requests "
-        "and repairs take)")
+    add("--draws", type=int, help=f"how many draws (default {DRAWS})")
+    add("--every", type=int, help=f"ticks from a draw to the next (default {EVERY}, in rounds as many as 64 rounds of "
+        "requests and repairs take)")
     add("--start", type=int, default=0, help="tick of the first draw (default 0)")
     add("--drop-link", metavar="LINK", help="a number, adjacent (to the source), random, or hops:H")
     add("--drop-packet", type=int, action="append", metavar="COUNT", help="lose this packet; repeatable (default 0)")
@@ -237,7 +237,7 @@ def common_options() -> argparse.ArgumentParser:
         "repeatable")
     add("--leave", action="append", default=[], metavar="N:FIRST-LAST", help="N receivers leave in these ticks; "
         "repeatable")
-    add("--session-after", type=int, default=1, metavar="TICKS", help="session message after the last draw (default 1)")
+    add("--session-after", type=int, metavar="TICKS", help="session message after the last draw (default --every)")
     add("--no-session", action="store_true", help="no session message")
     add("--until", type=int, help="end of the run (default: time for 64 rounds of requests and repairs)")
     return common

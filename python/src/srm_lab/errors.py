@@ -1,4 +1,6 @@
-"""The exceptions of this package."""
+"""The exceptions of this package, and what their sentences have in common."""
+import difflib
+from collections.abc import Iterable
 
 
 class ScenarioError(ValueError):
@@ -24,4 +26,10 @@ class RefusedError(RuntimeError):
         self.line, self.status, self.explanation = line, status, explanation
 
     def __reduce__(self) -> tuple:
-        return RefusedError, (self.line, self.status, self.explanation)
+        return RefusedError, (self.line, self.status, self.explanation), self.__dict__
+
+
+def perhaps(name: object, names: Iterable[str]) -> str:
+    """The name that was probably meant, as the end of a sentence, or nothing where none is like it."""
+    found = difflib.get_close_matches(str(name), list(names), 1)
+    return f" (did you mean {found[0]!r}?)" if found else ""

@@ -3,7 +3,7 @@ from collections.abc import Callable, Iterator
 from dataclasses import dataclass
 from typing import Any
 
-from .errors import ScenarioError
+from .errors import ScenarioError, perhaps
 from .limits import VERSIONS, Limits
 from .parts import CONSTANTS, LIMITS, ROLES
 from .repetition import DEFAULTS, copy_of, times_of, total
@@ -32,7 +32,9 @@ def number(least: int, most: int) -> Check:
 def word(*words: str) -> Check:
     """One of some words."""
     def check(value: object) -> str | None:
-        return None if isinstance(value, str) and value in words else f"is {value!r}, and has to be {', '.join(words)}"
+        if isinstance(value, str) and value in words:
+            return None
+        return f"is {value!r}, and has to be {', '.join(words)}{perhaps(value, words)}"
     return check
 
 
@@ -135,7 +137,7 @@ def faults(table: dict[str, Any], keys: dict[str, Key]) -> Iterator[tuple[str, s
     """What is wrong with the keys of one table: each key, and what is told of it."""
     for key in table:
         if key not in keys:
-            yield key, "is no key here" + _hint(key, table)
+            yield key, "is no key here" + (_hint(key, table) or perhaps(key, keys))
     for key, one in keys.items():
         if key in table:
             told = one.check(table[key])

@@ -11,7 +11,7 @@ from collections.abc import Callable
 from pathlib import Path
 from typing import TextIO
 
-from .sweep import COLUMNS, NAME, Experiment
+from .experiment import COLUMNS, NAME, Experiment
 
 
 def write_table(experiment: Experiment, path_of: Callable[[str, int], str | Path], out: TextIO) -> None:

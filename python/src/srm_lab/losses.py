@@ -4,6 +4,7 @@ from collections.abc import Callable, Iterable
 from typing import TYPE_CHECKING
 
 from .errors import ScenarioError
+from .limits import within
 from .parts import Drop
 from .tree import Tree
 
@@ -27,9 +28,8 @@ def links_in_use(tree: Tree, source: int, nodes: Iterable[int]) -> dict[int, int
 
 def link_of(choice: str, given: "Scenario", rng: random.Random, sender: int = 0) -> int:
     """The link of a choice (`choose_link`), seen from a member."""
-    if sender >= len(given.members):
-        raise ScenarioError(f"there is no member {sender}, from which the link could be chosen")
     nodes = [member.node for member in given.members]
+    within("sender", sender, 0, len(nodes) - 1)
     return choose_link(choice, given.tree, nodes.pop(sender), nodes, rng)
 
 
@@ -84,47 +84,86 @@ def losers(tree: Tree, source: int, nodes: Iterable[int], link: int) -> list[int
     return [node for node in nodes if node in behind]
 
 
-def earliest_repair(given: "Scenario", link: int) -> int | None:
-    """The first tick at which the source may send a repair of its own, or None where nobody can ask for one.
+def first_lost(given: "Scenario", sender: int, draws: list[int]) -> dict[int, int]:
+    """For each link that loses draws of a sender, made at these ticks, the place of the first of them.
 
-    It is after the first draw or session message that shows the first loss came to a loser, that one's shortest
-    request timer, the request's way back, and the source's shortest repair timer.
+    The packets of a sender are its draws, as long as it sends nothing else.
     """
-    source, *others = [member.node for member in given.members]
-    behind = losers(given.tree, source, others, link)
-    first = min((drop.count for drop in given.drops), default=None)
-    if not behind or first is None:
-        return None
-    later = [*(draw.at for draw in given.draws[first + 1:]), *(session.at for session in given.sessions)]
-    if not later:
-        return None
-    trips = given.tree.round_trips(source)
-
-    def answered(node: int) -> int:
-        half = trips[node] // 2
-        return trips[node] + max(1, given.least("c1") * half // 1000) + max(1, given.least("d1") * half // 1000)
-
-    return min(later) + min(map(answered, behind))
+    way = given.tree.distances(given.members[sender].node)
+    lost = [(drop.link, drop.count) for drop in given.drops if drop.sender == sender and drop.count < len(draws)]
+    for outage in given.outages:
+        link = given.tree.links[outage.link]
+        comes = min(way[link.a], way[link.b])
+        lost += [(outage.link, place) for place, at in enumerate(draws) if outage.is_on(at + comes)]
+    return {link: place for link, place in sorted(lost, reverse=True)}
 
 
-def check_that_data_is_lost(given: "Scenario", link: int) -> None:
-    """Refuses drops whose packet count may not be that of the draw of this number.
+def least_behind(tree: Tree, source: int, costs: dict[int, int]) -> dict[int, int]:
+    """For each link with a node of these behind it, seen from the source, the least of their costs."""
+    found, least = {}, dict(costs)
+    for node, near in reversed(tree.parents(source).items()):
+        if near is not None and node in least:
+            parent, link = near
+            found[link] = least[node]
+            least[parent] = min(least[node], least.get(parent, least[node]))
+    return found
 
-    A packet count runs over all that the source sends. It is the number of the draw as long as the source has sent
-    no repair and no session message before.
+
+def times_to_answer(given: "Scenario", source: int, sender: int) -> dict[int, int]:
+    """For each member's node the least time from its finding a loss of the source to what the sender sends for it.
+
+    Its shortest request timer, the request's way, and the sender's shortest repair timer; or the sender's own request.
     """
-    for drop in given.drops:
-        if not 0 <= drop.count < len(given.draws):
-            raise ScenarioError(f"there is no draw {drop.count} to lose: there are {len(given.draws)}")
-    limit = earliest_repair(given, link)
-    if limit is None:
-        return
-    session = min((session.at for session in given.sessions), default=None)
-    for drop in given.drops:
-        at = given.draws[drop.count].at
-        if at >= limit or session is not None and at >= session:
-            raise ScenarioError(
-                f"packet {drop.count} of the source is drawn at tick {at}, and from tick {limit} on the source may "
-                "have sent repairs, which count too: draw faster, lose fewer packets, lengthen the delays, or say "
-                "--any-packet"
-            )
+    trips, to_sender = given.tree.round_trips(source), given.tree.round_trips(sender)
+    from_sender = given.tree.distances(sender)
+
+    def shortest(constant: str, trip: int) -> int:
+        return max(1, given.least(constant) * (trip // 2) // 1000)
+
+    return {one.node: shortest("c1", trips[one.node]) + (
+                to_sender[one.node] - from_sender[one.node] + shortest("d1", to_sender[one.node])
+                if one.node != sender else 0) for one in given.members if one.node != source}
+
+
+def first_answer(given: "Scenario", sender: int) -> int | None:
+    """A tick before which a member sends no request and no repair, or None where nobody asks for anything.
+
+    A loss is found when the next draw or a session message comes to a loser, one of another member's no earlier than the
+    draw itself would; who comes late asks for what was before.
+    """
+    ticks = []
+    for other in sorted({draw.member for draw in given.draws}):
+        source = given.members[other].node
+        draws = sorted(draw.at for draw in given.draws if draw.member == other)
+        times = times_to_answer(given, source, given.members[sender].node)
+        ticks += [one.join + times[one.node] for one in given.members if one.pages and one.node in times]
+        way = given.tree.distances(source)
+        behind = least_behind(given.tree, source, {node: way[node] + time for node, time in times.items()})
+        for link, place in first_lost(given, other, draws).items():
+            if link in behind:
+                ticks += [at + behind[link] for at in draws[place + 1:place + 2]]
+                ticks += [session.at + behind[link] if session.member == other else max(session.at, draws[place] + behind[link])
+                          for session in given.sessions]
+    return min(ticks, default=None)
+
+
+def check_that_data_is_lost(given: "Scenario", sender: int = 0) -> None:
+    """Refuses drops of a sender's packets whose count may not be that of its draw of this number.
+
+    A packet count runs over all that a sender sends. It is the number of the draw as long as the sender has sent no
+    request, no repair and no session message before.
+    """
+    draws = sorted(draw.at for draw in given.draws if draw.member == sender)
+    counts = [drop.count for drop in given.drops if drop.sender == sender]
+    for count in counts:
+        if not 0 <= count < len(draws):
+            raise ScenarioError(f"there is no draw {count} to lose: there are {len(draws)}")
+    others = [first_answer(given, sender), *(session.at for session in given.sessions if session.member == sender)]
+    limit = min((at for at in others if at is not None), default=None)
+    late = [count for count in counts if limit is not None and draws[count] >= limit]
+    if late:
+        raise ScenarioError(
+            f"packet {late[0]} of the source is drawn at tick {draws[late[0]]}, and from tick {limit} on the source may "
+            "have sent repairs or a session message, which count too: draw faster, lose fewer packets, lengthen the "
+            "delays, or say any_packet=True"
+        )

@@ -33,7 +33,8 @@ def function_of(text: str) -> Callable[..., Any]:
 
 def metrics_of(given: Scenario, seed: int, measured: dict[str, Measure], metrics: Mapping[str, str]) -> dict[str, Any]:
     """The metrics of a run, by name: the number that each FILE.py:FUNCTION gives for the tables of the run."""
-    from .runs import Runs, framed
+    from .frames import framed
+    from .runs import Runs
 
     runs = Runs(given, (seed,), framed(given, [(seed, measured)]))
     return {name: function_of(text)(runs) for name, text in metrics.items()}

@@ -1,15 +1,16 @@
 """A scenario, and the verbs that build one.
 
     from srm_lab import scenario
-    scenario.random_tree(nodes=200, members=60, seed=7).lose(rate=0.01).leave(members=20, at=(5_000, 15_000))
+    scenario.random_tree(nodes=200, members=60, seed=7).lose(rate=0.01).leave(members=20, at=(40_000, 120_000))
 
 Every function and verb gives a scenario that the format takes, or raises ScenarioError with a sentence that names the
 key and the rule. Times and delays are in ticks. All random choices are those of the scenario's seed, of each verb its
 own.
 """
+import hashlib
 import math
 import random
-from collections.abc import Iterable
+from collections.abc import Collection, Iterable
 from dataclasses import dataclass, replace
 from decimal import Decimal, InvalidOperation
 from functools import cached_property
@@ -17,7 +18,7 @@ from pathlib import Path
 from typing import Any
 
 from . import graphs, losses, router_map, tree as trees, writing
-from .errors import ScenarioError
+from .errors import ScenarioError, perhaps
 from .form import check_keys
 from .graphs import Delays
 from .limits import MOST_NUMBERS, MOST_TIME, NEWEST, VERSIONS, Limits, within
@@ -26,7 +27,8 @@ from .rules import check_rules
 from .setting import logarithm, setting
 from .tree import Tree
 
-DELAY = 100
+# a session's links, and its source's draws: they are over before the first loss is asked for
+DELAY, DRAWS, EVERY = 1000, 100, 1
 Ticks = int | tuple[int, int]
 
 
@@ -177,6 +179,10 @@ class Scenario:
         """The scenario file."""
         return writing.text_of(self.check())
 
+    def digest(self) -> str:
+        """The SHA-256 of the scenario file without its comments in front: what tells scenarios apart."""
+        return hashlib.sha256(replace(self, comments=()).text().encode()).hexdigest()
+
     def write(self, path: str | Path) -> Path:
         """Writes the scenario file, and gives its path."""
         path = Path(path)
@@ -196,9 +202,7 @@ class Scenario:
 
         `c1_least`, `c1_most` and so on say how far members adapt a constant.
         """
-        unknown = set(values) - {*CONSTANTS, *LIMITS}
-        if unknown:
-            raise ScenarioError(f"{', '.join(sorted(unknown))}: the constants are c1, c2, d1 and d2")
+        _check_constants(values, (*CONSTANTS, *LIMITS))
         return self._with(**{name: thousandths(str(value), len(self.members)) for name, value in values.items()})
 
     def adaptive(self, **first: float | str) -> "Scenario":
@@ -207,9 +211,7 @@ class Scenario:
         The constants begin as there too, but for those that `first` names (`c1=1.5`, `d2="sqrt"`); `setting` has which
         numbers these are. Without it, or after `constants(...)` has set limits, timers are as the constants say.
         """
-        unknown = set(first) - set(CONSTANTS)
-        if unknown:
-            raise ScenarioError(f"{', '.join(sorted(unknown))}: the constants are c1, c2, d1 and d2")
+        _check_constants(first, CONSTANTS)
         given = {name: thousandths(str(value), len(self.members)) for name, value in first.items()}
         return self._with(**setting(len(self.members), given))
 
@@ -231,8 +233,8 @@ class Scenario:
 
     def role(self, members: Iterable[int], role: str, pages: Iterable[int] | None = None) -> "Scenario":
         """Gives members a role; `pages` are those that late members want."""
-        wanted = None if pages is None else tuple(pages)
-        return self._changed(list(members), lambda member: replace(member, role=role, pages=wanted))
+        wanted = None if pages is None else tuple(_numbers("pages", pages))
+        return self._changed(_numbers("members", members), lambda member: replace(member, role=role, pages=wanted))
 
     def join(self, members: int | Iterable[int], at: Ticks, seed: int | None = None) -> "Scenario":
         """Lets members join at a tick, or each at a random one of a range, both ends in it.
@@ -263,19 +265,20 @@ class Scenario:
     def draw(self, at: int, member: int = 0, page: int = 0, ink: int | None = None) -> "Scenario":
         """Lets a sender draw once more."""
         ink = len(self.draws) if ink is None else ink
-        return self._with(draws=(*self.draws, Draw(member, page, ink, at)))
+        return self._with(draws=(*self.draws, Draw(member, page, ink, within("at", at, 0, MOST_TIME))))
 
     def session(self, at: int, member: int = 0) -> "Scenario":
         """Lets a member send a session message."""
-        return self._with(sessions=(*self.sessions, Session(member, at)))
+        return self._with(sessions=(*self.sessions, Session(member, within("at", at, 0, MOST_TIME))))
 
-    def drawing(self, count: int, every: int = DELAY, start: int = 0, member: int = 0, page: int = 0) -> "Scenario":
+    def drawing(self, count: int, every: int = EVERY, start: int = 0, member: int = 0, page: int = 0) -> "Scenario":
         """In place of all draws and session messages of a sender: so many draws, `every` ticks apart, on one page.
 
         A session message follows `every` ticks after the last of them, so that a loss of the last one is found too.
         """
         within("count", count, 0, MOST_NUMBERS)
         within("every", every, 1, MOST_TIME)
+        within("start", start, 0, MOST_TIME)
         own = tuple(Draw(member, page, number, start + number * every) for number in range(count))
         told = (Session(member, start + count * every),) if count else ()
         return self._with(draws=(*(one for one in self.draws if one.member != member), *own),
@@ -299,18 +302,20 @@ class Scenario:
 
     def drop(self, link: int, count: int | Iterable[int], sender: int = 0) -> "Scenario":
         """Lets a link drop a packet of a sender, or several, by their numbers among all that it sends, from 0."""
-        counts = [count] if isinstance(count, int) else list(count)
-        return self._with(drops=(*self.drops, *(Drop(link, sender, one) for one in counts)))
+        return self._with(drops=(*self.drops, *(Drop(link, sender, one) for one in _numbers("count", count))))
 
     def lose(self, rate: float | None = None, every: int | None = None, link: int | str | None = None,
-             packets: int | None = None, seed: int | None = None, sender: int | None = None) -> "Scenario":
-        """Drops packets by a rule, which is written as the list of drops that it gives.
+             packets: int | None = None, seed: int | None = None, sender: int | None = None,
+             any_packet: bool = False) -> "Scenario":
+        """Drops packets of senders by a rule, which is written as the list of drops that it gives.
 
         With a `rate` each link on the way from a sender to another member drops each packet of that sender with this
         probability, or only those of one `sender`. With `every` a link drops the packets 0, K, 2 K and so on of the
         `sender`, by default member 0. `link` says which one: a number, `adjacent` to the sender, `random`, or `hops:H`
         away from it; with a rate all links do where none is named. A packet counts among all that its sender sends; the
-        first `packets` may be lost, by default as many as it draws.
+        first `packets` may be lost, by default as many as it draws. Every K-th has to be data of the draws, losses and
+        timers that the scenario has by now: where a repair might come in place of it that is refused, unless
+        `any_packet` allows it.
         """
         if (rate is None) == (every is None):
             raise ScenarioError("lose: give either a rate or every")
@@ -322,7 +327,10 @@ class Scenario:
             if named is None:
                 raise ScenarioError("lose: every needs a link")
             counts = range(0, self._packets(one, packets), within("every", every, 1, NEWEST.elements))
-            return self._with(drops=(*self.drops, *(Drop(named, one, count) for count in counts)))
+            made = self.drop(named, counts, one)
+            if not any_packet:
+                losses.check_that_data_is_lost(made, one)
+            return made
         found = losses.bernoulli(self, _probability(rate), named, rng, lambda sender: self._packets(sender, packets))
         return self._with(drops=(*self.drops, *(drop for drop in found if sender in (None, drop.sender))))
 
@@ -332,7 +340,14 @@ class Scenario:
 
     def outage(self, link: int, first: int, last: int) -> "Scenario":
         """Lets a link drop each packet that comes to it from tick `first` to tick `last`, both in it."""
-        return self._with(outages=(*self.outages, Outage(link, first, last + 1)))
+        return self._with(outages=(*self.outages, Outage(link, first, within("last", last, 0, MOST_TIME) + 1)))
+
+
+def _check_constants(names: Iterable[str], known: Collection[str]) -> None:
+    """Refuses a name that no constant has."""
+    for name in names:
+        if name not in known:
+            raise ScenarioError(f"{name}: the constants are c1, c2, d1 and d2{perhaps(name, known)}")
 
 
 def _probability(rate: float | None) -> float:
@@ -345,7 +360,9 @@ def _tick(at: Ticks, rng: random.Random) -> int:
     """A tick that is given, or a random one of a range."""
     if isinstance(at, int):
         return at
-    first, last = at
+    if not isinstance(at, (tuple, list)) or len(at) != 2:
+        raise ScenarioError(f"at is {at!r}, and has to be a tick, or the first and the last tick of a range")
+    first, last = _numbers("at", at)
     if first > last:
         raise ScenarioError(f"at is {at!r}, and its first tick is after its last")
     return rng.randint(first, last)
@@ -354,8 +371,14 @@ def _tick(at: Ticks, rng: random.Random) -> int:
 def _chosen(members: int | Iterable[int], free: list[int], rng: random.Random) -> list[int]:
     """The members that are named, or so many of the free ones."""
     if not isinstance(members, int):
-        return list(members)
+        return _numbers("members", members)
     return sorted(rng.sample(free, within("members", members, 0, len(free))))
+
+
+def _numbers(what: str, given: int | Iterable[int]) -> list[int]:
+    """The whole numbers that are given, one or several."""
+    several = given if isinstance(given, Iterable) and not isinstance(given, str) else [given]
+    return [within(what, one, 0, MOST_TIME) for one in several]
 
 
 def thousandths(text: str, members: int) -> int:
@@ -448,7 +471,7 @@ def from_router_map(graph: Any, delays: Delays | int = Delays(), members: int | 
 
 
 def on(tree: Tree, members: int | str = "all", source: int | str = "first", seed: int = 0) -> Scenario:
-    """A session on a network: member 0, a sender, draws 100 times, 100 ticks apart, and the others receive.
+    """A session on a network: member 0, a sender, draws 100 times, a tick apart, and the others receive.
 
     `members` is how many there are, the source among them, on nodes chosen at random, or `all`. `source` is a node by
     its number or name, `first` or `random`. `drawing` puts other draws in place of these.
@@ -459,7 +482,7 @@ def on(tree: Tree, members: int | str = "all", source: int | str = "first", seed
 def _session(tree: Tree, nodes: Iterable[int], seed: int) -> Scenario:
     """A session of members on these nodes, the source's first."""
     made = tuple(Member(node, "receiver" if place else "sender", place + 1) for place, node in enumerate(nodes))
-    return Scenario(tree, made, seed=seed).drawing(100)
+    return Scenario(tree, made, seed=seed).drawing(DRAWS)
 
 
 def place_members(tree: Tree, members: int | str, source: int | str, rng: random.Random) -> list[int]:

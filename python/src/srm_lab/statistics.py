@@ -1,20 +1,23 @@
 """Statistics over runs. The replications are the seeds: losses of one run depend on each other, runs do not."""
 import math
+from collections.abc import Callable, Iterable, Sequence
 from dataclasses import dataclass
-from typing import TYPE_CHECKING
+from typing import TYPE_CHECKING, Union
 
 import numpy
 import pandas
 from scipy import stats
 
-from .errors import ScenarioError
+from .errors import ScenarioError, perhaps
 
 if TYPE_CHECKING:
     from .runs import Runs
 
 METHODS = ("t", "bootstrap")
-QUANTILES = (0.05, 0.25, 0.5, 0.75, 0.95)
 RESAMPLES = 9999
+SUMMARY = ["mean", "low", "high", "seeds", "values", "left_out"]
+# of the values of one run: a word of pandas' own such as "mean", a quantile from 0 to 1, or a function of a Series
+Statistic = Union[str, float, Callable[[pandas.Series], float]]
 
 
 @dataclass(frozen=True)
@@ -26,89 +29,128 @@ class Interval:
     high: float
 
 
-def interval(values: "pandas.Series | list[float]", method: str = "t", level: float = 0.95) -> Interval:
+def interval(values: "pandas.Series | Sequence[float]", method: str = "t", level: float = 0.95) -> Interval:
     """The mean of values, one for each seed, with a confidence interval.
 
     `t` is Student's interval, for means of roughly normal values; `bootstrap` the percentiles of the means of 9,999
     resamples of the seeds, drawn with one fixed seed. Fewer than two values have no interval.
     """
-    if method not in METHODS:
-        raise ScenarioError(f"method is {method!r}, and has to be one of {', '.join(METHODS)}")
-    if not 0 < level < 1:
-        raise ScenarioError(f"level is {level!r}, and has to be between 0 and 1")
+    _check(method, level)
     data = numpy.asarray(values, dtype=float)
     data = data[~numpy.isnan(data)]
     mean = float(data.mean()) if len(data) else math.nan
     if len(data) < 2:
         return Interval(mean, math.nan, math.nan)
-    if method == "bootstrap":
-        picks = numpy.random.default_rng(0).integers(len(data), size=(RESAMPLES, len(data)))
-        low, high = numpy.quantile(data[picks].mean(axis=1), [(1 - level) / 2, (1 + level) / 2])
-        return Interval(mean, float(low), float(high))
-    wide = stats.t.ppf((1 + level) / 2, len(data) - 1) * data.std(ddof=1) / math.sqrt(len(data))
-    return Interval(mean, mean - wide, mean + wide)
+    if method == "t":
+        return _students(mean, float(stats.sem(data)), len(data) - 1, level)
+    found = stats.bootstrap((data,), numpy.mean, n_resamples=RESAMPLES, confidence_level=level, method="percentile",
+                            random_state=0).confidence_interval
+    return Interval(mean, float(found.low), float(found.high))
 
 
-@dataclass(frozen=True)
-class Summary:
-    """Statistics of a column, each over the seeds.
-
-    `table` has a row for the mean and for each quantile: its mean over seeds, and the interval. `rows` is how many
-    values there are, `left_out` how many rows have none (losses that nobody recovered), `method` how the intervals
-    were made.
-    """
-
-    column: str
-    table: pandas.DataFrame
-    seeds: int
-    rows: int
-    left_out: int
-    method: str
-    level: float
-
-    @property
-    def mean(self) -> Interval:
-        """The mean over seeds of the means of each."""
-        return Interval(*(float(value) for value in self.table.loc["mean"]))
-
-    def __str__(self) -> str:
-        told = f"{self.column}: {self.rows} values of {self.seeds} seeds, {self.left_out} rows without one left out; "
-        return f"{told}{self.level:.0%} intervals over seeds ({self.method})\n{self.table}"
+def _check(method: str, level: float) -> None:
+    if method not in METHODS:
+        raise ScenarioError(f"method is {method!r}, and has to be one of {', '.join(METHODS)}")
+    if not 0 < level < 1:
+        raise ScenarioError(f"level is {level!r}, and has to be between 0 and 1")
 
 
-def summarise(frame: pandas.DataFrame, column: str, by: str = "seed", method: str = "t",
-              level: float = 0.95, quantiles: tuple[float, ...] = QUANTILES) -> Summary:
-    """The mean and quantiles of a column in each group of `by`, and their means with intervals over the groups.
-
-    `by` names the column whose values are the replications: the seed.
-    """
-    for name in (column, by):
-        if name not in frame:
-            raise ScenarioError(f"there is no column {name!r}: there are {', '.join(frame.columns)}")
-    values = pandas.to_numeric(frame[column]).astype(float)
-    groups = values.groupby(frame[by])
-    each = {"mean": groups.mean(), **{f"q{100 * one:g}": groups.quantile(one) for one in quantiles}}
-    rows = {name: vars(interval(one, method, level)) for name, one in each.items()}
-    missing = int(values.isna().sum())
-    return Summary(column, pandas.DataFrame.from_dict(rows, orient="index"), frame[by].nunique(), len(values) - missing,
-                   missing, method, level)
+def _students(mean: float, error: float, freedom: float, level: float) -> Interval:
+    """Student's interval of a mean with a standard error."""
+    low, high = stats.t.interval(level, freedom, mean, error) if error else (mean, mean)
+    return Interval(mean, float(low), float(high))
 
 
-def difference(first: list[float], second: list[float], level: float = 0.95) -> Interval:
+def difference(first: Sequence[float], second: Sequence[float], level: float = 0.95) -> Interval:
     """The mean of the second values less that of the first, with Welch's interval for two independent samples.
 
     For runs that share no random words; `paired` is for those that share their seeds.
     """
-    one, other = numpy.asarray(first, dtype=float), numpy.asarray(second, dtype=float)
-    mean = float(other.mean() - one.mean())
-    if min(len(one), len(other)) < 2:
+    samples = [numpy.asarray(values, dtype=float) for values in (first, second)]
+    mean = float(samples[1].mean() - samples[0].mean())
+    if min(map(len, samples)) < 2:
         return Interval(mean, math.nan, math.nan)
-    parts = [one.var(ddof=1) / len(one), other.var(ddof=1) / len(other)]
-    if not sum(parts):
-        return Interval(mean, mean, mean)
-    freedom = sum(parts)**2 / (parts[0]**2 / (len(one) - 1) + parts[1]**2 / (len(other) - 1))
-    wide = float(stats.t.ppf((1 + level) / 2, freedom)) * math.sqrt(sum(parts))
-    return Interval(mean, mean - wide, mean + wide)
+    # scipy's ttest_ind tells this interval from version 1.11 on
+    parts = [float(stats.sem(values))**2 for values in samples]
+    lost = sum(part**2 / (len(values) - 1) for part, values in zip(parts, samples))
+    return _students(mean, math.sqrt(sum(parts)), sum(parts)**2 / lost if lost else math.inf, level)
+
+
+def evaluated(frame: pandas.DataFrame, expression: str) -> pandas.Series:
+    """The numbers of an expression of a table's columns, such as `delay / round_trip`; what has no value is NaN."""
+    if not isinstance(expression, str):
+        raise TypeError(f"the expression is {expression!r}, and has to be text, such as \"delay / round_trip\"")
+    numbers = frame.astype({name: float for name, kind in frame.dtypes.items() if str(kind) == "Int64"})
+    try:
+        found = numbers.eval(expression, engine="python")
+        return pandas.Series(found, frame.index).astype(float)
+    except pandas.errors.UndefinedVariableError as fault:
+        raise _no_column(str(fault).split("'")[1], frame) from None
+    except (SyntaxError, TypeError, ValueError, NotImplementedError, AttributeError) as fault:
+        raise ScenarioError(f"{expression!r} gives no number for each row: {fault}") from None
+
+
+def table_of(given: "Runs | pandas.DataFrame", expression: str) -> pandas.DataFrame:
+    """The table that is given, or the one of runs that has the columns of an expression."""
+    if isinstance(given, pandas.DataFrame):
+        return given
+    if not hasattr(given, "holding"):
+        raise TypeError(f"a {type(given).__name__} was given, and has to be a table (a DataFrame) or runs")
+    return given.holding(expression)
+
+
+def summarise(given: "Runs | pandas.DataFrame", expression: str, by: str | Sequence[str] | None = None,
+              statistic: Statistic | Sequence[Statistic] = "mean", method: str = "t",
+              level: float = 0.95) -> pandas.DataFrame | pandas.Series:
+    """The mean over seeds of what a column, or an expression of columns, is in each of them, with its interval.
+
+    `statistic` is what is taken of the values of one seed, by default their mean; of a list each has a row. The answer
+    has `mean`, `low` and `high`, from how many `seeds` and `values` they are, and how many rows were `left_out` since
+    they have no value (a loss that nobody recovered has no delay). With `by` it has a row for each group, as
+    `frame.groupby(by).apply(summarise, expression)` has.
+    """
+    _check(method, level)
+    frame = table_of(given, expression)
+    if by is not None:
+        names = [by] if isinstance(by, str) or not isinstance(by, Iterable) else list(by)
+        _check_columns(frame, names)
+        found = frame.groupby(by if isinstance(by, str) else names).apply(
+            summarise, expression, None, statistic, method, level) if len(frame) else pandas.DataFrame(columns=SUMMARY)
+        found = found.astype(dict.fromkeys(SUMMARY[3:], int))
+    elif isinstance(statistic, Sequence) and not isinstance(statistic, str):
+        found = pandas.DataFrame({_name(one): summarise(frame, expression, None, one, method, level)
+                                  for one in statistic}).T.rename_axis("statistic")
+    else:
+        found = _summary(frame, expression, statistic, method, level)
+    found.attrs = {**frame.attrs, "expression": expression, "method": method, "level": level}
+    return found
+
+
+def _check_columns(frame: pandas.DataFrame, names: Iterable[str]) -> None:
+    for name in names:
+        if name not in frame:
+            raise _no_column(name, frame)
+
+
+def _no_column(name: object, frame: pandas.DataFrame) -> ScenarioError:
+    return ScenarioError(f"there is no column {name!r}{perhaps(name, frame.columns)}: there are {', '.join(frame.columns)}")
+
+
+def _summary(frame: pandas.DataFrame, expression: str, statistic: Statistic, method: str, level: float) -> pandas.Series:
+    _check_columns(frame, ["seed"])
+    values = evaluated(frame, expression)
+    groups = values.groupby(frame["seed"])
+    each = groups.quantile(statistic) if isinstance(statistic, float) else groups.agg(statistic)
+    one = interval(each, method, level)
+    counts = (each.notna().sum(), values.notna().sum(), values.isna().sum())
+    return pandas.Series([*vars(one).values(), *counts], SUMMARY, dtype=float)
+
+
+def _name(statistic: Statistic) -> str:
+    """The name of a statistic's row: q95 is a quantile."""
+    if isinstance(statistic, float):
+        return f"q{100 * statistic:g}"
+    return statistic if isinstance(statistic, str) else statistic.__name__
 
 
 @dataclass(frozen=True)
@@ -120,15 +162,22 @@ class Paired:
     method: str
 
 
-def paired(first: "Runs", second: "Runs", column: str, method: str = "t", level: float = 0.95) -> Paired:
+def paired(first: "Runs | pandas.DataFrame", second: "Runs | pandas.DataFrame", expression: str, method: str = "t",
+           level: float = 0.95) -> Paired:
     """The second setting less the first, of a column's mean on each seed, with an interval over the seeds.
 
-    Both need the same seeds. An interval without 0 in it tells the two apart.
+    Each setting is runs, or a table with their seeds; both need the same seeds. An interval without 0 in it tells the
+    two apart.
     """
-    if set(first.seeds) != set(second.seeds):
+    (one, seeds), (other, others) = (_means(table_of(given, expression), expression) for given in (first, second))
+    if seeds != others:
         raise ScenarioError("a paired comparison needs the same seeds in both settings")
-    table = pandas.DataFrame({
-        name: pandas.to_numeric(frame[column]).astype(float).groupby(frame["seed"]).mean()
-        for name, frame in (("first", first.holding(column)), ("second", second.holding(column)))})
+    table = pandas.DataFrame({"first": one, "second": other})
     table["difference"] = table["second"] - table["first"]
     return Paired(table, interval(table["difference"], method, level), method)
+
+
+def _means(frame: pandas.DataFrame, expression: str) -> tuple[pandas.Series, set[int]]:
+    """The mean of each seed, and the seeds, also those without a row."""
+    _check_columns(frame, ["seed"])
+    return evaluated(frame, expression).groupby(frame["seed"]).mean(), set(frame.attrs.get("seeds", frame["seed"]))

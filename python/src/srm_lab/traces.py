@@ -36,6 +36,11 @@ def _of_the_wheel() -> Path | None:
     return next((Path(str(one.locate())) for one in installed.files or () if one.parts[-2:] == ("bin", "srm_lab")), None)
 
 
+def version_of(program: Path) -> str:
+    """What the program says that it is, such as `srm_lab 0.2.0`."""
+    return subprocess.run([program, "--version"], capture_output=True, text=True, check=False).stdout.strip()
+
+
 @contextmanager
 def trace_of(given: Scenario, seed: int, program: Path, options: Sequence[str] = ()) -> Iterator[Iterator[Row]]:
     """The rows of a run, while the program writes them; RefusedError where it refuses the run.

@@ -6,7 +6,7 @@ import pytest
 
 from srm_lab import ScenarioError
 from srm_lab.gather import write_table
-from srm_lab.sweep import Experiment, Needs, check_config
+from srm_lab.experiment import Experiment, Needs, check_config
 
 ROOT = Path(__file__).resolve().parents[2]
 
@@ -83,7 +83,8 @@ def test_keys_that_repeat_and_flags():
     ({"figures": {"f": {"draw": "requests_against_delay", "of": ["one"]}}}, "of one: there is no 'drop_link'"),
     ({"experiments": {"one": {"kind": "chain", "size": 3, "c1": 2, "drop_link": ["hops:1", "random"], "seeds": 1}},
       "figures": {"f": {"draw": "requests_against_delay", "of": ["one"]}}}, "needs links hops:H, and drop_link has"),
-    ({"experiments": {"one": {"kind": "chain", "size": 3, "agent": "ns3", "seeds": 1}}}, "there is no 'ns3': there are"),
+    ({"experiments": {"one": {"kind": "chain", "size": 3, "agent": "ns3", "seeds": 1}}},
+     "there is no 'ns3' .did you mean 'ns2'..: there are"),
     ({"experiments": {"one": {"kind": "chain", "size": 3, "agent": "ns2", "seeds": 1}}}, "ns2 needs rounds"),
     ({"experiments": {"one": {"kind": "chain", "size": 3, "rounds": 0, "drop_link": 1, "seeds": 1}}},
      "--rounds is 0, and has to be 1 to 2048"),

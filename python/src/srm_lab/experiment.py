@@ -5,7 +5,7 @@ from itertools import product
 from typing import Any, NamedTuple
 
 from .cli import build, parser
-from .errors import ScenarioError
+from .errors import ScenarioError, perhaps
 from .limits import MOST_SEED, within
 from .measures import OperationsTable
 from .one_run import function_of
@@ -92,8 +92,9 @@ class Experiment:
             known = options_of(kind)
             for key in self.config:
                 if key not in OWN and key not in known:
-                    raise ScenarioError(f"experiment {self.name}: there is no key {key!r}: {kind} has "
-                                        f"{', '.join(sorted({*known, *OWN[:-1]}))}")
+                    keys = sorted({*known, *OWN[:-1]})
+                    raise ScenarioError(f"experiment {self.name}: there is no key {key!r}{perhaps(key, keys)}: "
+                                        f"{kind} has {', '.join(keys)}")
         self._check_metrics()
         for label in self.points:
             try:
@@ -148,7 +149,7 @@ def known(what: str, given: Iterable[str], names: Collection[str]) -> None:
     """Refuses a name that is none of those known."""
     for name in given:
         if name not in names:
-            raise ScenarioError(f"{what}: there is no {name!r}: there are {', '.join(names)}")
+            raise ScenarioError(f"{what}: there is no {name!r}{perhaps(name, names)}: there are {', '.join(names)}")
 
 
 def check_config(config: dict[str, Any], draws: Mapping[str, Needs]) -> None:
