@@ -1,5 +1,5 @@
 //! Rows, handed to a sink: those of a window, and none, by which a run begins.
-ghost use Rattle.std.specs.Prelude.{◌≡◌, ◌<◌, ◌+◌, ◌-◌, ◌^◌, ◌∷◌, [], All, IsSorted, MatchResult};
+ghost use Rattle.std.specs.Prelude.{◌≡◌, ◌<◌, ◌+◌, ◌-◌, ◌^◌, [], All, IsSorted, MatchResult};
 ghost use Rattle.srm_cell.specs.Crossings.{joined};
 ghost use Rattle.srm_model.specs.World.{row_cmp};
 ghost use Rattle.srm_interfaces.specs.declared.sink.Stage.{Stage as AStage};
@@ -21,7 +21,6 @@ pub(crate) fn hand_none<S: RowSink>(alloc: Global, sink: &mut S) -> Result<(), S
     ensures same { S.same sink.old sink.new }
     ensures stage { S.stage sink.new ≡ stage_after result }
     ensures failures { S.failures sink.new ≡ S.failures sink.old + stops_in result }
-    ensures handed { S.handed sink.old ([] ∷ []) sink.new }
     ensures rows { MatchResult result (λ _. S.took sink.old [] sink.new) (λ _. S.part sink.old [] sink.new) }
 {
     sink.rows(alloc, Vec::new(alloc))

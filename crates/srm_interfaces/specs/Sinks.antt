@@ -1,5 +1,5 @@
 -- Who takes the rows of a run as they come.
-use Rattle.std.specs.Prelude.{◌≡◌, ◌⊎◌, ◌≤◌, ℕ, List, [], ◌∷◌, length, All, IsPermutation, Result, Ok, Err, MatchResult}
+use Rattle.std.specs.Prelude.{ℕ, List, IsPermutation, Result, Ok, Err}
 use Rattle.srm_member.specs.declared.row.Row.{Row}
 use Rattle.srm_interfaces.specs.declared.sink.SinkFault.{SinkFault}
 use Rattle.srm_interfaces.specs.declared.sink.SinkFault.TheVariants.{NoMemory, Stopped}
@@ -36,15 +36,3 @@ IsInAnyOrder took part =
 -- how many rows of a run that is not cut into windows are handed on at a time
 abbrev pub most_rows : ℕ
 most_rows = 32
-
-module _ {S : Type 0} (handed : S → List (List Row) → S → Type 0) where
-  -- a sink was handed first no rows, and then so many at a time
-  abbrev pub HandsPieces : S → S → Type 0
-  HandsPieces old new =
-      (pieces : List (List Row)) × All (λ (rows : List Row). length rows ≤ most_rows) pieces
-      × handed old ([] ∷ pieces) new
-
-  -- a run hands its rows on in pieces, or is refused before: the sink is then as it was
-  abbrev pub TellsPieces : {A E : Type 0} → S → Result A E → S → Type 0
-  TellsPieces old r new =
-      MatchResult r (λ _. HandsPieces old new) (λ _. (new ≡ old) ⊎ HandsPieces old new)
