@@ -1,6 +1,7 @@
 -- Who takes the rows of a run as they come.
-use Rattle.std.specs.Prelude.{ℕ, List, IsPermutation, Result, Ok, Err}
+use Rattle.std.specs.Prelude.{ℕ, List, Result, Ok, Err}
 use Rattle.srm_member.specs.declared.row.Row.{Row}
+use Rattle.srm_member.specs.ByMember.{AreAlike}
 use Rattle.srm_interfaces.specs.declared.sink.SinkFault.{SinkFault}
 use Rattle.srm_interfaces.specs.declared.sink.SinkFault.TheVariants.{NoMemory, Stopped}
 use Rattle.srm_interfaces.specs.declared.sink.Stage.{Stage}
@@ -25,11 +26,11 @@ stops_in (Err (Stopped n)) = 1
 
 -- ---- order
 
--- the order of rows is of no matter: what was taken of some rows, or of a front of them, was taken of the same rows in
--- any other order
-abbrev pub IsInAnyOrder : {S : Type 0} → (S → List Row → S → Type 0) → (S → List Row → S → Type 0) → Type 0
-IsInAnyOrder took part =
-    (a b : _) (xs ys : List Row) → IsPermutation xs ys → (took a xs b → took a ys b) × (part a xs b → part a ys b)
+-- how rows of different members stand to one another is of no matter: what was taken of some rows, or of a front of
+-- them, was taken of every list in which each member's rows stand in the same order
+abbrev pub IsByMember : {S : Type 0} → (S → List Row → S → Type 0) → (S → List Row → S → Type 0) → Type 0
+IsByMember took part =
+    (a b : _) (xs ys : List Row) → AreAlike xs ys → (took a xs b → took a ys b) × (part a xs b → part a ys b)
 
 -- ---- pieces
 

@@ -2,7 +2,7 @@
 ghost use Rattle.std.specs.Prelude.{◌≡◌, ◌<◌, ◌+◌, ◌-◌, ◌^◌, ◌++◌, [], ℕ, List, MatchResult, IsTrue};
 ghost use Rattle.srm_member.specs.declared.row.Row.{Row as OneRow};
 ghost use Rattle.srm_interfaces.specs.declared.sink.Stage.{Stage as AStage};
-ghost use Rattle.srm_interfaces.specs.Sinks.{IsOpen, stage_after, stops_in, IsInAnyOrder};
+ghost use Rattle.srm_interfaces.specs.Sinks.{IsOpen, stage_after, stops_in, IsByMember};
 
 use srm_member::row::Row;
 use std::alloc::Global;
@@ -66,10 +66,10 @@ pub trait RowSink {
         ensures rows { MatchResult result (λ _. took self.old rows.items self.new)
             (λ _. part self.old rows.items self.new) };
 
-    /// Whether the order of rows is of no matter to it: what it takes of some rows, it takes of the same rows in any other order. It
-    /// does not allocate.
-    fn takes_any_order(&self) -> bool
-        ensures { IsTrue result → IsInAnyOrder took part }
+    /// Whether the rows of members may be handed to it apart: what it takes of some rows, it takes of every list in which each
+    /// member's rows stand in the same order. It does not allocate.
+    fn takes_members_apart(&self) -> bool
+        ensures { IsTrue result → IsByMember took part }
     {
         false
     }

@@ -144,4 +144,9 @@ impl RowSink for MembersSink {
             }
         }
     }
+
+    // A member's counts are of its own rows.
+    fn takes_members_apart(&self) -> bool {
+        true
+    }
 }

@@ -64,7 +64,7 @@ impl RowSink for NoRows {
     }
 
     // Of a sink that keeps nothing any rows may be said to be taken, so this is true of it.
-    fn takes_any_order(&self) -> bool {
+    fn takes_members_apart(&self) -> bool {
         true
     }
 }
