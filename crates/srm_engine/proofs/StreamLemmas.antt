@@ -1,7 +1,6 @@
 -- What steps, and pieces of a run, tell.
-use Rattle.std.proofs.Common.{◌≡◌, ◌∙◌, ◌⊎◌, inl, inr, ℕ, ◌<◌, ◌≤◌, ◌+◌, ◌^◌, List, [], ◌∷◌, ◌++◌, length, length-append, Err}
+use Rattle.std.proofs.Common.{◌≡◌, ◌∙◌, ◌⊎◌, inl, inr, ℕ, ◌<◌, ◌≤◌, ◌+◌, ◌^◌, List, [], ◌++◌, length, length-append, Err}
 use Rattle.std.proofs.Common.{refl, sym, ap, subst, append-nil, arith, IsSome, IfSome}
-use Rattle.std.proofs.lemmas.List.Elements.{All-push}
 use Rattle.srm_net.specs.Network.{Network}
 use Rattle.srm_scenario.specs.Plain.{PlainScenario}
 use Rattle.srm_member.specs.declared.row.Row.{Row}
@@ -24,7 +23,7 @@ use Rattle.srm_interfaces.specs.declared.sink.Stage.{Stage}
 use Rattle.srm_model.specs.World.{World, IsReached, step}
 use Rattle.srm_engine.specs.Engines.{MayRefuseStep, HasCounted, traffic_in}
 use Rattle.srm_engine.specs.Faults.{step_refused}
-use Rattle.srm_interfaces.specs.Sinks.{HandsPieces, most_rows, stage_after}
+use Rattle.srm_interfaces.specs.Sinks.{most_rows, stage_after}
 use Rattle.srm_engine.specs.Outcomes.{MayRefuseRun}
 use Rattle.srm_engine.specs.Streams.{sink_in, stream_fault_of, run_fault_in, stopped_in, MayStop, MeetsRefusal, TakesTraceFront}
 use Rattle.srm_engine.specs.Streams.{TellsHalt, MayLackSteps}
@@ -60,17 +59,6 @@ pub front_taken : {S : Type 0} (took part : S → List Row → S → Type 0) →
     → (a b : S) (rows : List Row) → took a rows b → part a rows b
 front_taken took part none more a b rows h =
     subst (λ (l : List Row). part a l b) (append-nil rows) (more a b b rows [] h (none b))
-
-module _ {S : Type 0} (handed : S → List (List Row) → S → Type 0) where
-  -- one piece more
-  pub piece_more : ((a b c : S) (xs ys : List (List Row)) → handed a xs b → handed b ys c → handed a (xs ++ ys) c)
-      → (a b c : S) (rows : List Row) → HandsPieces handed a b → length rows ≤ most_rows → handed b (rows ∷ []) c
-      → HandsPieces handed a c
-  piece_more more a b c rows h few k = (
-    h.0 ++ rows ∷ [],
-    All-push (λ (l : List Row). length l ≤ most_rows) h.0 rows h.1 few,
-    more a b c ([] ∷ h.0) (rows ∷ []) h.2 k,
-  )
 
 module _ {S : Type 0} (took part : S → List Row → S → Type 0) where
   -- where not all rows were handed on, a front was

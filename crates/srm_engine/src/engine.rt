@@ -6,7 +6,7 @@ ghost use Rattle.srm_cell.specs.PutRows.{PutsStep};
 ghost use Rattle.srm_engine.specs.Openings.{HoldOpeningRecords};
 ghost use Rattle.srm_engine.specs.Engines.{IsSetUp, IsStillOf, MayStep, StepsOn, MaySendNow, Sends, MayDeliver, Delivers, IsOpened, OpensFrom};
 ghost use Rattle.srm_engine.specs.Engines.{Shows};
-ghost use Rattle.srm_interfaces.specs.Sinks.{IsOpen, stage_after, stops_in, HandsPieces, TellsPieces};
+ghost use Rattle.srm_interfaces.specs.Sinks.{IsOpen, stage_after, stops_in};
 ghost use Rattle.srm_engine.specs.Streams.{sink_in, MayTake, TakesSteps, StreamsRows, StandsAs, stopped_in, MayLackSteps};
 ghost use Rattle.srm_engine.specs.Streams.{RefusedFrom};
 ghost use Rattle.srm_engine.specs.RowRuns.{LastFrom, UndoneFrom};
@@ -83,7 +83,6 @@ impl<'a> Engine<'a> {
         ensures device { S.same sink.old sink.new }
         ensures stands { StandsAs result (S.stage sink.new) }
         ensures failures { S.failures sink.new ≡ S.failures sink.old + stopped_in result }
-        ensures pieces { TellsPieces S.handed sink.old result sink.new }
         ensures last { LastFrom S.took S.part (λ _. Shows (λ b. plain b)) start.entry.scenario.now start.entry.net.now
             (map (λ b. plain b) start.entry.members.items) sink.old result sink.new }
         ensures refused { RefusedFrom S.took S.part start.entry.scenario.now start.entry.net.now
@@ -121,7 +120,6 @@ impl<'a> Engine<'a> {
         ensures device { S.same sink.old sink.new }
         ensures stage { S.stage sink.new ≡ stage_after (sink_in result) }
         ensures failures { S.failures sink.new ≡ S.failures sink.old + stops_in (sink_in result) }
-        ensures pieces { HandsPieces S.handed sink.old sink.new }
         ensures rows { StreamsRows S.took S.part (λ b. plain b) self.old sink.old result
             sink.new self.new }
     {

@@ -1,7 +1,8 @@
 //! Rows, handed to a sink: those of a window, and none, by which a run begins.
-ghost use Rattle.std.specs.Prelude.{◌≡◌, ◌<◌, ◌+◌, ◌-◌, ◌^◌, ◌∷◌, [], All, IsSorted, MatchResult};
+ghost use Rattle.std.specs.Prelude.{◌≡◌, ◌<◌, ◌+◌, ◌-◌, ◌^◌, [], All, IsSorted, MatchResult};
 ghost use Rattle.srm_cell.specs.Crossings.{joined};
 ghost use Rattle.srm_model.specs.World.{row_cmp};
+ghost use Rattle.srm_model.specs.WindowRuns.{StandAlike};
 ghost use Rattle.srm_interfaces.specs.declared.sink.Stage.{Stage as AStage};
 ghost use Rattle.srm_interfaces.specs.Sinks.{IsOpen, stage_after, stops_in};
 ghost use Rattle.srm_engine.specs.Streams.{sink_in};
@@ -21,14 +22,13 @@ pub(crate) fn hand_none<S: RowSink>(alloc: Global, sink: &mut S) -> Result<(), S
     ensures same { S.same sink.old sink.new }
     ensures stage { S.stage sink.new ≡ stage_after result }
     ensures failures { S.failures sink.new ≡ S.failures sink.old + stops_in result }
-    ensures handed { S.handed sink.old ([] ∷ []) sink.new }
     ensures rows { MatchResult result (λ _. S.took sink.old [] sink.new) (λ _. S.part sink.old [] sink.new) }
 {
     sink.rows(alloc, Vec::new(alloc))
 }
 
 /// Hands a sink the rows of all lists, each of which is in order: all of them in order of their keys, or list after list where
-/// their order is of no matter to it.
+/// it takes the rows of members apart.
 pub(crate) fn hand_lists<S: RowSink>(
     alloc: Global,
     sink: &mut S,
@@ -37,12 +37,13 @@ pub(crate) fn hand_lists<S: RowSink>(
     requires live { S.stage sink.old ≡ Stage.Live }
     requires failures { S.failures sink.old < 2 ^ 64 - 1 }
     requires sorted { All (IsSorted row_cmp) (lists_in lists) }
+    requires alike { StandAlike (lists_in lists) }
     ensures device { S.same sink.old sink.new }
     ensures stage { S.stage sink.new ≡ stage_after (sink_in result) }
     ensures failures { S.failures sink.new ≡ S.failures sink.old + stops_in (sink_in result) }
     ensures rows { HandsLists S.took S.part (lists_in lists) sink.old result sink.new }
 {
-    if sink.takes_any_order() {
+    if sink.takes_members_apart() {
         return match hand_each(alloc, sink, lists) {
             Ok(()) => Ok(()),
             Err(fault) => Err(Halt::Sink(fault)),

@@ -47,8 +47,6 @@ impl RowSink for KeptRows {
 
     ghost same = { λ _ _. Unit {0} };
 
-    ghost handed = { λ _ _ _. Unit {0} };
-
     ghost took = { Keeps };
 
     ghost part = { KeepsFront };
@@ -56,10 +54,6 @@ impl RowSink for KeptRows {
     ghost same_self = { λ a. tt };
 
     ghost same_more = { λ a b c p q. tt };
-
-    ghost handed_none = { λ a. tt };
-
-    ghost handed_more = { λ a b c xs ys p q. tt };
 
     ghost took_none = { keeps_none };
 

@@ -2,7 +2,7 @@
 ghost use Rattle.std.specs.Prelude.{◌≡◌, ◌<◌, ◌+◌, ◌-◌, ◌^◌, ℕ, map};
 ghost use Rattle.srm_scenario.specs.Plain.{network_of};
 ghost use Rattle.srm_engine.specs.Openings.{HoldOpeningRecords};
-ghost use Rattle.srm_interfaces.specs.Sinks.{IsOpen, TellsPieces};
+ghost use Rattle.srm_interfaces.specs.Sinks.{IsOpen};
 ghost use Rattle.srm_engine.specs.Streams.{StandsAs, stopped_in, MayLackSteps, RefusedFrom};
 ghost use Rattle.srm_engine.specs.RowRuns.{TotalsFrom, UndoneFrom};
 
@@ -39,7 +39,6 @@ pub fn step_rows<S: RowSink>(
     ensures device { S.same sink.old sink.new }
     ensures stands { StandsAs result (S.stage sink.new) }
     ensures failures { S.failures sink.new ≡ S.failures sink.old + stopped_in result }
-    ensures pieces { TellsPieces S.handed sink.old result sink.new }
     ensures totals { TotalsFrom S.took S.part start.entry.scenario.now start.entry.net.now
         (map (λ b. plain b) start.entry.members.items) sink.old result sink.new }
     ensures refused { RefusedFrom S.took S.part start.entry.scenario.now start.entry.net.now

@@ -2,7 +2,7 @@
 ghost use Rattle.std.specs.Prelude.{◌≡◌, ◌<◌, ◌+◌, ◌-◌, ◌^◌, ℕ, map};
 ghost use Rattle.srm_scenario.specs.Plain.{network_of};
 ghost use Rattle.srm_engine.specs.Openings.{HoldOpeningRecords};
-ghost use Rattle.srm_interfaces.specs.Sinks.{IsOpen, TellsPieces};
+ghost use Rattle.srm_interfaces.specs.Sinks.{IsOpen};
 ghost use Rattle.srm_engine.specs.Streams.{StandsAs, stopped_in, StreamsFrom, RefusedFrom};
 
 use crate::cells::finish_cells;
@@ -44,7 +44,6 @@ pub fn step_stream<S: RowSink>(
     ensures device { S.same sink.old sink.new }
     ensures stands { StandsAs result (S.stage sink.new) }
     ensures failures { S.failures sink.new ≡ S.failures sink.old + stopped_in result }
-    ensures pieces { TellsPieces S.handed sink.old result sink.new }
     ensures stream { StreamsFrom S.took S.part scenario.now net.now (map (λ b. plain b) members.items)
         sink.old result sink.new }
     ensures refused { RefusedFrom S.took S.part scenario.now net.now (map (λ b. plain b) members.items)

@@ -2,6 +2,7 @@
 ghost use Rattle.std.specs.Prelude.{◌≡◌, ◌<◌, ◌+◌, ◌-◌, ◌*◌, ◌^◌, ℕ, List, IfOk, All, IsSorted, length, map};
 ghost use Rattle.srm_scenario.specs.Plain.{network_of};
 ghost use Rattle.srm_model.specs.World.{World, row_cmp};
+ghost use Rattle.srm_model.specs.WindowRuns.{StandAlike};
 ghost use Rattle.srm_engine.specs.Openings.{HoldOpeningRecords};
 ghost use Rattle.srm_engine.specs.Ends.{MayCut};
 ghost use Rattle.srm_interfaces.specs.Sinks.{IsOpen, stage_after, stops_in};
@@ -176,6 +177,7 @@ impl<'a, M: Participant> WindowEngine<'a, M> {
         ensures later { IfOk result (λ ran. (next : ℕ) → BeginsNext M.plain ran.0 next
             → begin < next) }
         ensures sorted { IfOk result (λ ran. All (IsSorted row_cmp) (lists_in ran.1)) }
+        ensures alike { IfOk result (λ ran. StandAlike (lists_in ran.1)) }
         ensures window { TellsWindow C.handed M.plain self.entry crew.old result crew.new }
     {
         let end = self.end(begin);

@@ -21,7 +21,7 @@ use srm_scenario::scenario::Scenario;
 use std::alloc::Global;
 
 /// The run of a scenario in windows of time, as `window_run`'s, its rows handed to a sink as they come: first none, and then
-/// those of each window, in order, once it has ended; to a sink that takes rows in any order, list after list. So no more than
+/// those of each window, in order, once it has ended; to a sink that takes members apart, member after member. So no more than
 /// one window's rows are in memory at once. What is answered are the exits of the members, in order of their numbers, and the
 /// crossings and drops of the trace's packets: those of the sequential run, as the trace is.
 ///

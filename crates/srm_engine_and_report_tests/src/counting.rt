@@ -21,8 +21,6 @@ impl RowSink for Counting {
 
     ghost same = { λ _ _. Unit {0} };
 
-    ghost handed = { λ _ _ _. Unit {0} };
-
     ghost took = { λ _ _ _. Unit {0} };
 
     ghost part = { λ _ _ _. Unit {0} };
@@ -30,10 +28,6 @@ impl RowSink for Counting {
     ghost same_self = { λ a. tt };
 
     ghost same_more = { λ a b c p q. tt };
-
-    ghost handed_none = { λ a. tt };
-
-    ghost handed_more = { λ a b c xs ys p q. tt };
 
     ghost took_none = { λ a. tt };
 

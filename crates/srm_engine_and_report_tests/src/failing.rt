@@ -28,8 +28,6 @@ impl RowSink for Failing {
 
     ghost same = { λ _ _. Unit {0} };
 
-    ghost handed = { λ _ _ _. Unit {0} };
-
     ghost took = { λ a xs b. Keeps (kept_by a) xs (kept_by b) };
 
     ghost part = { λ a xs b. KeepsFront (kept_by a) xs (kept_by b) };
@@ -37,10 +35,6 @@ impl RowSink for Failing {
     ghost same_self = { λ a. tt };
 
     ghost same_more = { λ a b c p q. tt };
-
-    ghost handed_none = { λ a. tt };
-
-    ghost handed_more = { λ a b c xs ys p q. tt };
 
     ghost took_none = { λ a. keeps_none (kept_by a) };
 

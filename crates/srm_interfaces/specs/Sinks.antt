@@ -1,6 +1,7 @@
 -- Who takes the rows of a run as they come.
-use Rattle.std.specs.Prelude.{◌≡◌, ◌⊎◌, ◌≤◌, ℕ, List, [], ◌∷◌, length, All, IsPermutation, Result, Ok, Err, MatchResult}
+use Rattle.std.specs.Prelude.{ℕ, List, Result, Ok, Err}
 use Rattle.srm_member.specs.declared.row.Row.{Row}
+use Rattle.srm_member.specs.ByMember.{AreAlike}
 use Rattle.srm_interfaces.specs.declared.sink.SinkFault.{SinkFault}
 use Rattle.srm_interfaces.specs.declared.sink.SinkFault.TheVariants.{NoMemory, Stopped}
 use Rattle.srm_interfaces.specs.declared.sink.Stage.{Stage}
@@ -25,26 +26,14 @@ stops_in (Err (Stopped n)) = 1
 
 -- ---- order
 
--- the order of rows is of no matter: what was taken of some rows, or of a front of them, was taken of the same rows in
--- any other order
-abbrev pub IsInAnyOrder : {S : Type 0} → (S → List Row → S → Type 0) → (S → List Row → S → Type 0) → Type 0
-IsInAnyOrder took part =
-    (a b : _) (xs ys : List Row) → IsPermutation xs ys → (took a xs b → took a ys b) × (part a xs b → part a ys b)
+-- how rows of different members stand to one another is of no matter: what was taken of some rows, or of a front of
+-- them, was taken of every list in which each member's rows stand in the same order
+abbrev pub IsByMember : {S : Type 0} → (S → List Row → S → Type 0) → (S → List Row → S → Type 0) → Type 0
+IsByMember took part =
+    (a b : _) (xs ys : List Row) → AreAlike xs ys → (took a xs b → took a ys b) × (part a xs b → part a ys b)
 
 -- ---- pieces
 
 -- how many rows of a run that is not cut into windows are handed on at a time
 abbrev pub most_rows : ℕ
 most_rows = 32
-
-module _ {S : Type 0} (handed : S → List (List Row) → S → Type 0) where
-  -- a sink was handed first no rows, and then so many at a time
-  abbrev pub HandsPieces : S → S → Type 0
-  HandsPieces old new =
-      (pieces : List (List Row)) × All (λ (rows : List Row). length rows ≤ most_rows) pieces
-      × handed old ([] ∷ pieces) new
-
-  -- a run hands its rows on in pieces, or is refused before: the sink is then as it was
-  abbrev pub TellsPieces : {A E : Type 0} → S → Result A E → S → Type 0
-  TellsPieces old r new =
-      MatchResult r (λ _. HandsPieces old new) (λ _. (new ≡ old) ⊎ HandsPieces old new)

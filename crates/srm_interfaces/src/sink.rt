@@ -1,8 +1,8 @@
 //! Who takes the rows of a run as they come.
-ghost use Rattle.std.specs.Prelude.{◌≡◌, ◌<◌, ◌+◌, ◌-◌, ◌^◌, ◌∷◌, ◌++◌, [], ℕ, List, MatchResult, IsTrue};
+ghost use Rattle.std.specs.Prelude.{◌≡◌, ◌<◌, ◌+◌, ◌-◌, ◌^◌, ◌++◌, [], ℕ, List, MatchResult, IsTrue};
 ghost use Rattle.srm_member.specs.declared.row.Row.{Row as OneRow};
 ghost use Rattle.srm_interfaces.specs.declared.sink.Stage.{Stage as AStage};
-ghost use Rattle.srm_interfaces.specs.Sinks.{IsOpen, stage_after, stops_in, IsInAnyOrder};
+ghost use Rattle.srm_interfaces.specs.Sinks.{IsOpen, stage_after, stops_in, IsByMember};
 
 use srm_member::row::Row;
 use std::alloc::Global;
@@ -33,9 +33,9 @@ pub enum Stage {
     },
 }
 
-/// Who takes rows. A contract sees where it stands, how often the device under it failed, and three relations between its values before
-/// and after: that in between it was handed exactly a list of calls; that it took exactly a list of rows; or that it took no more than a
-/// front of one, which may end inside a row's text.
+/// Who takes rows. A contract sees where it stands, how often the device under it failed, and two relations between its values before
+/// and after: that in between it took exactly a list of rows; or that it took no more than a front of one, which may end inside a
+/// row's text.
 pub trait RowSink {
     // Where it stands.
     ghost stage: { Self → AStage };
@@ -45,9 +45,6 @@ pub trait RowSink {
 
     // Both are over one device.
     ghost same: { Self → Self → Type 0 };
-
-    // Between these two values it was handed exactly these calls, each the list of its rows.
-    ghost handed: { Self → List (List OneRow) → Self → Type 0 };
 
     // Between these two values it took exactly these rows.
     ghost took: { Self → List OneRow → Self → Type 0 };
@@ -66,14 +63,13 @@ pub trait RowSink {
         ensures same { same self.old self.new }
         ensures stage { stage self.new ≡ stage_after result }
         ensures failures { failures self.new ≡ failures self.old + stops_in result }
-        ensures handed { handed self.old (rows.items ∷ []) self.new }
         ensures rows { MatchResult result (λ _. took self.old rows.items self.new)
             (λ _. part self.old rows.items self.new) };
 
-    /// Whether the order of rows is of no matter to it: what it takes of some rows, it takes of the same rows in any other order. It
-    /// does not allocate.
-    fn takes_any_order(&self) -> bool
-        ensures { IsTrue result → IsInAnyOrder took part }
+    /// Whether the rows of members may be handed to it apart: what it takes of some rows, it takes of every list in which each
+    /// member's rows stand in the same order. It does not allocate.
+    fn takes_members_apart(&self) -> bool
+        ensures { IsTrue result → IsByMember took part }
     {
         false
     }
@@ -81,10 +77,6 @@ pub trait RowSink {
     ghost same_self: { (a : Self) → same a a };
 
     ghost same_more: { (a b c : Self) → same a b → same b c → same a c };
-
-    ghost handed_none: { (a : Self) → handed a [] a };
-
-    ghost handed_more: { (a b c : Self) (xs ys : List (List OneRow)) → handed a xs b → handed b ys c → handed a (xs ++ ys) c };
 
     ghost took_none: { (a : Self) → took a [] a };
 

@@ -19,3 +19,4 @@ pub mod NameTests
 pub mod OrderLemmas
 pub mod PlaceLemmas
 pub mod TableChanges
+pub mod ByMemberLemmas

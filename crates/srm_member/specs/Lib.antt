@@ -17,3 +17,4 @@ pub mod Intervals
 pub mod IntervalLaws
 pub mod WorkedIntervals
 pub mod AdaptingLaws
+pub mod ByMember

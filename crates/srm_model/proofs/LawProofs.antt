@@ -22,7 +22,8 @@ use Rattle.srm_model.proofs.Sequential.{good_reached, promise_safe, seq_ordered,
 use Rattle.srm_model.proofs.Settled.{at_member, get_after}
 use Rattle.srm_model.specs.Laws.{CellsRunAlone, NeverSpent, OwnRunsEnd, PromisesAreSafe, RefusalsAreMet, RunEnds, SchedulesAgree}
 use Rattle.srm_model.specs.Laws.{WindowsAreSafe}
-use Rattle.srm_model.specs.Schedules.{own_of, rows_of_member, scheduled}
+use Rattle.srm_member.specs.ByMember.{rows_of_member}
+use Rattle.srm_model.specs.Schedules.{own_of, scheduled}
 use Rattle.srm_model.specs.World.{World, after_step, least_event, opening, row_cmp, run, cells_after, step_of, step_to}
 use Rattle.srm_member.specs.declared.row.Row.{Row}
 use Rattle.srm_net.specs.Orders.{ordered}

@@ -27,3 +27,4 @@ pub mod WindowJobs
 pub mod WindowPackets
 pub mod WindowRows
 pub mod Fronts
+pub mod StandAlike

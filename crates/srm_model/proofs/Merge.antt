@@ -19,7 +19,7 @@ use Rattle.srm_model.proofs.Sequential.{Good, good_reached, good_step, member_be
 use Rattle.srm_model.proofs.StrictRuns.{keys_rise}
 use Rattle.srm_cell.specs.Crossings.{joined}
 use Rattle.srm_model.specs.Laws.{MergesAgree, by_member, new_rows}
-use Rattle.srm_model.specs.Schedules.{rows_of_member}
+use Rattle.srm_member.specs.ByMember.{rows_of_member}
 use Rattle.srm_model.specs.World.{World, opening, row_cmp, run}
 use Rattle.srm_member.proofs.AllIn.{AllIn}
 use Rattle.srm_member.proofs.FewerTimers.{In, in_append, count-append}
@@ -111,11 +111,11 @@ module _ {A : Type 0} (p : A → Bool) where
   count-filter q [] = refl
   count-filter q (x ∷ xs) = count-cond (q x) x (filter q xs) ∙ ap (λ n. one_if (q x && p x) + n) (count-filter q xs)
 
-in_range : ℕ → ℕ → ℕ → Bool
+unfoldable pub in_range : ℕ → ℕ → ℕ → Bool
 in_range i zero m = false
 in_range i (suc n) m = (m == i) || in_range (suc i) n m
 
-too_low : (i n m : ℕ) → m < i → in_range i n m ≡ false
+pub too_low : (i n m : ℕ) → m < i → in_range i n m ≡ false
 unfolding in_range
 too_low i zero m lt = refl
 too_low i (suc n) m lt = elim (m == i) as (λ b. (m == i) ≡ b → (b || in_range (suc i) n m) ≡ false) [
@@ -123,7 +123,7 @@ too_low i (suc n) m lt = elim (m == i) as (λ b. (m == i) ≡ b → (b || in_ran
   | false ↦ λ e. too_low (suc i) n m (omega arith)
 ] refl
 
-all_low : (n i m : ℕ) → i ≤ m → m < i + n → in_range i n m ≡ true
+pub all_low : (n i m : ℕ) → i ≤ m → m < i + n → in_range i n m ≡ true
 unfolding in_range
 all_low zero i m lo hi = absurd (omega arith)
 all_low (suc n) i m lo hi = elim (m == i) as (λ b. (m == i) ≡ b → (b || in_range (suc i) n m) ≡ true) [
@@ -206,7 +206,7 @@ ascends_second [] ys h = h
 ascends_second (x ∷ xs) ys h = ascends_second xs ys h.1
 
 module _ (s : Setting) (fit : IsFit s) where
-  seq_members : {till : ℕ} {cs ds : List PlainCell} {rows : List Row} → Seq s till cs rows ds → Good s fit cs
+  pub seq_members : {till : ℕ} {cs ds : List PlainCell} {rows : List Row} → Seq s till cs rows ds → Good s fit cs
       → AllIn (λ r. r.key.member < s.traffic.members) rows
   seq_members rest good = tt
   seq_members {till} (next {cs = cs} {e = e} {d = d} h x more) good =

@@ -12,7 +12,7 @@ use Rattle.srm_cell.specs.Setting.{Setting}
 use Rattle.srm_cell.specs.Cells.{PlainCell, hear}
 use Rattle.srm_cell.specs.OwnRuns.{hear_rows, told_to}
 use Rattle.srm_model.specs.World.{row_cmp}
-use Rattle.srm_model.specs.Schedules.{rows_of_member}
+use Rattle.srm_member.specs.ByMember.{rows_of_member}
 use Rattle.srm_model.specs.Hearing.{all_hear, heard_below}
 use Rattle.srm_model.specs.Laws.{by_member, new_rows}
 use Rattle.srm_model.specs.WindowRuns.{rows_in, each_hears}

@@ -7,13 +7,14 @@ use Rattle.srm_net.specs.declared.key.Key.{Key}
 use Rattle.srm_scenario.specs.Plain.{PlainScenario, network_of}
 use Rattle.srm_scenario.specs.Accepted.{IsAccepted}
 use Rattle.srm_member.specs.declared.row.Row.{Row}
+use Rattle.srm_member.specs.ByMember.{rows_of_member}
 use Rattle.srm_cell.specs.Setting.{Setting, IsFit, setting_of}
 use Rattle.srm_cell.specs.Cells.{PlainCell, Event, Silent, pending_keys, AllDiffer, next_event, before, StepOutcome}
 use Rattle.srm_cell.specs.Cells.{Idle, Full, Spent, Done}
 use Rattle.srm_cell.specs.Crossings.{joined}
 use Rattle.srm_cell.specs.OwnRuns.{own_end, own_rows, own_after, hear_rows}
 use Rattle.srm_model.specs.World.{World, row_cmp, least_event, step, run, opening, IsReached, IsLast, RunMeetsFull}
-use Rattle.srm_model.specs.Schedules.{scheduled, IsQuiet, rows_of_member, HasResult, HasNoResult, IsSafe}
+use Rattle.srm_model.specs.Schedules.{scheduled, IsQuiet, HasResult, HasNoResult, IsSafe}
 use Rattle.srm_model.specs.Windows.{IsWidth, promise_end, IsFirstQuiet}
 
 -- the rows of v after those of w

@@ -1,5 +1,5 @@
 -- Own runs in a world, schedules to an end, and safe ends. An end is a tick, `till`: events before it are handled.
-use Rattle.std.specs.Prelude.{◌≡◌, ℕ, ◌≤◌, List, [], ◌∷◌, Option, Some, None, ◌==◌, slice_get, filter}
+use Rattle.std.specs.Prelude.{◌≡◌, ℕ, ◌≤◌, List, [], ◌∷◌, Option, Some, None, slice_get}
 use Rattle.srm_net.specs.declared.packet.Packet.{Packet}
 use Rattle.srm_member.specs.declared.row.Row.{Row}
 use Rattle.srm_cell.specs.Setting.{Setting, arrival_of}
@@ -49,7 +49,3 @@ AllSendLate s till (r ∷ rs) = SendsLate s till r × AllSendLate s till rs
 abbrev pub IsSafe : Setting → ℕ → World → Type 0
 IsSafe s till w =
     (m : ℕ) (c : PlainCell) → slice_get w.cells m ≡ Some c → (n : ℕ) → AllSendLate s till (own_rows till m n c)
-
--- member m's rows
-abbrev pub rows_of_member : ℕ → List Row → List Row
-rows_of_member m rows = filter (λ r. r.key.member == m) rows

@@ -13,8 +13,8 @@ use Rattle.srm_model.specs.Schedules.{IsSafe, HasResult, HasNoResult}
 use Rattle.srm_model.specs.Windows.{IsWidth, promise_end, IsFirstQuiet}
 use Rattle.srm_model.specs.Hearing.{all_hear}
 use Rattle.srm_model.specs.WindowRuns.{OwnResult, own_cells, AreOwnRuns, rows_in, cells_in, IsMerge, each_hears}
-use Rattle.srm_model.specs.WindowRuns.{AreNewInTurn, IsWindow, crossings_of_all, jobs_from, jobs_of, AreJobRuns}
-use Rattle.srm_model.specs.WindowRuns.{job_rows, SomeJobMeetsFull}
+use Rattle.srm_model.specs.WindowRuns.{StandAlike, AreNewInTurn, IsWindow, crossings_of_all, jobs_from, jobs_of}
+use Rattle.srm_model.specs.WindowRuns.{AreJobRuns, job_rows, SomeJobMeetsFull}
 use Rattle.srm_model.specs.WindowChains.{IsNext, IsOver, start_of, IsEndRule, width_rule, least_width, AreWindows}
 use Rattle.srm_model.specs.WindowChains.{window_jobs}
 
@@ -36,6 +36,12 @@ abbrev pub OwnRowsAreSorted : Type 0
 OwnRowsAreSorted =
     (s : Setting) (w : World) (till : ℕ) → IsFit s → IsReached s w → till ≤ s.traffic.until → IsSafe s till w
     → (results : List OwnResult) → AreOwnRuns till 0 w.cells results → All (IsSorted row_cmp) (rows_in results)
+
+-- each member's rows stand, cell after cell, in the order in which they stand in a merge
+abbrev pub MembersStandAlike : Type 0
+MembersStandAlike =
+    (s : Setting) (w : World) (till : ℕ) → IsFit s → IsReached s w → till ≤ s.traffic.until → IsSafe s till w
+    → (results : List OwnResult) → AreOwnRuns till 0 w.cells results → StandAlike (rows_in results)
 
 -- the packets of the rows may be heard one after the other: after each row all cells hear its packet
 abbrev pub PacketsAreHeardInTurn : Type 0

@@ -4,6 +4,7 @@ use Rattle.std.specs.Prelude.{slice_get, IsPermutation, IsSorted}
 use Rattle.std.specs.List.{AllZip}
 use Rattle.srm_net.specs.declared.packet.Packet.{Packet}
 use Rattle.srm_member.specs.declared.row.Row.{Row}
+use Rattle.srm_member.specs.ByMember.{AreAlike}
 use Rattle.srm_cell.specs.Setting.{Traffic, Setting}
 use Rattle.srm_cell.specs.Cells.{PlainCell}
 use Rattle.srm_cell.specs.OwnRuns.{IsOwnRun, MeetsFull, hear_rows}
@@ -42,6 +43,10 @@ cells_in rs = map (λ (r : OwnResult). r.cell) rs
 pub record IsMerge (lists : List (List Row)) (rows : List Row) : Type 0 where
   pub all : IsPermutation (joined lists) rows
   pub in_order : IsSorted row_cmp rows
+
+-- each member's rows stand, list after list, in the order in which they stand in a merge of the lists
+abbrev pub StandAlike : List (List Row) → Type 0
+StandAlike lists = (rows : List Row) → IsMerge lists rows → AreAlike (joined lists) rows
 
 -- the cells of member i and on, each after it heard the packets of the rows in their order. A member does not hear its
 -- own

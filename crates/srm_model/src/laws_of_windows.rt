@@ -1,5 +1,5 @@
 //! The laws of windows, over the definitions alone.
-ghost use Rattle.srm_model.specs.WindowLaws.{WindowsAgree, WindowsAreThere, OwnRowsAreSorted, PacketsAreHeardInTurn, WindowPacketsAreNew, PacketsAreHeardInAnyOrder, JobsAreRuns, JobsAreInPlace, JobsRunAll, JobsRefuse, CrossingsKeep, CrossingsAreTotals, WidthsAreRules, LeastIsARule, PromisesAreARule, StartsTell, WindowsAreReached, WindowsFollow, CallsFollow, RefusedWindowsMeetFull, WindowTracesArePrefixes, WindowsAreOne, WindowsEnd};
+ghost use Rattle.srm_model.specs.WindowLaws.{WindowsAgree, WindowsAreThere, OwnRowsAreSorted, MembersStandAlike, PacketsAreHeardInTurn, WindowPacketsAreNew, PacketsAreHeardInAnyOrder, JobsAreRuns, JobsAreInPlace, JobsRunAll, JobsRefuse, CrossingsKeep, CrossingsAreTotals, WidthsAreRules, LeastIsARule, PromisesAreARule, StartsTell, WindowsAreReached, WindowsFollow, CallsFollow, RefusedWindowsMeetFull, WindowTracesArePrefixes, WindowsAreOne, WindowsEnd};
 
 /// A window to a safe end leaves the first world of the sequential run with no event before the end pending.
 pub fn windows_agree()
@@ -14,6 +14,11 @@ pub fn windows_are_there()
 /// The rows of each cell of a window are in order of their keys.
 pub fn own_rows_are_sorted()
     ensures { OwnRowsAreSorted }
+{}
+
+/// Each member's rows stand, list after list, in the order in which they stand in a merge.
+pub fn members_stand_alike()
+    ensures { MembersStandAlike }
 {}
 
 /// The packets of a window's rows may be heard one after the other.

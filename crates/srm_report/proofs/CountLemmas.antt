@@ -7,7 +7,7 @@ use Rattle.std.proofs.lemmas.List.Sums.{sum_by_push}
 use Rattle.std.proofs.lemmas.List.Folds.{find-append}
 use Rattle.std.proofs.lemmas.List.{get_or_read, get_or-set_other, length-set}
 use Rattle.std.proofs.lemmas.Grind.{get_or-set_at}
-use Rattle.srm_model.specs.Schedules.{rows_of_member}
+use Rattle.srm_member.specs.ByMember.{rows_of_member}
 use Rattle.srm_member.specs.declared.row.Word.{Word}
 use Rattle.srm_member.specs.declared.row.Row.{Row}
 use Rattle.srm_member.specs.Kinds.{is_join, is_leave, is_draw, is_ask, is_answer, is_report, is_arrival, is_sent, is_fixed}

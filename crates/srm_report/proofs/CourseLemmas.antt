@@ -43,7 +43,7 @@ loss_self k = grind arith
 loss_is : (k : Loss) → eq_by_cmp loss_cmp k k ≡ true
 loss_is k = ap is_eq (loss_self k)
 
-losses_apart : (j k : Loss) → (j ≡ k) ⊎ (eq_by_cmp loss_cmp j k ≡ false)
+pub losses_apart : (j k : Loss) → (j ≡ k) ⊎ (eq_by_cmp loss_cmp j k ≡ false)
 losses_apart j k = grind arith
 
 differ : (j k : Loss) → eq_by_cmp loss_cmp j k ≡ false → j ≢ k

@@ -1,4 +1,5 @@
 mod Fives
+pub mod ByMemberLemmas
 pub mod Compare
 pub mod CountLemmas
 pub mod CourseLemmas

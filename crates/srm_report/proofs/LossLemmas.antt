@@ -16,11 +16,12 @@ use Rattle.srm_member.specs.Orderly.{IsOrderly, IsAmong, LostIn, FixedIn, brough
 use Rattle.srm_member.specs.Kinds.{is_fixed}
 use Rattle.srm_report.specs.declared.course.Course.{Course}
 use Rattle.srm_report.specs.declared.loss.Loss.{Loss}
-use Rattle.srm_report.specs.Courses.{TellLosses, course_of, losing, name_fixed}
+use Rattle.srm_report.specs.Courses.{TellLosses, LoseInTurn, course_of, losing, name_fixed}
 use Rattle.srm_report.specs.Losses.{loss_cmp, detects, detected_at, recovered_at, loss_columns, loss_fields, loss_row, losses_table}
 use Rattle.srm_report.specs.Rows.{row_time}
 use Rattle.srm_report.specs.Tables.{table_lines}
 use Rattle.srm_report.proofs.CourseLemmas.{found, named_in, first_true, second_true, told_is, one_more}
+use Rattle.srm_report.proofs.ByMemberLemmas.{lost_in_turn, fixed_in_turn}
 use Rattle.srm_report.proofs.TableLemmas.{table_more}
 use Rattle.srm_model.proofs.TraceRows.{contained_split}
 
@@ -36,25 +37,25 @@ split_at xs i d l = grind (arith, split_suc)
 
 -- ---- what was fixed was lost
 
-pub fixed_was_lost : (members : ℕ) (rows after : List Row) (r : Row) → IsOrderly members (rows ++ r ∷ after) → (m : ℕ) (n : Name)
+pub fixed_was_lost : (rows after : List Row) (r : Row) → LoseInTurn (rows ++ r ∷ after) → (m : ℕ) (n : Name)
     → FixedIn m n rows → LostIn m n rows
-fixed_was_lost members rows after r o m n fixed =
+fixed_was_lost rows after r o m n fixed =
     let q = fixed.0 in
     let parts = contained_split rows q fixed.1 in
     let whole : rows ++ r ∷ after ≡ parts.0 ++ q ∷ (parts.1 ++ r ∷ after) = ap (λ l. l ++ r ∷ after) parts.2
     ∙ append_assoc parts.0 (q ∷ parts.1) (r ∷ after) in
-    let was = o.fixed_after parts.0 (parts.1 ++ r ∷ after) q whole fixed.3 in
+    let was = fixed_in_turn parts.0 (parts.1 ++ r ∷ after) q (subst LoseInTurn whole o) fixed.3 in
     let name : was.0 ≡ n = same_Some _ _ (sym was.1 ∙ fixed.4) in
     let lost : LostIn m n parts.0 = subst (λ k. LostIn m k parts.0) name (subst (λ j. LostIn j was.0 parts.0) fixed.2 was.2) in
     (lost.0, subst (λ l. Contains l lost.0) (sym parts.2) (Contains-append_left parts.0 (q ∷ parts.1) lost.0 lost.1), lost.2, lost.3)
 
 -- a row that takes in a name as `fixed`
-pub fix_facts : (members : ℕ) (rows after : List Row) (r : Row) → IsOrderly members (rows ++ r ∷ after) → (n : Name) → name_fixed r ≡ Some n
+pub fix_facts : (rows after : List Row) (r : Row) → LoseInTurn (rows ++ r ∷ after) → (n : Name) → name_fixed r ≡ Some n
     → LostIn r.key.member n rows × ¬ FixedIn r.key.member n rows
-fix_facts members rows after r o n h = elim (is_fixed r.told) as
+fix_facts rows after r o n h = elim (is_fixed r.told) as
     (λ b. is_fixed r.told ≡ b → cond b (brought r.about) None ≡ Some n → LostIn r.key.member n rows × ¬ FixedIn r.key.member n rows) [
       | true ↦ λ e g.
-          let was = o.fixed_after rows after r refl (told_is r.told e) in
+          let was = fixed_in_turn rows after r o (told_is r.told e) in
           let name : was.0 ≡ n = same_Some _ _ (sym was.1 ∙ g) in
           subst (λ k. LostIn r.key.member k rows × ¬ FixedIn r.key.member k rows) name (was.2, was.3)
       | false ↦ λ e g. cc
@@ -62,17 +63,17 @@ fix_facts members rows after r o n h = elim (is_fixed r.told) as
 
 -- ---- a row, name by name
 
-pub detect_more : (members : ℕ) (rows after : List Row) (r : Row) → IsOrderly members (rows ++ r ∷ after) → (i : ℕ) (d : Name)
+pub detect_more : (rows after : List Row) (r : Row) → LoseInTurn (rows ++ r ∷ after) → (i : ℕ) (d : Name)
     → i < length r.lost → (es new : List (Loss × Course))
     → TellLosses (rows ++ losing r (take i r.lost) ∷ []) es
     → new ≡ put loss_cmp (record { member = r.key.member; name = get_or r.lost i d }) (record { detected = r.key.time; recovered = None })
     es
     → TellLosses (rows ++ losing r (take (i + 1) r.lost) ∷ []) new
-detect_more members rows after r o i d lt es new was grown =
+detect_more rows after r o i d lt es new was grown =
     let n = get_or r.lost i d in
-    let facts = o.lost_once rows after r (take i r.lost) (drop (i + 1) r.lost) n refl (split_at r.lost i d lt) in
+    let facts = lost_in_turn rows after r o (take i r.lost) (drop (i + 1) r.lost) n (split_at r.lost i d lt) in
     let one = one_more rows r (take i r.lost) n es was facts.0 facts.1
-    (λ f. facts.0 (fixed_was_lost members rows after r o r.key.member n f)) in
+    (λ f. facts.0 (fixed_was_lost rows after r o r.key.member n f)) in
     subst (λ l. TellLosses (rows ++ losing r l ∷ []) new) (sym (take_more r.lost i d lt))
     (subst (TellLosses (rows ++ losing r (take i r.lost ++ n ∷ []) ∷ [])) (sym grown) one)
 

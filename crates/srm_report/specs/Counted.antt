@@ -1,7 +1,7 @@
 -- Counting rows one by one.
 use Rattle.std.specs.Prelude.{◌≡◌, ℕ, ◌*◌, ◌^◌, ◌≤◌, Bool, List, [], Option, Some, None, cond}
 use Rattle.std.specs.Prelude.{slice_index_or}
-use Rattle.srm_model.specs.Schedules.{rows_of_member}
+use Rattle.srm_member.specs.ByMember.{rows_of_member}
 use Rattle.srm_member.specs.declared.row.Row.{Row}
 use Rattle.srm_report.specs.declared.counts.Counts.{Counts}
 use Rattle.srm_report.specs.Members.{counts_of}

@@ -6,7 +6,8 @@ use Rattle.srm_net.specs.declared.packet.Name.{Name}
 use Rattle.srm_net.specs.Orders.{ordered}
 use Rattle.srm_member.specs.declared.told.Told.TheVariants.{Skip}
 use Rattle.srm_member.specs.declared.row.Row.{Row}
-use Rattle.srm_member.specs.Orderly.{brought}
+use Rattle.srm_member.specs.Orderly.{brought, AreLostOnce, AreFixedAfterLoss}
+use Rattle.srm_member.specs.ByMember.{rows_of_member}
 use Rattle.srm_member.specs.Kinds.{is_fixed}
 use Rattle.srm_report.specs.declared.course.Course.{Course}
 use Rattle.srm_report.specs.declared.loss.Loss.{Loss}
@@ -29,6 +30,10 @@ pub record TellLosses (rows : List Row) (es : List (Loss × Course)) : Type 0 wh
   pub sorted : T (is_sorted loss_cmp es)
   pub losses : map (λ e. e.0) es ≡ ordered loss_cmp (losses_in rows)
   pub courses : (k : Loss) → find loss_cmp k es ≡ course_of rows k
+
+-- each member loses no name twice, and takes in as `fixed` only what it lost in an earlier row, and has not fixed since
+abbrev pub LoseInTurn : List Row → Type 0
+LoseInTurn rows = (m : ℕ) → AreLostOnce (rows_of_member m rows) × AreFixedAfterLoss (rows_of_member m rows)
 
 -- the row with these losses alone
 abbrev pub losing : Row → List Name → Row

@@ -1,11 +1,10 @@
 -- Losses that are taken in as the rows come.
-use Rattle.std.specs.Prelude.{◌≡◌, ℕ, List, [], ◌++◌}
+use Rattle.std.specs.Prelude.{◌≡◌, List, [], ◌++◌}
 use Rattle.std.proofs.Common.{◌∙◌, ap, sym, subst, append_assoc, append-nil}
 use Rattle.srm_member.specs.declared.row.Row.{Row}
-use Rattle.srm_member.specs.Orderly.{IsOrderly}
 use Rattle.srm_interfaces.specs.declared.sink.Stage.{Stage}
 use Rattle.srm_report.specs.declared.losses_sink.LossesSink.{LossesSink}
-use Rattle.srm_report.specs.Courses.{TellLosses}
+use Rattle.srm_report.specs.Courses.{TellLosses, LoseInTurn}
 
 -- where the sink stands
 abbrev pub stage_of_losses : LossesSink → Stage
@@ -15,17 +14,17 @@ stage_of_losses s = s.stage
 abbrev pub HasFound : List Row → LossesSink → Type 0
 HasFound rows s = TellLosses rows s.losses
 
--- between these two values the losses of exactly these rows were found, after those of the rows before, where these
--- are rows of a run
+-- between these two values the losses of exactly these rows were found, after those of the rows before, where members
+-- lose in turn in all of them
 abbrev pub FindsLosses : LossesSink → List Row → LossesSink → Type 0
 FindsLosses a rows b =
-    (members : ℕ) (before after : List Row) → IsOrderly members (before ++ rows ++ after)
+    (before after : List Row) → LoseInTurn (before ++ rows ++ after)
     → HasFound before a → HasFound (before ++ rows) b
 
 -- ---- how losses compose over calls
 
 pub finds_none : (a : LossesSink) → FindsLosses a [] a
-finds_none a members before after o h = subst (λ (l : List Row). HasFound l a) (sym (append-nil before)) h
+finds_none a before after o h = subst (λ (l : List Row). HasFound l a) (sym (append-nil before)) h
 
 -- four lists, joined from the front, and the middle ones first
 front_first : (a b c d : List Row) → a ++ (b ++ c) ++ d ≡ a ++ b ++ (c ++ d)
@@ -37,7 +36,7 @@ front_last a b c d = ap (λ (l : List Row). l ++ d) (sym (append_assoc a b c))
 
 pub finds_more :
     (a b c : LossesSink) (xs ys : List Row) → FindsLosses a xs b → FindsLosses b ys c → FindsLosses a (xs ++ ys) c
-finds_more a b c xs ys h k members before after o found =
+finds_more a b c xs ys h k before after o found =
     subst (λ (l : List Row). HasFound l c) (append_assoc before xs ys)
-    (k members (before ++ xs) after (subst (IsOrderly members) (front_last before xs ys after) o)
-    (h members before (ys ++ after) (subst (IsOrderly members) (front_first before xs ys after) o) found))
+    (k (before ++ xs) after (subst LoseInTurn (front_last before xs ys after) o)
+    (h before (ys ++ after) (subst LoseInTurn (front_first before xs ys after) o) found))

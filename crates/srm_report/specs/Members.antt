@@ -1,7 +1,7 @@
 -- The table of members: of each, what its rows say.
 use Rattle.std.specs.Prelude.{ℕ, ◌+◌, ◌-◌, List, [], ◌∷◌, length, codes, decimal}
 use Rattle.std.specs.List.{count_by, sum_by}
-use Rattle.srm_model.specs.Schedules.{rows_of_member}
+use Rattle.srm_member.specs.ByMember.{rows_of_member}
 use Rattle.srm_net.specs.declared.role.Role.{Role}
 use Rattle.srm_net.specs.declared.role.Role.TheVariants.{Sender, Receiver, Late, Listener}
 use Rattle.srm_scenario.specs.declared.parts.MemberSpec.{MemberSpec}

@@ -1,8 +1,7 @@
 //! What became of losses, row by row.
-ghost use Rattle.std.specs.Prelude.{◌≡◌, ◌++◌, ◌∷◌, [], ℕ, List, OnOk};
+ghost use Rattle.std.specs.Prelude.{◌≡◌, ◌++◌, ◌∷◌, [], List, OnOk};
 ghost use Rattle.srm_member.specs.declared.row.Row.{Row as R};
-ghost use Rattle.srm_member.specs.Orderly.{IsOrderly};
-ghost use Rattle.srm_report.specs.Courses.{TellLosses, after_fix, losing, name_fixed};
+ghost use Rattle.srm_report.specs.Courses.{TellLosses, LoseInTurn, after_fix, losing, name_fixed};
 
 use crate::by_loss::ByLoss;
 use crate::course::Course;
@@ -14,7 +13,7 @@ use std::alloc::AllocError;
 
 // Takes in the losses of one more row, and what it says became of earlier ones.
 pub(crate) fn note(losses: &mut ByLoss<Course>, row: &Row) -> Result<(), AllocError>
-    ensures { (members : ℕ) (rows after : List R) → IsOrderly members (rows ++ row.now ∷ after)
+    ensures { (rows after : List R) → LoseInTurn (rows ++ row.now ∷ after)
         → TellLosses rows losses.old → OnOk result (TellLosses (rows ++ row.now ∷ []) losses.new) }
 {
     detect(losses, row)?;
@@ -30,7 +29,7 @@ pub(crate) fn note(losses: &mut ByLoss<Course>, row: &Row) -> Result<(), AllocEr
 
 // Takes in the losses of a row.
 fn detect(losses: &mut ByLoss<Course>, row: &Row) -> Result<(), AllocError>
-    ensures { (members : ℕ) (rows after : List R) → IsOrderly members (rows ++ row.now ∷ after)
+    ensures { (rows after : List R) → LoseInTurn (rows ++ row.now ∷ after)
         → TellLosses rows losses.old → OnOk result (TellLosses (rows ++ losing row.now row.now.lost ∷ []) losses.new) }
 {
     let member = row.key.member;

@@ -296,8 +296,6 @@ impl<'a, L: Listing, O: Outlet> RowSink for ListingSink<'a, L, O> {
 
     ghost same = { AreOverOne };
 
-    ghost handed = { λ _ _ _. Unit {0} };
-
     ghost took = { PutsRows O.taken L.form };
 
     ghost part = { PutsPart O.taken L.form };
@@ -305,10 +303,6 @@ impl<'a, L: Listing, O: Outlet> RowSink for ListingSink<'a, L, O> {
     ghost same_self = { one_self };
 
     ghost same_more = { over_one_more };
-
-    ghost handed_none = { λ a. tt };
-
-    ghost handed_more = { λ a b c xs ys p q. tt };
 
     ghost took_none = { rows_none O.taken L.form };
 

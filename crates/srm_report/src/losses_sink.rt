@@ -73,8 +73,6 @@ impl RowSink for LossesSink {
 
     ghost same = { λ _ _. Unit {0} };
 
-    ghost handed = { λ _ _ _. Unit {0} };
-
     ghost took = { FindsLosses };
 
     ghost part = { λ _ _ _. Unit {0} };
@@ -82,10 +80,6 @@ impl RowSink for LossesSink {
     ghost same_self = { λ a. tt };
 
     ghost same_more = { λ a b c p q. tt };
-
-    ghost handed_none = { λ a. tt };
-
-    ghost handed_more = { λ a b c xs ys p q. tt };
 
     ghost took_none = { finds_none };
 
@@ -117,5 +111,10 @@ impl RowSink for LossesSink {
                 Err(fault)
             }
         }
+    }
+
+    // A loss, and what became of it, stand in rows of one member.
+    fn takes_members_apart(&self) -> bool {
+        true
     }
 }

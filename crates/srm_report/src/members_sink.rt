@@ -104,8 +104,6 @@ impl RowSink for MembersSink {
 
     ghost same = { λ _ _. Unit {0} };
 
-    ghost handed = { λ _ _ _. Unit {0} };
-
     ghost took = { CountsRows };
 
     ghost part = { λ _ _ _. Unit {0} };
@@ -113,10 +111,6 @@ impl RowSink for MembersSink {
     ghost same_self = { λ a. tt };
 
     ghost same_more = { λ a b c p q. tt };
-
-    ghost handed_none = { λ a. tt };
-
-    ghost handed_more = { λ a b c xs ys p q. tt };
 
     ghost took_none = { counts_none };
 
@@ -149,5 +143,10 @@ impl RowSink for MembersSink {
                 Err(fault)
             }
         }
+    }
+
+    // A member's counts are of its own rows.
+    fn takes_members_apart(&self) -> bool {
+        true
     }
 }

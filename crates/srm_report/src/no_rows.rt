@@ -36,8 +36,6 @@ impl RowSink for NoRows {
 
     ghost same = { λ _ _. Unit {0} };
 
-    ghost handed = { λ _ _ _. Unit {0} };
-
     ghost took = { λ _ _ _. Unit {0} };
 
     ghost part = { λ _ _ _. Unit {0} };
@@ -45,10 +43,6 @@ impl RowSink for NoRows {
     ghost same_self = { λ a. tt };
 
     ghost same_more = { λ a b c p q. tt };
-
-    ghost handed_none = { λ a. tt };
-
-    ghost handed_more = { λ a b c xs ys p q. tt };
 
     ghost took_none = { λ a. tt };
 
@@ -70,7 +64,7 @@ impl RowSink for NoRows {
     }
 
     // Of a sink that keeps nothing any rows may be said to be taken, so this is true of it.
-    fn takes_any_order(&self) -> bool {
+    fn takes_members_apart(&self) -> bool {
         true
     }
 }

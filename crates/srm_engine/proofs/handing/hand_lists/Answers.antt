@@ -11,13 +11,13 @@ returns-in-Ok-clause-rows g c =
     let lists = lists_in c.args.lists in
     let rows = ordered row_cmp (joined lists) in
     let merge = some_merge lists in
-    let free = c.takes_any_order.ensures c.if-takes_any_order.true in
-    (rows, merge, (free c.args.sink.now c.hand_each.new.sink (joined lists) rows merge.all).0 c.in-Ok.ensures.rows)
+    let free = c.takes_members_apart.ensures c.if-takes_members_apart.true in
+    (rows, merge, (free c.args.sink.now c.hand_each.new.sink (joined lists) rows (c.requires.alike rows merge)).0 c.in-Ok.ensures.rows)
 
 pub returns-in-Err-clause-rows : goal.returns-in-Err-clause-rows
 returns-in-Err-clause-rows g c =
     let lists = lists_in c.args.lists in
     let rows = ordered row_cmp (joined lists) in
     let merge = some_merge lists in
-    let free = c.takes_any_order.ensures c.if-takes_any_order.true in
-    (rows, merge, (free c.args.sink.now c.hand_each.new.sink (joined lists) rows merge.all).1 c.in-Err.ensures.rows)
+    let free = c.takes_members_apart.ensures c.if-takes_members_apart.true in
+    (rows, merge, (free c.args.sink.now c.hand_each.new.sink (joined lists) rows (c.requires.alike rows merge)).1 c.in-Err.ensures.rows)

@@ -1,4 +1,4 @@
-use Rattle.std.proofs.Common.{inr, refl}
+use Rattle.std.proofs.Common.{refl}
 use Rattle.srm_cell.specs.Crossings.{packets_of}
 use Rattle.srm_cell.specs.Setting.{setting_of}
 use Rattle.srm_engine.proofs.ExitsKept.{all_end}
@@ -40,6 +40,3 @@ returns-in-Ok-finish_cells-clause-stream g c = λ seed h.
       },
       t.2,
     )
-
-pub returns-clause-pieces : goal.returns-clause-pieces
-returns-clause-pieces g c = inr c.in-Ok.ensures.pieces

@@ -1,4 +1,4 @@
-use Rattle.std.proofs.Common.{◌≡◌, ◌∙◌, List, inl, inr, refl, sym, subst}
+use Rattle.std.proofs.Common.{◌≡◌, ◌∙◌, List, sym, subst}
 use Rattle.srm_member.specs.declared.row.Row.{Row}
 use Rattle.srm_cell.specs.Setting.{Setting, setting_of}
 use Rattle.srm_model.specs.World.{opening, IsReached, IsLast}
@@ -24,9 +24,6 @@ pub returns-in-Err-clause-undone : goal.returns-in-Err-clause-undone
 returns-in-Err-clause-undone g c = λ seed h.
     let s = setting_of c.args.start.scenario.now c.args.start.net.now seed in
     uncalled g.S.RowSink.took g.S.RowSink.part g.S.RowSink.stage (MayLackSteps s) s c.args.sink.now _
-
-pub returns-in-Err-clause-pieces : goal.returns-in-Err-clause-pieces
-returns-in-Err-clause-pieces g c = inl refl
 
 pub returns-in-Err-stream-clause-last : goal.returns-in-Err-stream-clause-last
 returns-in-Err-stream-clause-last g c = λ seed h.
@@ -62,9 +59,6 @@ returns-in-Err-stream-clause-undone g c = λ seed h.
     c.args.sink.now c.in-Err-stream.halt c.stream.new.sink (c.in-Err-stream.ensures.rows seed (c.in-Ok.ensures.opened seed h))
     c.in-Err-stream.ensures.stage))
 
-pub returns-in-Err-stream-clause-pieces : goal.returns-in-Err-stream-clause-pieces
-returns-in-Err-stream-clause-pieces g c = inr c.in-Err-stream.ensures.pieces
-
 pub returns-clause-given : goal.returns-clause-given
 returns-clause-given g c =
     let same = c.in_default.ensures.same in
@@ -77,6 +71,3 @@ returns-clause-last g c = λ seed h.
     λ k. setting_of (given.0 k) (given.1 k) seed in
     let t = c.in_default.ensures.rows seed (c.in-Ok.ensures.opened seed h) in
     (t.0, subst (λ (x : Setting). IsLast x t.0) here t.1, t.2, t.3)
-
-pub returns-clause-pieces : goal.returns-clause-pieces
-returns-clause-pieces g c = c.in_default.ensures.pieces

@@ -1,12 +1,10 @@
-use Rattle.std.proofs.Common.{◌≡◌, ◌<◌, ◌≤◌, List, [], Ok, inr, refl, sym, ◌∙◌, ap, subst, add-zero, length, length-append, arith}
-use Rattle.std.proofs.lemmas.List.Elements.{All-nil}
+use Rattle.std.proofs.Common.{◌≡◌, ◌<◌, List, Ok, inr, refl, sym, ◌∙◌, ap, subst, add-zero, length, length-append, arith}
 use Rattle.srm_member.specs.declared.row.Row.{Row}
 use Rattle.srm_cell.specs.Setting.{Setting, setting_of}
 use Rattle.srm_model.specs.World.{opening, IsReached}
 use Rattle.srm_engine.specs.Engines.{setting_in}
 use Rattle.srm_interfaces.specs.Sinks.{most_rows}
 use Rattle.srm_engine.specs.Streams.{TellsSteps, MayStop}
-use Rattle.srm_engine.proofs.StreamLemmas.{piece_more}
 use Rattle.srm_engine.proofs.Stepping.{opening_reached, opening_trace}
 use Rattle.srm_engine.proofs.engine.Engine.stream.Goals as goal
 
@@ -25,7 +23,6 @@ loop-left-init g c = record {
   device = c.in_default.ensures.same;
   live = c.in_default.ensures.stage;
   unfailed = c.in_default.ensures.failures ∙ add-zero _;
-  pieces = ([], All-nil (λ (l : List Row). length l ≤ most_rows), c.in_default.ensures.handed);
   rows = λ seed h.
       let s = setting_in c.args.self.now seed in
       let none = ap length (opening_trace s) in (
@@ -92,10 +89,6 @@ returns-then-is_last-clause-rows g c = λ seed h.
       t.3,
     )
 
-pub returns-then-is_last-clause-pieces : goal.returns-then-is_last-clause-pieces
-returns-then-is_last-clause-pieces g c = piece_more g.S.RowSink.handed g.met.S.RowSink.handed_more c.args.sink.now c.loop-left.sink
-    c.rows.new.self c.in-Ok.rows.items c.loop-left.invariant.pieces c.in-Ok.ensures.few c.in_default-rows.ensures.handed
-
 pub loop-left-preserved : goal.loop-left-preserved
 loop-left-preserved g c =
     let is = c.loop-left.invariant.same in
@@ -105,8 +98,6 @@ loop-left-preserved g c =
           c.in_default-rows.ensures.same;
       live = c.in_default-rows.ensures.stage;
       unfailed = c.in_default-rows.ensures.failures ∙ add-zero _ ∙ c.loop-left.invariant.unfailed;
-      pieces = piece_more g.S.RowSink.handed g.met.S.RowSink.handed_more c.args.sink.now c.loop-left.sink c.rows.new.self
-          c.in-Ok.rows.items c.loop-left.invariant.pieces c.in-Ok.ensures.few c.in_default-rows.ensures.handed;
       rows = λ seed h.
           let s = setting_in c.args.self.now seed in
           let i = c.loop-left.invariant.rows seed h in
@@ -133,10 +124,3 @@ returns-clause-rows g c = λ seed h.
     let none = c.loop-left-test.false in
     let all = i.4 in
     (i.0, i.1, i.2, inr (omega arith))
-
-pub returns-in-Err-clause-pieces : goal.returns-in-Err-clause-pieces
-returns-in-Err-clause-pieces g c = ([], All-nil (λ (l : List Row). length l ≤ most_rows), c.in-Err.ensures.handed)
-
-pub returns-in-Err-rows-clause-pieces : goal.returns-in-Err-rows-clause-pieces
-returns-in-Err-rows-clause-pieces g c = piece_more g.S.RowSink.handed g.met.S.RowSink.handed_more c.args.sink.now c.loop-left.sink
-    c.rows.new.self c.in-Ok.rows.items c.loop-left.invariant.pieces c.in-Ok.ensures.few c.in-Err-rows.ensures.handed

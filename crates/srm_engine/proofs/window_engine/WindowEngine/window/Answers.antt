@@ -5,12 +5,13 @@ use Rattle.srm_model.specs.WindowRuns.{cells_in, jobs_of}
 use Rattle.srm_model.proofs.OneWindow.{some_merge}
 use Rattle.srm_net.specs.Orders.{ordered}
 use Rattle.srm_member.specs.declared.row.Row.{Row}
+use Rattle.srm_member.specs.ByMember.{AreAlike}
 use Rattle.std.specs.Global.{Vec}
 use Rattle.srm_engine.specs.Groups.{all_in, sizes, lists_of, some_of, AreCuts, AreGrouped, AreKept}
 use Rattle.srm_engine.specs.WindowEngines.{setting_by, lists_in}
 use Rattle.srm_engine.proofs.SoonGroups.{as_many_kept}
 use Rattle.srm_engine.proofs.WindowLemmas.{jobs_tell, jobs_tell_now, mapped, ran_now, of_a_window, map_refused, end_is}
-use Rattle.srm_engine.proofs.WindowLemmas.{heard_in_order, heard_as, after, one_more, counted_after, later}
+use Rattle.srm_engine.proofs.WindowLemmas.{heard_in_order, heard_as, after, one_more, counted_after, later, stand_alike}
 use Rattle.srm_engine.proofs.window_engine.WindowEngine.window.Goals as goal
 
 pub map-requires-clause-jobs : goal.map-requires-clause-jobs
@@ -94,6 +95,17 @@ returns-clause-sorted g c =
     let ran = ran_now g.M.Participant.plain c.args.self c.requires.stands c.end-end.result
     c.end-end.ensures c.in_ok-jobs.jobs.items c.in_ok-jobs.ensures c.in-Ok.done c.in-Ok.ensures.done in
     subst (All (IsSorted row_cmp)) (sym (c.in_ok-groups.ensures.lists ∙ ap some_of ran.rows)) ran.sorted
+
+pub returns-clause-alike : goal.returns-clause-alike
+returns-clause-alike g c = λ rows merge.
+    let k = c.requires.stands in
+    let ran = ran_now g.M.Participant.plain c.args.self c.requires.stands c.end-end.result
+    c.end-end.ensures c.in_ok-jobs.jobs.items c.in_ok-jobs.ensures c.in-Ok.done c.in-Ok.ensures.done in
+    let merged = subst (λ l. IsPermutation (joined l) rows × IsSorted row_cmp rows) c.in_ok-groups.ensures.lists
+    (merge.all, merge.in_order) in
+    subst (λ l. AreAlike (joined l) rows) (sym c.in_ok-groups.ensures.lists)
+    (stand_alike g.M.Participant.plain c.args.self k k.seed k.begins k.world k.comes c.end-end.result c.end-end.ensures
+    c.in-Ok.done.0.items ran rows merged)
 
 pub returns-clause-window : goal.returns-clause-window
 returns-clause-window g c = λ seed begins w comes.

@@ -2,7 +2,7 @@ use Rattle.std.proofs.Common.{◌≡◌, ◌∙◌, ◌<◌, length, ap, sym, su
 use Rattle.std.proofs.Common.{append_assoc}
 use Rattle.std.proofs.Math.Seq.{take-length}
 use Rattle.std.proofs.lemmas.List.{take_more}
-use Rattle.srm_member.specs.Orderly.{IsOrderly}
+use Rattle.srm_report.specs.Courses.{LoseInTurn}
 use Rattle.srm_report.specs.LossesSinks.{FindsLosses, finds_more}
 use Rattle.srm_report.proofs.losses_sink.LossesSink.take.Goals as goal
 
@@ -15,7 +15,7 @@ loop-row-preserved c =
     let one = take_more rows i r lt ∙ ap (λ q. take i rows ++ q ∷ []) (sym c.row-item.is) in
     let after = record c.loop-row.self { losses = c.note.new.losses } in
     let next : FindsLosses c.loop-row.self (r ∷ []) after =
-    λ members before rest o. c.in_ok-note.ensures members before rest (subst (IsOrderly members) (append_assoc before (r ∷ []) rest) o) in
+    λ before rest o. c.in_ok-note.ensures before rest (subst LoseInTurn (append_assoc before (r ∷ []) rest) o) in
     subst (λ l. FindsLosses c.args.self.now l after) (sym one)
     (finds_more c.args.self.now c.loop-row.self after (take i rows) (r ∷ []) c.loop-row.invariant next)
 
