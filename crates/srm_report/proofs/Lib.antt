@@ -9,5 +9,6 @@ pub mod ListingLemmas
 pub mod LossLemmas
 pub mod MemberLemmas
 pub mod PieceLemmas
+pub mod SeedLemmas
 pub mod SinkLemmas
 pub mod TableLemmas

@@ -19,17 +19,10 @@ use Rattle.srm_report.specs.Lines.{line_text, line_written}
 use Rattle.srm_report.specs.Losses.{delay_text, ratio}
 use Rattle.srm_report.specs.Members.{role_word}
 use Rattle.srm_report.specs.Rows.{time_text}
+pub use Rattle.srm_report.specs.Seeds.{IsPlain, ArePlain}
 use Rattle.srm_report.specs.Trace.{cause_word, name_text, packet_text, ref_text, sent_text, told_word}
 
 -- ---- lines
-
--- no byte of the field calls for quotes
-abbrev pub IsPlain : List ℕ → Type 0
-IsPlain field = needs_quotes default_writer field ≡ false
-
-abbrev pub ArePlain : List (List ℕ) → Type 0
-ArePlain [] = Unit {0}
-ArePlain (f ∷ fs) = IsPlain f × ArePlain fs
 
 -- each field after a comma, and a line feed
 abbrev pub after_commas : List (List ℕ) → List ℕ
@@ -44,7 +37,8 @@ fields_joined (f ∷ fs) h =
     ap (λ b. comma ∷ ((if b then quoted default_writer f else f) ++ fields_text default_writer fs ++ line_feed ∷ [])) h.0
     ∙ ap (λ l. comma ∷ l) (append_assoc f (fields_text default_writer fs) (line_feed ∷ []) ∙ ap (λ l. f ++ l) (fields_joined fs h.1))
 
-row_joined : (f g : List ℕ) (fs : List (List ℕ)) → ArePlain (f ∷ g ∷ fs) → row_text default_writer (f ∷ g ∷ fs) ≡ f ++ after_commas (g ∷ fs)
+pub row_joined : (f g : List ℕ) (fs : List (List ℕ)) → ArePlain (f ∷ g ∷ fs)
+    → row_text default_writer (f ∷ g ∷ fs) ≡ f ++ after_commas (g ∷ fs)
 unfolding is_blank
 row_joined f g fs h = grind (arith, append_assoc, fields_joined)
 

@@ -1,8 +1,9 @@
 -- Rows and texts in pieces.
 use Rattle.std.proofs.Common.{arith}
-use Rattle.std.proofs.Common.{◌≡◌, ◌∙◌, ℕ, ◌<◌, ◌+◌, List, [], ◌∷◌, ◌++◌, length, get_or, take, drop, map, Option, Result, Ok, IfOk}
-use Rattle.std.proofs.Common.{refl, ap, sym, append-nil, append_assoc, take-append-drop, length-append}
+use Rattle.std.proofs.Common.{◌≡◌, ◌∙◌, ℕ, ◌<◌, ◌+◌, ◌-◌, List, [], ◌∷◌, ◌++◌, length, get_or, take, drop, map, Option, Result, Ok, IfOk}
+use Rattle.std.proofs.Common.{refl, ap, sym, append-nil, append_assoc, take-append-drop, length-append, length-drop}
 use Rattle.std.proofs.KnownBytes.{Appends-trans}
+use Rattle.std.proofs.Math.Seq.{take-length}
 use Rattle.std.proofs.lemmas.List.{take_more, reverse-append}
 use Rattle.std.proofs.lemmas.Grind.{flat_map-append}
 use Rattle.std.specs.Global.{Vec}
@@ -15,6 +16,10 @@ use Rattle.srm_report.specs.Listings.{Form, lines_in}
 use Rattle.srm_report.specs.Pieces.{joined_pieces}
 use Rattle.srm_report.specs.SinkLaws.{more_lines}
 use Rattle.srm_report.specs.Standings.{GrewBy}
+
+-- what stands from a place on, cut at its own length
+pub drop-whole : (at : ℕ) (text : List ℕ) → take (length text - at) (drop at text) ≡ drop at text
+drop-whole at text = rw (← length-drop at text) (take-length (drop at text))
 
 module _ {A : Type 0} where
   joined-append : (ps qs : List (Vec A)) → joined_pieces (ps ++ qs) ≡ joined_pieces ps ++ joined_pieces qs

@@ -10,7 +10,8 @@ pub table_first : (columns : List (List ℕ)) (text : List ℕ) → text ≡ row
 unfolding table_lines lines_of
 table_first columns text e = e ∙ sym (append-nil (row_text default_writer columns))
 
-lines_more : (rows : List (List (List ℕ))) (r : List (List ℕ)) → lines_of (rows ++ r ∷ []) ≡ lines_of rows ++ row_text default_writer r
+-- the lines of one row more
+pub lines_more : (rows : List (List (List ℕ))) (r : List (List ℕ)) → lines_of (rows ++ r ∷ []) ≡ lines_of rows ++ row_text default_writer r
 unfolding lines_of
 lines_more rows r = grind (arith, flat_map-append, append-nil)
 

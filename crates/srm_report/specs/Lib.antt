@@ -12,6 +12,7 @@ pub mod MembersSinks
 pub mod NoRows
 pub mod Pieces
 pub mod Rows
+pub mod Seeds
 pub mod Standings
 pub mod Tables
 pub mod Texts

@@ -24,6 +24,14 @@ abbrev pub timers_fields : Row → Intervals → List (List ℕ)
 timers_fields r i =
     decimal r.key.time ∷ decimal r.key.member ∷ cause_word r.cause ∷ ref_text r.about ∷ interval_fields i
 
+-- the row of the table for a row of the trace, which has one where it tells of intervals
+abbrev pub timers_rows_by : Row → Option Intervals → List (List (List ℕ))
+timers_rows_by r None = []
+timers_rows_by r (Some i) = timers_fields r i ∷ []
+
+abbrev pub timers_rows : Row → List (List (List ℕ))
+timers_rows r = timers_rows_by r r.adapted
+
 -- the line of a row of the trace, which has one where it tells of intervals
 abbrev pub timers_line_by : Row → Option Intervals → List ℕ
 timers_line_by r None = []

@@ -22,6 +22,7 @@ pub mod members_sink;
 pub mod no_rows;
 pub mod outlet;
 mod parts;
+pub mod seeds;
 mod standing;
 pub mod team_listing;
 pub mod text;

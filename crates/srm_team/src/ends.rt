@@ -1,14 +1,16 @@
 //! The leader's ends of the channels, and the history.
-ghost use Rattle.std.specs.Prelude.{◌≡◌, ◌<◌, ◌≤◌, ◌+◌, ◌^◌, Some, length, slice_get, map, All, IfOk, IfErr};
+ghost use Rattle.std.specs.Prelude.{◌≡◌, ◌<◌, ◌≤◌, ◌+◌, ◌^◌, [], Some, length, slice_get, map, All, IfOk, IfErr};
 ghost use Rattle.std.specs.List.{AllZip};
 ghost use Rattle.srm_team.specs.Tells.{IsMidway, Filled, AllNone};
 
 use crate::answer::Answer;
 use crate::batch::Batch;
+use crate::bench::Bench;
 use crate::book::Book;
 use crate::fault::TeamFault;
 use crate::front::Front;
 use crate::naming::Naming;
+use crate::opened::Opened;
 use crate::order::Order;
 use crate::receiving::receive;
 use crate::work::Work;
@@ -83,8 +85,34 @@ fn keep<W: Work<T, D> + Copy, T: Drop, D: Drop, J: Naming>(
 }
 
 impl<W: Work<T, D> + Copy, T: Drop, D: Drop, J: Naming> Ends<W, T, D, J> {
-    // Sends each item of a list, in order.
-    fn send_all<R: Wait>(
+    /// The leader's ends of channels with room for so many items, and the bench with the workers' ends.
+    pub(crate) fn open(
+        alloc: Global,
+        opened: Opened<W, T>,
+        room: usize,
+    ) -> Result<(Ends<W, T, D, J>, Bench<W, T, D, J>), AllocError>
+        requires { opened ≡ J.book }
+        ensures { IfOk result (λ r. r.0.front ≡ []) }
+    {
+        let (book, front) = opened.named::<J>();
+        let (to_workers, orders) = crossbeam_channel::bounded(alloc, room)?;
+        let (from_workers, answers) = crossbeam_channel::bounded(alloc, room)?;
+        let bench = Bench {
+            orders: orders.clone()?,
+            answers: from_workers,
+        };
+        let ends = Ends {
+            book,
+            front,
+            to_workers,
+            orders,
+            answers,
+        };
+        Ok((ends, bench))
+    }
+
+    /// Sends each item of a list, in order.
+    pub(crate) fn send_all<R: Wait>(
         &self,
         rt: &R,
         number: u64,
@@ -108,9 +136,9 @@ impl<W: Work<T, D> + Copy, T: Drop, D: Drop, J: Naming> Ends<W, T, D, J> {
         Ok(())
     }
 
-    // The next answer. The leader works on orders that nobody has taken.
-    fn next<R: Wait>(&self, rt: &R) -> Result<Answer<W, T, D, J>, TeamFault>
-        ensures { IfErr result IsMidway }
+    /// The next answer. The leader works on orders that nobody has taken.
+    pub(crate) fn next<R: Wait>(&self, rt: &R) -> Result<Answer<W, T, D, J>, TeamFault>
+        ensures { IfErr result (λ e. e ≡ TeamFault.Left) }
     {
         if let Ok(order) = self.orders.try_recv(rt) {
             return Ok(order.carry_out());

@@ -28,5 +28,6 @@ pub mod naming;
 pub mod opened;
 pub mod order;
 mod receiving;
+pub mod relay;
 pub mod team;
 pub mod work;

@@ -49,20 +49,7 @@ pub fn open_team<W: Work<T, D> + Copy, T: Drop, D: Drop, J: Naming>(
     requires { opened ≡ J.book }
     ensures { IfOk result (λ r. (r.0.room ≡ room) × (r.0.lists ≡ 0)) }
 {
-    let (book, front) = opened.named::<J>();
-    let (to_workers, orders) = crossbeam_channel::bounded(alloc, room)?;
-    let (from_workers, answers) = crossbeam_channel::bounded(alloc, room)?;
-    let bench = Bench {
-        orders: orders.clone()?,
-        answers: from_workers,
-    };
-    let ends = Ends {
-        book,
-        front,
-        to_workers,
-        orders,
-        answers,
-    };
+    let (ends, bench) = Ends::open(alloc, opened, room)?;
     Ok((
         Team {
             ends,

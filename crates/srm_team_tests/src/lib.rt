@@ -1,7 +1,9 @@
-//! Tests of teams: what no clause says of them.
+//! Tests of teams and relays: what no clause says of them.
 #![tactic(auto)]
 
 #[cfg(test)]
 mod adding;
+#[cfg(test)]
+mod relay_tests;
 #[cfg(test)]
 mod team_tests;

@@ -1,11 +1,8 @@
-use Rattle.std.proofs.Common.{◌≡◌, ◌∙◌, ℕ, ◌-◌, List, length, take, drop, arith, length-drop}
-use Rattle.std.proofs.Math.Seq.{take-add, take-length}
+use Rattle.std.proofs.Common.{◌∙◌, take, drop, arith, length-drop}
+use Rattle.std.proofs.Math.Seq.{take-add}
 use Rattle.std.proofs.KnownBytes.{Appends-trans}
+use Rattle.srm_report.proofs.PieceLemmas.{drop-whole}
 use Rattle.srm_report.proofs.writing.write_out.Goals as goal
-
--- what stands from a place on, cut at its own length
-drop-whole : (at : ℕ) (text : List ℕ) → take (length text - at) (drop at text) ≡ drop at text
-drop-whole at text = rw (← length-drop at text) (take-length (drop at text))
 
 -- what was taken before, and the front of the rest
 pub loop-written-preserved : goal.loop-written-preserved
