@@ -55,7 +55,6 @@ def root(packed, tmp_path_factory):
     def run(*words, **more):
         return call("chroot", place, *words, env=clean, **more)
 
-    (place / "etc/dpkg/dpkg.cfg.d/quick").write_text("force-unsafe-io\n")
     (place / "try").mkdir()
     for path in [*packed.glob("*.deb"), *packed.glob("*.whl")]:
         shutil.copy(path, place / "try")
