@@ -6,7 +6,6 @@ TEST_PROGRAMS := $(foreach crate,$(filter %_tests,$(CRATES)),crates/$(crate)/out
 PREFIX ?= /usr/local
 SCENARIO ?= examples/two-nodes.toml
 ARGUMENTS ?=
-EXPLAIN = $(if $(filter --explain,$(ARGUMENTS)),,--explain)
 TRIED ?= out/try
 CRATE ?=
 BENCH ?=
@@ -56,9 +55,7 @@ clean: ## removes what was built, and every proof that was kept
 	rm -rf out crates/*/out
 
 help: ## lists these targets
-	@sed -n 's/^\([a-z0-9-]*\):[^#]*## \(.*\)/\1 \2/p' $(MAKEFILE_LIST) | awk '{ line = sprintf("make %-19s", $$1); \
-		for (i = 2; i <= NF; i++) { if (length(line $$i) > 98) { print line; line = sprintf("%24s", "") } line = line " " $$i } \
-		print line }'
+	@$(HELP)
 
 install: $(PROGRAM) ## copies the program to PREFIX/bin, by default /usr/local/bin
 	install -D -m 755 $(PROGRAM) $(DESTDIR)$(PREFIX)/bin/srm_lab
