@@ -162,3 +162,5 @@ def test_contrast_of_texts_and_marks(block):
     assert contrast(of["onaccent"], of["accent"]) >= 4.5
     for mark in ("data", "request", "repair", "session", "lost", "lacks", "node", "edge"):
         assert contrast(of[mark], of["paper"]) >= 3, mark
+    for mark in ("repair", "lacks", "edge"):
+        assert contrast(of[mark], of["select"]) >= 3, f"{mark} on a halo"

@@ -510,7 +510,7 @@ def test_a_view_is_saved_as_a_picture(browser, make_page, saved, sized, name, mo
         assert all(not value.startswith("url(") or value.startswith("url(#") for value in element.attrib.values())
     assert root[2].get("fill") == paper
     assert set(words) <= {element.text for element in root.iter() if element.tag.endswith("}text")}
-    width, height = int(root.get("width")), int(root.get("height"))
+    width, height = int(root.attrib["width"]), int(root.attrib["height"])
     sized(width, height, 2)
     browser.get(svg.as_uri())
     drawn = base64.b64decode(browser.execute_cdp_cmd("Page.captureScreenshot", {"format": "png"})["data"])

@@ -4,7 +4,8 @@ const MOST_IN_A_LINE = 14;
 const MOST_LAYERED_LEAVES = 36;
 const MOST_ON_A_RING = 160;
 const INNERMOST_RING = 0.3;
-const MOVES_APART = 40;
+const MOST_MOVED_APART = 5000;
+const MOVES_APART = 10;
 // how much of a layer's distance from the root goes by the nodes up to it, the rest by its depth
 const SHARE_BY_NODES = 0.5;
 // how far apart nodes are at least, as a part of the distance at which they would fill the disc
@@ -74,7 +75,7 @@ class Layout {
     const separation = (one, other) => (one.parent === other.parent ? 1 : 1.6) / Math.max(1, one.depth);
     d3.tree().size([2 * Math.PI, 1]).separation(separation)(hierarchy);
     this._layers(hierarchy);
-    this._moveApart();
+    if (network.nodes <= MOST_MOVED_APART) this._moveApart();
   }
 
   /** Moves nodes apart that stand too close to be told apart. */

@@ -143,7 +143,7 @@ function drawSmallMember(context, theme, role, state, x, y, r) {
 
 function smallStyle(theme, state) {
   switch (STATES[state]) {
-    case "holds": return { fill: theme.node, ring: theme.node, width: 0.5 };
+    case "holds": return { fill: theme.edge, ring: theme.edge, width: 0.5 };
     case "plans": return { fill: theme.repair, ring: theme.repair, width: 1 };
     case "rests": return { fill: theme.paper, ring: theme.repair, width: 1.2 };
     case "lacks": return { fill: theme.lacks, ring: theme.lacks, width: 1 };

@@ -258,12 +258,18 @@ class NetworkView {
   }
 
   _halos(context) {
+    this._discs(context, this.theme.accent, this.radius + 4.5);
+    this._discs(context, this.theme.select, this.radius + 3.5);
+  }
+
+  /** Fills discs around the picked members. */
+  _discs(context, colour, r) {
     context.beginPath();
     for (const member of this.picked) {
       const { node } = this.network.members[member];
-      outline(context, "circle", this.x[node], this.y[node], this.radius + 4);
+      outline(context, "circle", this.x[node], this.y[node], r);
     }
-    context.fillStyle = this.theme.halo;
+    context.fillStyle = colour;
     context.fill();
   }
 

@@ -1,7 +1,7 @@
 // Dark or light, and the colours for canvases.
 
 const COLOURS = ["paper", "panel", "ink", "soft", "line", "faint", "accent", "data", "request", "repair", "session",
-  "cross", "lost", "node", "halo", "holds", "plans", "rests", "lacks", "asked"];
+  "cross", "lost", "node", "edge", "select", "holds", "plans", "rests", "lacks", "asked"];
 const TEXT_FONT = "system-ui, 'DejaVu Sans', 'Liberation Sans', sans-serif";
 
 /** The theme: the reader's choice, or else that of the system; print is always light. */
