@@ -180,7 +180,7 @@ class Scenario:
         return writing.text_of(self.check())
 
     def digest(self) -> str:
-        """The SHA-256 of the scenario file without its comments in front: what tells scenarios apart."""
+        """The SHA-256 of the scenario file, but for `comments`: what tells scenarios apart."""
         return hashlib.sha256(replace(self, comments=()).text().encode()).hexdigest()
 
     def write(self, path: str | Path) -> Path:
