@@ -209,7 +209,8 @@ class Versions(unittest.TestCase):
     def faults(self, changelog: str, merged: str = "", here: str = "", at_tag: str | None = None) -> list[str]:
         """What is wrong where CHANGELOG.md says this, these tags are merged and here, and a tagged commit names this."""
         texts = {versions.PROGRAM: 'const VERSION: &str = "1.2.0";', versions.CITATION: "version: 1.2.0\n",
-                 "python/pyproject.toml": 'version = "1.2.0"\n', versions.CHANGELOG: changelog}
+                 "python/pyproject.toml": 'version = "1.2.0"\n',
+                 "python/src/srm_lab/__init__.py": '__version__ = "1.2.0"\n', versions.CHANGELOG: changelog}
 
         def git(*words: str) -> str:
             if words[0] == "show":
