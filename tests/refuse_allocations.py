@@ -6,8 +6,9 @@ usage: tests/refuse_allocations.py [--program PROGRAM SCENARIO ..] [--more PROGR
 
 --program: the simulator, on each of these scenarios with each engine, must end as it does with ample memory, or with the line
 that memory ran out on standard error, a front of the table on standard output, and status 1.
---more: the same of runs that show each of the other tables, and of runs in windows with the crews that take threads. Which
-allocation has which number differs from run to run there, so such a run may also come to none with the number that is refused.
+--more: the same of runs that show each of the other tables, of replications, and of runs in windows with the crews that take
+threads. Which allocation has which number differs from run to run there, so such a run may also come to none with the number
+that is refused.
 --explained: each refused scenario of tests/explanations.txt must be told as with ample memory, or with the line that memory ran
 out, and after the line its explanation, or what the fault is, or nothing.
 --tests: each test of a test program, or of one of its modules, must pass, whichever of its allocations is refused.
@@ -38,6 +39,10 @@ CREWS = {
     **{f"window, {crew}, 2 workers": ["--engine", "window", "--crew", crew, "--workers", "2"] for crew in ("bag", "team")},
 }
 TABLES = {table: ["--show", table] for table in ("members", "losses", "links", "timers")}
+REPLICATIONS = {
+    f"replications, {table}, {workers} workers": ["--replications", "3", "--show", table, "--workers", str(workers)]
+    for table, workers in (("trace", 1), ("losses", 1), ("trace", 3), ("losses", 3))
+}
 
 
 class Run(NamedTuple):
@@ -141,7 +146,7 @@ def main() -> None:
     runs: list[Run] = []
     with tempfile.TemporaryDirectory() as folder:
         library = Library("refuse_allocation", folder)
-        given = [(ENGINES, options.program), ({**CREWS, **TABLES}, options.more)]
+        given = [(ENGINES, options.program), ({**CREWS, **TABLES, **REPLICATIONS}, options.more)]
         for ways, (path, *scenarios) in ((ways, named) for ways, named in given if named):
             runs += each_way(library, Program(path), ways, scenarios)
         if options.explained:
