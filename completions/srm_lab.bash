@@ -7,8 +7,8 @@ _srm_lab() {
         --engine) mapfile -t COMPREPLY < <(compgen -W "step window" -- "$word") ;;
         --crew) mapfile -t COMPREPLY < <(compgen -W "plain pool bag team" -- "$word") ;;
         --width) mapfile -t COMPREPLY < <(compgen -W "least promise" -- "$word") ;;
-        --seed | --workers | --cut) ;;
-        *) mapfile -t COMPREPLY < <(compgen -W "--seed --engine --crew --workers --cut --width --show --check --explain --help --version" -- "$word") ;;
+        --seed | --replications | --workers | --cut) ;;
+        *) mapfile -t COMPREPLY < <(compgen -W "--seed --replications --engine --crew --workers --cut --width --show --check --explain --help --version" -- "$word") ;;
     esac
 }
 complete -o default -F _srm_lab srm_lab

@@ -1,8 +1,9 @@
 # fish completion of srm_lab
 complete -c srm_lab -l seed -x -d 'Seed of the random words'
+complete -c srm_lab -l replications -x -d 'How many runs, of seeds that rise by one'
 complete -c srm_lab -l engine -x -a "step\t'one event at a time' window\t'windows of time'" -d 'How the run is computed'
 complete -c srm_lab -l crew -x -a "plain\t'one thread' pool\t'a pool of threads' bag\t'workers that share a bag' team\t'workers that last for the run'" -d 'Who works in a window'
-complete -c srm_lab -l workers -x -d 'Workers of a bag or a team'
+complete -c srm_lab -l workers -x -d 'Workers of a bag, a team or replications'
 complete -c srm_lab -l cut -x -d 'Members in a job'
 complete -c srm_lab -l width -x -a "least\t'the least delay of a link' promise\t'as wide as members promise'" -d 'Width of windows in ticks'
 complete -c srm_lab -l show -x -a "trace\t'each event' members\t'each member' losses\t'each loss' links\t'each link' timers\t'each join and adapted timer'" -d 'Table to write'

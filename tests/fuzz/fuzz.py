@@ -17,6 +17,7 @@ each case this is asserted:
 - The run in windows, with a crew, workers, a cut and a width at random, and besides with a team of 1, 2, 4, 7 or 64 workers,
   gives the sequential engine's bytes; and where the cut or the width is none that the scenario allows, their refusal
   (fuzz_windows.py).
+- Replications from its seed on, some for a table and workers at random, are the single runs' tables in one.
 - With --explain a refusal has the same line, status and standard output, and lines after that line, which begin with two spaces
   where the words are not refused.
 - Each run ends within LONGEST seconds.
@@ -145,6 +146,20 @@ def check_windows(run: Run, named: set[str], case: Case, must: dict[str, End]) -
             check_explained(run, words, case.text, end)
 
 
+def check_replications(run: Run, case: Case, must: dict[str, End]) -> None:
+    """Runs an accepted case with some seeds at once, and holds the table to those of single runs."""
+    rng = random.Random(f"replications {case.seed}")
+    table, count, workers = rng.choice([*must]), rng.choice((1, 2, 5)), rng.choice((1, 2, 7, 64))
+    words = [f"--seed={case.seed}", f"--replications={count}", "--show", table, f"--workers={workers}"]
+    if case.seed + count > 2**63:
+        is_same(" ".join(words), run(words, case.text), REFUSED_LINE)
+        return
+    single = {seed: run([f"--seed={seed}", "--show", table], case.text) for seed in range(case.seed, case.seed + count)}
+    if all(end.status == 0 for end in single.values()):
+        text = fuzz_tables.replications_table({seed: end.written for seed, end in single.items()})
+        is_same(" ".join(words), run(words, case.text), End(0, text, b""))
+
+
 def check_explained(run: Run, words: list[str], text: bytes, end: End) -> None:
     """Sees that an explanation changes nothing of a refusal but what follows its line."""
     status, printed, told = run(["--explain", *words], text)
@@ -180,6 +195,8 @@ def check(run: Run, named: set[str], case: Case) -> None:
         end = run([f"--seed={case.seed}", "--show", table], case.text)
         is_in_form(table, end)
         is_same(f"--show {table}", end, must.setdefault(table, end))
+    if "replications" in named and first.status == 0:
+        check_replications(run, case, must)
     if "window" not in named:
         return
     if first.status == 0:

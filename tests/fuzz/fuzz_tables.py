@@ -2,7 +2,7 @@
 of timers are those that fuzz_replay.py finds."""
 import collections
 import re
-from collections.abc import Iterable
+from collections.abc import Iterable, Mapping
 from typing import NamedTuple
 
 from fuzz_format import Scenario
@@ -149,3 +149,10 @@ def timers_table(timers: list[tuple[Row, Timers]]) -> bytes:
     return table("timers", [
         csv(row.time, row.member, row.cause, ref_text(row), *constants, *averages) for row, (constants, averages) in timers
     ])
+
+
+def replications_table(tables: Mapping[int, bytes]) -> bytes:
+    """The one table of several runs, from the table of each seed: the header once, and each row behind its seed."""
+    header = next(iter(tables.values())).splitlines(keepends=True)[0]
+    rows = (b"%d,%s" % (seed, row) for seed, table in tables.items() for row in table.splitlines(keepends=True)[1:])
+    return b"".join([b"seed," + header, *rows])

@@ -26,6 +26,7 @@ sys.path.append(str(pathlib.Path(__file__).resolve().parent.parent / "fuzz"))
 
 import fuzz
 import fuzz_format
+import fuzz_tables
 from preloaded import Environment, Library
 from program import LONGEST, REFUSED_LINE, TOP, VERSION, End, refused
 from program_case import ProgramCase, main, narrow
@@ -278,6 +279,76 @@ class Windows(CommandLineCase):
         self.assertEqual(jobs, sorted(set(jobs), reverse=True))
 
 
+class Replications(CommandLineCase):
+    @functools.cache
+    def single(self, table: str, seed: int, text: bytes = DRAWN) -> bytes:
+        """The table of the run of one seed."""
+        return self.program.written(["--show", table, f"--seed={seed}"], text)
+
+    def table(self, table: str, first: int, count: int, text: bytes = DRAWN) -> bytes:
+        """The table of so many runs, from their own tables."""
+        return fuzz_tables.replications_table({seed: self.single(table, seed, text) for seed in range(first, first + count)})
+
+    def test_each_table_is_that_of_the_single_runs(self) -> None:
+        for table, count in itertools.product(fuzz_tables.HEADERS, (1, 2, 5, 100)):
+            wanted = End(0, self.table(table, 7, count), b"")
+            for workers in (NO_WORDS, *(["--workers", number] for number in ("1", "2", "7", "64"))):
+                words = ["--replications", str(count), "--seed", "7", "--show", table, *workers]
+                with self.subTest(words=words):
+                    self.assertEqual(self.ended(words, DRAWN)[0], wanted)
+
+    def test_a_table_without_rows_has_its_header_once(self) -> None:
+        wanted = End(0, b"seed,member,source,page,number,detected,recovered,delay\n", b"")
+        self.assertEqual(self.ended(["--replications", "3", "--show", "losses"], LONE)[0], wanted)
+
+    def test_options_of_windows_are_not_looked_at(self) -> None:
+        wanted = End(0, self.table("losses", 0, 2), b"")
+        for words in (["--cut", "0", "--width", "0"], ["--engine", "step", "--crew", "team"], ["--crew", "pool"]):
+            with self.subTest(words=words):
+                self.assertEqual(self.ended(["--replications", "2", "--show", "losses", *words], DRAWN)[0], wanted)
+
+    def test_the_last_seed_is_the_greatest(self) -> None:
+        last = 2**63 - 1
+        words = ["--show", "losses", "--replications", "3", "--seed"]
+        self.assertEqual(self.ended([*words, str(last - 2)], DRAWN)[0], End(0, self.table("losses", last - 2, 3), b""))
+        self.assertEqual(self.ended([*words, str(last - 1)], DRAWN), (REFUSED_LINE, len(DRAWN)))
+
+    def test_words_that_are_refused(self) -> None:
+        for words in (["0"], ["1000001"], ["x"], ["2.0"], ["-1"], [], ["2", "--replications", "2"], ["1", *WINDOW]):
+            with self.subTest(words=words):
+                self.assertEqual(self.ended(["--replications", *words], DRAWN), (REFUSED_LINE, len(DRAWN)))
+
+    def test_a_refused_scenario_has_no_header(self) -> None:
+        self.assertEqual(self.ended(["--replications", "2"], b"")[0], refused("bad-key top 0"))
+
+    def test_a_checked_scenario_is_not_run(self) -> None:
+        self.assertEqual(self.ended(["--replications", "2", "--check"], DRAWN)[0], End(0, b"", b""))
+
+    def test_workers_are_threads_beside_the_first(self) -> None:
+        for words, more in ((["--workers", "1"], 0), (["--workers", "2"], 1), (["--workers=7"], 6), (["--workers", "64"], 63)):
+            with self.subTest(words=words):
+                self.assertEqual(self.threads(["--replications", "2", *words]), more)
+
+    def test_there_is_a_worker_for_each_processor(self) -> None:
+        processors = os.sched_getaffinity(0)
+        self.addCleanup(os.sched_setaffinity, 0, processors)
+        for count in range(1, min(4, len(processors)) + 1):
+            with self.subTest(count=count):
+                os.sched_setaffinity(0, sorted(processors)[:count])
+                self.assertEqual(self.threads(["--replications", "2"]), count - 1)
+
+    def test_each_worker_works(self) -> None:
+        words = ["--replications", "100", "--show", "links", "--workers", "3"]
+        self.assertTrue(self.are_busy(words, star(255, 625), 3))
+
+    def test_the_threads_that_there_are_make_the_runs_of_those_that_are_refused(self) -> None:
+        wanted = End(0, self.table("losses", 0, 20), b"")
+        words = ["--replications", "20", "--show", "losses", "--workers", "4"]
+        for first in range(1, 5):
+            with self.subTest(first=first):
+                self.assertEqual(self.program.run(words, DRAWN, env=library("refuse_threads").refusing(first)), wanted)
+
+
 class Traces(CommandLineCase):
     def test_rows_are_written_before_the_run_ends(self) -> None:
         text = chain(40, 1, 1)
@@ -440,6 +511,8 @@ Usage: srm_lab [OPTIONS] < scenario.toml
 Options:
       --seed <0..=9223372036854775807>
           The seed of the members' random words [default: 0]
+      --replications <1..=1000000>
+          How many runs are made, with the seeds from --seed on: each row begins with its seed
       --show <trace|members|losses|links|timers>
           The table: a row for each event, member, loss, link or adapted timer [default: trace]
       --check
@@ -457,7 +530,7 @@ Windows (advanced: how a run is worked out, the table is the same):
       --crew <plain|pool|bag|team>
           Who works in a window: one thread, a pool of threads, workers that share a bag, or a team that lasts [default: plain]
       --workers <1..=64>
-          How many workers share the bag, or are the team, which has else one for each processor [default: 1]
+          How many workers share the bag; or are the team or make replications, else one for each processor [default: 1]
       --cut <N>
           How many members a job of a window has, 1 to 1024 [default: 1]
       --width <least|promise|N>
@@ -500,6 +573,10 @@ class Explanations(CommandLineCase):
         self.check(["--width", "Least"], "'Least'", "--width <least|promise|N>")
         self.check(["--seed", "1", "--seed", "2"], "--seed", "multiple times")
         self.check(["--seed"], "--seed", "value is required")
+        self.check(["--replications", "0"], "'0'", "1..=1000000")
+        self.check(["--replications", "2", *WINDOW], "--replications", "cannot be used with '--engine window'")
+        self.check(["--replications", "2", "--seed", str(2**63 - 1)], "--replications", "above 9223372036854775807")
+        self.check(["--replications", "2", *WINDOW, "--width", "Least"], "'Least'", "--width <least|promise|N>")
 
     def test_a_run_that_is_not_refused_is_not_explained(self) -> None:
         self.assertEqual(self.ended(["--explain"])[0], (0, TRACE, b""))

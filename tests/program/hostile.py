@@ -29,11 +29,13 @@ sys.path.append(str(pathlib.Path(__file__).resolve().parent.parent / "fuzz"))
 
 import fuzz
 import fuzz_format
+import fuzz_tables
 from program import REFUSED_LINE, TOP, End, refused
 from program_case import ProgramCase, main, narrow, pipes
 
 TEXT = (TOP / "examples" / "chain-of-five-one-loss.toml").read_bytes()
 TRACE = (TOP / "examples" / "chain-of-five-one-loss.trace.csv").read_bytes()
+DRAWN = (TOP / "examples" / "drawn-timers.toml").read_bytes()
 MEMBERS = tomllib.loads(TEXT.decode())["member"]
 ONE_MEMBER = b"""\
 version = 1
@@ -319,10 +321,20 @@ class Devices(HostileCase):
             with self.subTest(words=words):
                 self.assertEqual(self.into_file(words, len(TRACE)), (0, TRACE, b""))
 
-    def into_file(self, words: list[str], most: int) -> End:
+    def test_replications_whose_output_fails_after_each_byte(self) -> None:
+        for table, workers in (("trace", 1), ("losses", 7)):
+            single = [self.program.written(["--show", table, "--seed", seed], DRAWN) for seed in "01"]
+            text = fuzz_tables.replications_table(dict(enumerate(single)))
+            words = ["--replications", "2", "--show", table, "--workers", str(workers)]
+            for most in range(len(text)):
+                with self.subTest(words=words, most=most):
+                    self.assertEqual(self.into_file(words, most, DRAWN), (1, text[:most], refused(f"write-fault {most}")[2]))
+            self.assertEqual(self.into_file(words, len(text), DRAWN), (0, text, b""))
+
+    def into_file(self, words: list[str], most: int, text: bytes = TEXT) -> End:
         """How a run ends that writes to a file of at most so many bytes, and what was written there."""
         with tempfile.TemporaryFile() as file:
-            end = self.program.run(words, TEXT, stdout=file, **narrow(most))
+            end = self.program.run(words, text, stdout=file, **narrow(most))
             file.seek(0)
             return end._replace(written=file.read())
 

@@ -5,8 +5,8 @@ usage: tests/program/refuse_allocations.py
 
 - The simulator, on each scenario of examples/ with each engine, must end as it does with ample memory, or with the line that
   memory ran out on standard error, a front of the table on standard output, and status 1.
-- So must runs of FEW that show each of the other tables, and runs in windows with the crews that take threads. Which allocation
-  has which number differs from run to run there, so such a run may also come to none with the number that is refused.
+- So must runs of FEW that show each of the other tables, replications, and runs in windows with the crews that take threads.
+  Which allocation has which number differs from run to run there, so such a run may also come to none with that number.
 - Each refused scenario of explanations.txt must be told as with ample memory, or with the line that memory ran out, and after
   the line its explanation, or what the fault is, or nothing.
 - Each of TESTS must pass, whichever of its allocations is refused. `rt ci` builds them.
@@ -36,6 +36,10 @@ CREWS = {
     **{f"window, {crew}, 2 workers": ["--engine", "window", "--crew", crew, "--workers", "2"] for crew in ("bag", "team")},
 }
 TABLES = {table: ["--show", table] for table in ("members", "losses", "links", "timers")}
+REPLICATIONS = {
+    f"replications, {table}, {workers} workers": ["--replications", "3", "--show", table, "--workers", str(workers)]
+    for table, workers in (("trace", 1), ("losses", 1), ("trace", 3), ("losses", 3))
+}
 EXAMPLES = TOP / "examples"
 FEW = [EXAMPLES / f"{name}.toml" for name in ("two-nodes", "chain-of-five-one-loss", "star-loss-at-the-source")]
 # crates of tests, or a module of one, whose tests pass whichever allocation is refused
@@ -146,7 +150,7 @@ def main() -> None:
         library = Library("refuse_allocation", folder)
         runs = [
             *each_way(library, program, ENGINES, sorted(EXAMPLES.glob("*.toml"))),
-            *each_way(library, program, {**CREWS, **TABLES}, FEW),
+            *each_way(library, program, {**CREWS, **TABLES, **REPLICATIONS}, FEW),
             *each_explained(library, program),
             *itertools.chain.from_iterable(each_test(library, named) for named in TESTS),
         ]

@@ -1,8 +1,8 @@
 //! What the words of the command line ask for.
-ghost use Rattle.std.specs.Prelude.{◌≡◌, IfOk, IfSome, false, [], string_bytes};
+ghost use Rattle.std.specs.Prelude.{◌≡◌, ◌<◌, ◌≤◌, ◌^◌, true, false, [], Some, IfOk, IfSome, string_bytes};
 ghost use Rattle.clap.specs.Words.{kind_of};
 ghost use Rattle.srm_command_line.specs.CommandLine.{TakesNumber, TellsKind, asks_to_explain};
-ghost use Rattle.srm_options.specs.Asked.{MayBeAsked, MayShareBag};
+ghost use Rattle.srm_options.specs.Asked.{MayBeAsked, MayBeReplicated, MayShareBag};
 
 use crate::line_fault::LineFault;
 use clap::builder::ValueParser;
@@ -56,8 +56,8 @@ pub(crate) struct OptionLine {
     name: &'static str,
     /// What it takes, as help shows it.
     takes: &'static str,
-    /// What it is where it is not given.
-    default: &'static str,
+    /// What it is where it is not given, if it is anything then.
+    default: Option<&'static str>,
     /// What it is for.
     about: &'static str,
     reader: Reader,
@@ -66,6 +66,8 @@ pub(crate) struct OptionLine {
 }
 
 const SEED: &str = "seed";
+
+const REPLICATIONS: &str = "replications";
 
 const ENGINE: &str = "engine";
 
@@ -83,9 +85,16 @@ const CHECK: &str = "check";
 
 const EXPLAIN: &str = "explain";
 
+const LAST_SEED: u64 = 9_223_372_036_854_775_807;
+
 const SEEDS: Reader = Reader::Number {
     least: 0,
-    most: 9_223_372_036_854_775_807,
+    most: LAST_SEED,
+};
+
+const COUNTS_OF_RUNS: Reader = Reader::Number {
+    least: 1,
+    most: 1_000_000,
 };
 
 const COUNTS_OF_WORKERS: Reader = Reader::Number { least: 1, most: 64 };
@@ -93,16 +102,25 @@ const COUNTS_OF_WORKERS: Reader = Reader::Number { least: 1, most: 64 };
 const SEED_LINE: OptionLine = OptionLine {
     name: SEED,
     takes: "0..=9223372036854775807",
-    default: "0",
+    default: Some("0"),
     about: "The seed of the members' random words",
     reader: SEEDS,
+    words: &[],
+};
+
+const REPLICATIONS_LINE: OptionLine = OptionLine {
+    name: REPLICATIONS,
+    takes: "1..=1000000",
+    default: None,
+    about: "How many runs are made, with the seeds from --seed on: each row begins with its seed",
+    reader: COUNTS_OF_RUNS,
     words: &[],
 };
 
 const ENGINE_LINE: OptionLine = OptionLine {
     name: ENGINE,
     takes: "step|window",
-    default: "step",
+    default: Some("step"),
     about: "One event at a time, or windows of time",
     reader: Reader::Text,
     words: &["step", "window"],
@@ -111,7 +129,7 @@ const ENGINE_LINE: OptionLine = OptionLine {
 const CREW_LINE: OptionLine = OptionLine {
     name: CREW,
     takes: "plain|pool|bag|team",
-    default: "plain",
+    default: Some("plain"),
     about: "Who works in a window: one thread, a pool of threads, workers that share a bag, or a team that lasts",
     reader: Reader::Text,
     words: &["plain", "pool", "bag", "team"],
@@ -120,8 +138,8 @@ const CREW_LINE: OptionLine = OptionLine {
 const WORKERS_LINE: OptionLine = OptionLine {
     name: WORKERS,
     takes: "1..=64",
-    default: "1",
-    about: "How many workers share the bag, or are the team, which has else one for each processor",
+    default: Some("1"),
+    about: "How many workers share the bag; or are the team or make replications, else one for each processor",
     reader: COUNTS_OF_WORKERS,
     words: &[],
 };
@@ -129,7 +147,7 @@ const WORKERS_LINE: OptionLine = OptionLine {
 const CUT_LINE: OptionLine = OptionLine {
     name: CUT,
     takes: "N",
-    default: "1",
+    default: Some("1"),
     about: "How many members a job of a window has, 1 to 1024",
     reader: Reader::Text,
     words: &[],
@@ -138,7 +156,7 @@ const CUT_LINE: OptionLine = OptionLine {
 const WIDTH_LINE: OptionLine = OptionLine {
     name: WIDTH,
     takes: "least|promise|N",
-    default: "least",
+    default: Some("least"),
     about: "How wide windows are: the least delay of a link, as members promise, or ticks, from 1 to that delay",
     reader: Reader::Text,
     words: &[],
@@ -147,7 +165,7 @@ const WIDTH_LINE: OptionLine = OptionLine {
 const SHOW_LINE: OptionLine = OptionLine {
     name: SHOW,
     takes: "trace|members|losses|links|timers",
-    default: "trace",
+    default: Some("trace"),
     about: "The table: a row for each event, member, loss, link or adapted timer",
     reader: Reader::Text,
     words: &["trace", "members", "losses", "links", "timers"],
@@ -176,7 +194,7 @@ const EXPLAIN_FLAG: Flag = Flag {
 static FLAGS: [Flag; 2] = [CHECK_FLAG, EXPLAIN_FLAG];
 
 /// The options of every day, in the order in which help lists them.
-static EVERYDAY: [OptionLine; 2] = [SEED_LINE, SHOW_LINE];
+static EVERYDAY: [OptionLine; 3] = [SEED_LINE, REPLICATIONS_LINE, SHOW_LINE];
 
 /// The options of the run in windows, in the order in which help lists them, after all others.
 static WINDOWS: [OptionLine; 5] = [ENGINE_LINE, CREW_LINE, WORKERS_LINE, CUT_LINE, WIDTH_LINE];
@@ -211,7 +229,8 @@ const SHOWS: [(&str, Show); 5] = [
 ///
 /// # Errors
 /// 1. `Line`: `clap` refuses the words; or `Help`, where help or the version is asked for before that.
-/// 2. `BadWord`: the text of an option is none of its words, and no number that it takes.
+/// 2. `BadWord`: the text of an option is none of its words, and no number that it takes; or replications are asked for whose last
+///    seed is past the greatest, or with the engine of windows.
 ///
 /// `NoMemory` may come at any place. That the order is so is shown by tests.
 pub fn options_of<S: AsStr>(alloc: Global, words: &[S]) -> Result<(u64, Options), LineFault>
@@ -223,7 +242,8 @@ pub fn options_of<S: AsStr>(alloc: Global, words: &[S]) -> Result<(u64, Options)
     }
 }
 
-/// The same on this machine: a team of which the words do not say how many workers it has, has one for each processor, up to 64.
+/// The same on this machine: where the words do not say how many workers a team has, or make replications, there is one for each
+/// processor, up to 64.
 ///
 /// # Errors
 /// As of [`options_of`].
@@ -238,7 +258,7 @@ pub(crate) fn options_here<S: AsStr>(
         Ok(read) => read,
         Err(fault) => return Err(fault),
     };
-    if options.crew == CrewKind::Team && !told {
+    if !told && (options.crew == CrewKind::Team || options.replications.is_some()) {
         options.workers = processors(rt);
     }
     Ok((seed, options))
@@ -270,16 +290,36 @@ fn read_matches(matches: &ArgMatches<'_>) -> Result<(u64, Options, bool), LineFa
 {
     let seed = number(matches, SEED, SEEDS)?;
     let workers = number(matches, WORKERS, COUNTS_OF_WORKERS)?;
-    let Some(options) = options_among(matches, workers as u8) else {
+    let replications = count_of_runs(matches)?;
+    let Some(options) = options_among(matches, workers as u8, replications) else {
         return Err(LineFault::BadWord);
     };
+    if !may_be_replicated(seed, options.engine, replications) {
+        return Err(LineFault::BadWord);
+    }
     let told = matches.value_source(WORKERS) == Some(ValueSource::CommandLine);
     Ok((seed, options, told))
 }
 
-// The options of words that `clap` has read, with so many workers; none where a text is none that its option takes.
-fn options_among(matches: &ArgMatches<'_>, workers: u8) -> Option<Options>
-    ensures { IfSome result (λ o. o.workers ≡ workers) }
+// Whether so many runs may be made, if replications are asked for: the last seed is one, and the runs are not in windows.
+fn may_be_replicated(seed: u64, engine: Engine, replications: Option<u32>) -> bool
+    requires seed { seed < 2 ^ 63 }
+    requires count { IfSome replications (λ count. 1 ≤ count) }
+    ensures { result ≡ true → MayBeReplicated seed engine replications }
+{
+    match replications {
+        None => true,
+        Some(count) => engine == Engine::Step && u64::from(count) - 1 <= LAST_SEED - seed,
+    }
+}
+
+// The options of words that `clap` has read, with so many workers and replications; none where a text is none that its option takes.
+fn options_among(
+    matches: &ArgMatches<'_>,
+    workers: u8,
+    replications: Option<u32>,
+) -> Option<Options>
+    ensures { IfSome result (λ o. (o.workers ≡ workers) × (o.replications ≡ replications)) }
 {
     Some(Options {
         engine: word(matches, ENGINE, &ENGINES)?,
@@ -288,6 +328,7 @@ fn options_among(matches: &ArgMatches<'_>, workers: u8) -> Option<Options>
         cut: cut(matches)?,
         width: width(matches)?,
         show: word(matches, SHOW, &SHOWS)?,
+        replications,
         check: matches.get_flag(CHECK),
         explain: matches.get_flag(EXPLAIN),
     })
@@ -330,12 +371,30 @@ fn message_of_error(alloc: Global, error: &Error) -> Result<String, AllocError> 
     format!(in alloc; "{told}{more}")
 }
 
-// What is told of words whose options take other text besides, and not this one.
+// What is told of words that `clap` takes, and the program does not: options take other text besides, and not this one; or
+// replications cannot be made so.
 fn message_of_numbers(alloc: Global, matches: &ArgMatches<'_>) -> Result<String, AllocError> {
     if cut(matches).is_none() {
         return message_of_number(alloc, matches, &CUT_LINE);
     }
-    message_of_number(alloc, matches, &WIDTH_LINE)
+    if width(matches).is_none() {
+        return message_of_number(alloc, matches, &WIDTH_LINE);
+    }
+    message_of_replications(alloc, matches)
+}
+
+// The same, of replications: with the engine of windows, or past the last seed.
+fn message_of_replications(alloc: Global, matches: &ArgMatches<'_>) -> Result<String, AllocError> {
+    let takes = REPLICATIONS_LINE.takes;
+    if word(matches, ENGINE, &ENGINES) == Some(Engine::Window) {
+        return format!(in alloc;
+            "error: the argument '--replications <{takes}>' cannot be used with '--engine window': \
+             runs side by side use the processors better than windows do\n"
+        );
+    }
+    format!(in alloc;
+        "error: the last seed of '--replications <{takes}>' is above {LAST_SEED}: give a lower '--seed', or fewer replications\n"
+    )
 }
 
 // The same, of one option.
@@ -440,12 +499,15 @@ fn arg_of<'a>(alloc: Global, option: OptionLine, wording: Wording) -> Arg<'a> {
         ),
         (Reader::Text, _) => ValueParser::string(),
     };
-    Arg::new(alloc, option.name)
+    let arg = Arg::new(alloc, option.name)
         .long(option.name)
         .value_name(option.takes)
         .value_parser(parser)
-        .default_value(option.default)
-        .help(option.about)
+        .help(option.about);
+    match option.default {
+        None => arg,
+        Some(default) => arg.default_value(default),
+    }
 }
 
 // What is told of an error of `clap`.
@@ -472,6 +534,17 @@ fn number(matches: &ArgMatches<'_>, name: &str, reader: Reader) -> Result<u64, L
         }
         _ => Err(LineFault::Line),
     }
+}
+
+// How many runs are to be made, where that is told.
+fn count_of_runs(matches: &ArgMatches<'_>) -> Result<Option<u32>, LineFault>
+    ensures { IfOk result (λ count. IfSome count (λ n. 1 ≤ n)) }
+{
+    if matches.get_one::<u64>(REPLICATIONS).is_none() {
+        return Ok(None);
+    }
+    let count = number(matches, REPLICATIONS, COUNTS_OF_RUNS)?;
+    Ok(Some(count as u32))
 }
 
 // What a text stands for among these words, if it is one of them.

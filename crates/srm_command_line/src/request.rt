@@ -20,7 +20,7 @@ pub struct Request {
 }
 
 /// What the words of a command line ask for on this machine. The first word is the program's name. A word that is no text is
-/// refused. A team of which the words do not say how many workers it has, has one for each processor, up to 64.
+/// refused. Where they do not say how many workers a team has, or make replications, there is one for each processor, up to 64.
 pub fn request_of(rt: &impl Threads, alloc: Global, words: io::Result<Args>) -> Request
     ensures { IfOk result.asked MayBeAsked }
 {

@@ -45,7 +45,7 @@ pub struct Options {
     pub engine: Engine,
     /// Who works in a window. The sequential engine does not look at it.
     pub crew: CrewKind,
-    /// How many workers share a bag or are a team, 1 to 64. No other crew looks at it.
+    /// How many workers share a bag, are a team or make replications, 1 to 64. Nothing else looks at it.
     pub workers: u8,
     /// How many members a job of a window has, 1 to 1,024. The sequential engine does not look at it.
     pub cut: u32,
@@ -53,6 +53,8 @@ pub struct Options {
     pub width: Width,
     /// What is shown.
     pub show: Show,
+    /// How many runs are made, of seeds that rise by one; or none, and then one run is, and its table has no column for the seed.
+    pub replications: Option<u32>,
     /// Whether the scenario is only read and checked, and nothing is run or shown.
     pub check: bool,
     /// Whether a refusal is explained after its line.

@@ -4,6 +4,7 @@ pub mod ListedTexts
 pub mod Openings
 pub mod OrderlyRows
 pub mod Refusals
+pub mod ReplicationLemmas
 pub mod RunRefusals
 pub mod TableTexts
 pub mod Texts

@@ -18,21 +18,29 @@ use Rattle.srm_program.specs.declared.fault.LabFault.{LabFault}
 use Rattle.srm_program.specs.Explained.{KeepsText}
 use Rattle.srm_program.specs.Sessions.{TellsSession, TellsTask, TellsText, TellsFeed, reading_failures}
 
+-- what is told of an accepted scenario that is run, and not only checked
+task_of : {T : Type 0} (count : Option ℕ) (p : PlainScenario) (seed : ℕ) (o : Options) (old new : Option (List ℕ)) (r : Result T LabFault)
+    → o.check ≡ false → o.replications ≡ count → TellsTask false count p seed o old new r
+    → TellsTask o.check o.replications p seed o old new r
+task_of count p seed o old new r runs asked told =
+    subst (λ (b : Bool). TellsTask b o.replications p seed o old new r) (sym runs)
+    (subst (λ (k : Option ℕ). TellsTask false k p seed o old new r) (sym asked) told)
+
 -- the session of a text is that of the scenario that it describes
 pub session_of_text : {T : Type 0} (p : PlainScenario) (net : Network) (text : List ℕ) (seed : ℕ) (o : Options) (old new : Option (List ℕ))
     (r : Result T Fault)
-    → scenario_of_text text ≡ Ok p → o.check ≡ false → net ≡ network_of p → TellsSession p net seed o old new r
+    → scenario_of_text text ≡ Ok p → o.check ≡ false → o.replications ≡ None → net ≡ network_of p → TellsSession p net seed o old new r
     → TellsText seed o text old new r
-session_of_text {T} p net text seed o old new r is runs made told =
+session_of_text {T} p net text seed o old new r is runs one made told =
     describes r (subst (λ (w : Network). TellsSession p w seed o old new r) made told)
   where
     describes : (r : Result T Fault) → TellsSession p (network_of p) seed o old new r → TellsText seed o text old new r
     describes (Ok v) told =
         let r : Result T LabFault = Ok v in
-        (p, is, subst (λ (b : Bool). TellsTask b p seed o old new r) (sym runs) told)
+        (p, is, task_of None p seed o old new r runs one told)
     describes (Err (Lab f)) told =
         let r : Result T LabFault = Err f in
-        (p, is, subst (λ (b : Bool). TellsTask b p seed o old new r) (sym runs) told)
+        (p, is, task_of None p seed o old new r runs one told)
     describes (Err (Line f)) told = absurd told
     describes (Err (Scenario f)) told = absurd told
     describes (Err NoMemory) told = told

@@ -1,5 +1,5 @@
 -- What comes of a session, from a scenario to its report.
-use Rattle.std.specs.Prelude.{⊤, ◌≡◌, ℕ, Bool, true, false, List, Option, Result, Ok, Err}
+use Rattle.std.specs.Prelude.{⊤, ◌≡◌, ℕ, Bool, true, false, List, Option, Some, None, Result, Ok, Err}
 use Rattle.std.specs.Io.KnownBytes.{IsAtEnd, Keeps}
 use Rattle.srm_net.specs.Network.{Network}
 use Rattle.srm_scenario.specs.declared.fault.ScenarioFault.{ScenarioFault}
@@ -10,6 +10,7 @@ use Rattle.srm_program.specs.declared.fault.LabFault.{LabFault}
 use Rattle.srm_program.specs.declared.fault.Fault.{Fault}
 use Rattle.srm_program.specs.declared.fault.Fault.TheVariants as fault
 use Rattle.srm_options.specs.declared.options.Options.{Options}
+use Rattle.srm_program.specs.Replications.{TellsReplications}
 use Rattle.srm_program.specs.Reports.{failures_after_run}
 use Rattle.srm_program.specs.Runs.{TellsRunFor}
 
@@ -41,13 +42,14 @@ reading_failures (Err (fault.Line f)) n = n
 reading_failures (Err (fault.Lab f)) n = n
 reading_failures (Err fault.NoMemory) n = n
 
--- what an outlet took of an accepted scenario: what its run tells; nothing where it was only to be checked, which
--- cannot be refused
-abbrev pub TellsTask : {T : Type 0} → Bool → PlainScenario → ℕ → Options
+-- what an outlet took of an accepted scenario: what its run tells, or what its replications tell where so many are
+-- asked for; nothing where it was only to be checked, which cannot be refused
+abbrev pub TellsTask : {T : Type 0} → Bool → Option ℕ → PlainScenario → ℕ → Options
     → Option (List ℕ) → Option (List ℕ) → Result T LabFault → Type 0
-TellsTask false p seed o old new r = TellsRunFor p (network_of p) seed o old new r
-TellsTask true p seed o old new (Ok v) = Keeps old new
-TellsTask true p seed o old new (Err f) = ⊥
+TellsTask false None p seed o old new r = TellsRunFor p (network_of p) seed o old new r
+TellsTask false (Some count) p seed o old new r = TellsReplications p (network_of p) seed count o.show old new r
+TellsTask true count p seed o old new (Ok v) = Keeps old new
+TellsTask true count p seed o old new (Err f) = ⊥
 
 -- what an outlet took of the session of a text, with random words of this seed: what the run of its scenario tells;
 -- nothing where the text is refused, by its first fault, and nothing where memory ran out before the run
@@ -55,10 +57,10 @@ abbrev pub TellsText : {T : Type 0} → ℕ → Options → List ℕ
     → Option (List ℕ) → Option (List ℕ) → Result T Fault → Type 0
 TellsText seed o text old new (Ok v) =
     (p : PlainScenario) × (faults.scenario_of_text text ≡ Ok p)
-    × TellsTask o.check p seed o old new (let r : Result _ LabFault = Ok v in r)
+    × TellsTask o.check o.replications p seed o old new (let r : Result _ LabFault = Ok v in r)
 TellsText {T} seed o text old new (Err (fault.Lab f)) =
     (p : PlainScenario) × (faults.scenario_of_text text ≡ Ok p)
-    × TellsTask o.check p seed o old new (let r : Result T LabFault = Err f in r)
+    × TellsTask o.check o.replications p seed o old new (let r : Result T LabFault = Err f in r)
 TellsText seed o text old new (Err (fault.Line f)) = ⊥
 TellsText seed o text old new (Err (fault.Scenario f)) = faults.RefusesText f text × Keeps old new
 TellsText seed o text old new (Err fault.NoMemory) = Keeps old new

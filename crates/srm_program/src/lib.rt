@@ -11,6 +11,8 @@ mod listed;
 mod made;
 mod members;
 pub mod program;
+mod replicating;
+pub mod replications;
 mod report;
 pub mod run;
 pub mod session;

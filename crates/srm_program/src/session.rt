@@ -3,12 +3,14 @@ ghost use Rattle.std.specs.Prelude.{◌≡◌, ◌<◌, ◌≤◌, ◌+◌, ◌-
 ghost use Rattle.std.specs.Io.KnownBytes.{Consumes};
 ghost use Rattle.srm_scenario.specs.declared.bytes.TheConstants.{LONGEST_TEXT};
 ghost use Rattle.srm_program.specs.Explained.{KeepsText};
+ghost use Rattle.srm_options.specs.Asked.{MayBeReplicated};
 ghost use Rattle.srm_program.specs.Runs.{MayShareBag};
 ghost use Rattle.srm_program.specs.Sessions.{reading_failures, session_failures, ReadsSessionToEnd, TellsFeed, TellsText};
 
 use crate::fault::Fault;
 use crate::members::run_members;
 use crate::options::Options;
+use crate::replications::{Seeds, replicate};
 use srm_report::outlet::Outlet;
 use srm_scenario::bytes::{TextFault, read_text};
 use srm_scenario::fault::ScenarioFault;
@@ -55,6 +57,7 @@ pub fn simulate<R: Threads + Wait + Sync, F: Feed, O: Outlet>(
     outlet: &mut O,
 ) -> Session
     requires workers { MayShareBag options.workers }
+    requires replications { MayBeReplicated seed options.engine options.replications }
     requires feed { F.failures feed.old < 2 ^ 64 - 1 }
     requires outlet { O.failures outlet.old < 2 ^ 64 - 1 }
     ensures read { F.failures feed.new ≡ reading_failures result.done (F.failures feed.old) }
@@ -89,13 +92,14 @@ pub fn simulate<R: Threads + Wait + Sync, F: Feed, O: Outlet>(
 }
 
 /// Makes the members of the scenario that a text describes, with random words of this seed, runs them, and writes the report of
-/// the run to an outlet. Where the scenario is only to be checked, it is read and nothing more is done.
+/// the run to an outlet; or makes replications, from this seed on, and writes their table. Where the scenario is only to be checked,
+/// it is read and nothing more is done.
 ///
 /// # Errors
 /// 1. `Scenario`: the first fault of the text, as of [`scenario_of_text`](srm_scenario::reading::scenario_of_text).
-/// 2. `Lab`: that of [`run`](crate::run::run), and then the outlet is as said there.
+/// 2. `Lab`: that of [`run`](crate::run::run) or [`replicate`](crate::replications::replicate), and then the outlet is as said there.
 ///
-/// `NoMemory` may come at any place. After each refusal but those of `run` the outlet has taken nothing.
+/// `NoMemory` may come at any place. After each refusal but those of `run` and `replicate` the outlet has taken nothing.
 pub fn simulate_text<R: Threads + Wait + Sync, O: Outlet>(
     rt: &R,
     alloc: Global,
@@ -105,6 +109,7 @@ pub fn simulate_text<R: Threads + Wait + Sync, O: Outlet>(
     outlet: &mut O,
 ) -> Result<(), Fault>
     requires workers { MayShareBag options.workers }
+    requires replications { MayBeReplicated seed options.engine options.replications }
     requires count { O.failures outlet.old < 2 ^ 64 - 1 }
     // The count rises exactly where the answer is `WriteFault`, and then by one.
     ensures failures { O.failures outlet.new ≡ session_failures result (O.failures outlet.old) }
@@ -120,5 +125,14 @@ pub fn simulate_text<R: Threads + Wait + Sync, O: Outlet>(
     let Ok(net) = scenario.net(alloc) else {
         return Err(Fault::NoMemory);
     };
-    run_members(rt, alloc, &scenario, &net, seed, options, outlet)
+    match options.replications {
+        None => run_members(rt, alloc, &scenario, &net, seed, options, outlet),
+        Some(count) => {
+            let seeds = Seeds { first: seed, count };
+            match replicate(rt, alloc, &scenario, &net, seeds, options, outlet) {
+                Ok(()) => Ok(()),
+                Err(fault) => Err(Fault::Lab(fault)),
+            }
+        }
+    }
 }

@@ -1,0 +1,302 @@
+-- Tables row by row, and the table of runs that differ in their seed.
+use Rattle.std.proofs.Common.{◌≡◌, ◌∙◌, ℕ, zero, suc, ◌+◌, ◌-◌, ◌<◌, ◌≤◌, List, [], ◌∷◌, ◌++◌, length, map}
+use Rattle.std.proofs.Common.{Option, Some, None, Result, Ok, Err}
+use Rattle.std.proofs.Common.{refl, ap, sym, subst, append_assoc, append-nil, length-append, inr, codes, arith}
+use Rattle.std.specs.Global.{Vec}
+use Rattle.std.specs.List.{flat_map, range_with_len}
+use Rattle.std.specs.Io.KnownBytes.{Appends}
+use Rattle.std.proofs.KnownBytes.{Appends-trans}
+use Rattle.std.proofs.lemmas.Grind.{flat_map-append}
+use Rattle.csv.specs.Writing.{default_writer, row_text}
+use Rattle.srm_net.specs.Network.{Network}
+use Rattle.srm_scenario.specs.declared.parts.MemberSpec.{MemberSpec}
+use Rattle.srm_scenario.specs.Plain.{PlainScenario}
+use Rattle.srm_member.specs.declared.intervals.Intervals.{Intervals}
+use Rattle.srm_member.specs.declared.row.Row.{Row}
+use Rattle.srm_cell.specs.Crossings.{crossings}
+use Rattle.srm_cell.specs.Setting.{setting_of, traffic_of}
+use Rattle.srm_model.specs.World.{World, RunMeetsFull}
+use Rattle.srm_options.specs.declared.options.Show.{Show}
+use Rattle.srm_options.specs.declared.options.Show.TheVariants.{Trace, Members, Losses, Links, Timers}
+use Rattle.srm_report.specs.Links.{links_table}
+use Rattle.srm_report.specs.Losses.{losses_table}
+use Rattle.srm_report.specs.Members.{member_rows, members_table}
+use Rattle.srm_report.specs.Seeds.{with_seed, IsLine, AreLines}
+use Rattle.srm_report.specs.SinkLaws.{count_more}
+use Rattle.srm_report.specs.Standings.{GrewBy}
+use Rattle.srm_report.specs.Tables.{lines_of, table_lines}
+use Rattle.srm_report.specs.Timers.{timers_header, timers_line, timers_rows, timers_rows_by, timers_line_by, timers_table}
+use Rattle.srm_report.specs.Trace.{trace_fields, trace_header, trace_line, trace_of_rows}
+use Rattle.srm_report.proofs.LineLemmas.{decimal_is_plain, role_is_plain, time_is_plain, delay_is_plain, cause_is_plain, ref_is_plain}
+use Rattle.srm_report.proofs.LineLemmas.{told_is_plain, sent_is_plain}
+use Rattle.srm_program.specs.declared.fault.LabFault.{LabFault}
+use Rattle.srm_program.specs.declared.fault.LabFault.TheVariants.{BadCut, BadWidth, ShareFull, NoMemory, CountFull, WriteFault}
+use Rattle.srm_program.specs.Reports.{report_of, shown, failures_after_run, EndsIn, TellsReport}
+use Rattle.srm_program.specs.Replications.{columns_shown, rows_shown, rows_of_run, replicated_rows, replications_of, EndInTurn, TakesRuns}
+use Rattle.srm_program.specs.Replications.{PutsNext, MakesLines, TellsReplications}
+
+-- ---- each table is the line of its columns and the lines of its rows
+
+lines_mapped : {A : Type 0} (f : A → List (List ℕ)) (xs : List A) → flat_map (λ x. row_text default_writer (f x)) xs ≡ lines_of (map f xs)
+unfolding lines_of
+lines_mapped f [] = refl
+lines_mapped f (x ∷ xs) = ap (λ l. row_text default_writer (f x) ++ l) (lines_mapped f xs)
+
+pub lines_joined : (xs ys : List (List (List ℕ))) → lines_of (xs ++ ys) ≡ lines_of xs ++ lines_of ys
+unfolding lines_of
+lines_joined xs ys = flat_map-append (row_text default_writer) xs ys
+
+timers_one : (r : Row) (i : Option Intervals) → timers_line_by r i ≡ lines_of (timers_rows_by r i)
+unfolding lines_of
+timers_one r None = refl
+timers_one r (Some i) = sym (append-nil _)
+
+timers_all : (rows : List Row) → flat_map timers_line rows ≡ lines_of (flat_map timers_rows rows)
+unfolding timers_line lines_of
+timers_all [] = refl
+timers_all (r ∷ rows) =
+    (λ i. timers_one r r.adapted i ++ timers_all rows i) ∙ sym (lines_joined (timers_rows r) (flat_map timers_rows rows))
+
+pub shown_by_rows : (show : Show) (p : PlainScenario) (net : Network) (rows : List Row) (totals : List ℕ)
+    → shown show p net rows totals ≡ table_lines (columns_shown show) (rows_shown show p net rows totals)
+unfolding table_lines trace_of_rows trace_header trace_line members_table losses_table links_table timers_table timers_header
+shown_by_rows Trace p net rows totals = ap (λ l. trace_header ++ l) (lines_mapped trace_fields rows)
+shown_by_rows Members p net rows totals = refl
+shown_by_rows Losses p net rows totals = refl
+shown_by_rows Links p net rows totals = refl
+shown_by_rows Timers p net rows totals = ap (λ l. timers_header ++ l) (timers_all rows)
+
+pub report_by_rows : (show : Show) (p : PlainScenario) (net : Network) (w : World)
+    → report_of show p net w ≡ table_lines (columns_shown show) (rows_of_run show p net w)
+report_by_rows show p net w = shown_by_rows show p net w.trace (crossings (traffic_of p net) w.trace)
+
+-- ---- each row is a line
+
+mapped_lines : {A : Type 0} (f : A → List (List ℕ)) → ((x : A) → IsLine (f x)) → (xs : List A) → AreLines (map f xs)
+mapped_lines f h [] = tt
+mapped_lines f h (x ∷ xs) = (h x, mapped_lines f h xs)
+
+more_lines : (xs ys : List (List (List ℕ))) → AreLines xs → AreLines ys → AreLines (xs ++ ys)
+more_lines [] ys h k = k
+more_lines (x ∷ xs) ys h k = (h.0, more_lines xs ys h.1 k)
+
+one_member : (rows : List Row) (m : ℕ) (ks : List MemberSpec) → AreLines (member_rows rows m ks)
+one_member rows m [] = tt
+one_member rows m (k ∷ ks) =
+    let d = decimal_is_plain in
+    let t = time_is_plain in (
+      (d _, (role_is_plain _, (d _, (t _, (t _, (d _, (d _, (d _, (d _, (d _, (d _, (d _, (d _, tt))))))))))))),
+      one_member rows (m + 1) ks,
+    )
+
+timers_rows_are : (r : Row) (i : Option Intervals) → AreLines (timers_rows_by r i)
+timers_rows_are r None = tt
+timers_rows_are r (Some i) =
+    let d = decimal_is_plain in
+    let t = time_is_plain in (
+      (d _, (d _, (cause_is_plain _, (ref_is_plain _, (d _, (d _, (d _, (d _, (t _, (t _, (t _, (t _, tt)))))))))))),
+      tt,
+    )
+
+all_timers : (rows : List Row) → AreLines (flat_map timers_rows rows)
+all_timers [] = tt
+all_timers (r ∷ rows) = more_lines (timers_rows r) (flat_map timers_rows rows) (timers_rows_are r r.adapted) (all_timers rows)
+
+pub rows_are_lines : (show : Show) (p : PlainScenario) (net : Network) (rows : List Row) (totals : List ℕ)
+    → AreLines (rows_shown show p net rows totals)
+rows_are_lines Trace p net rows totals =
+    let d = decimal_is_plain in
+    mapped_lines _ (λ r. (d _, (d _, (cause_is_plain _, (ref_is_plain _, (told_is_plain _, (d _, (sent_is_plain _, tt)))))))) rows
+rows_are_lines Members p net rows totals = one_member rows 0 p.members
+rows_are_lines Losses p net rows totals =
+    let d = decimal_is_plain in
+    let t = time_is_plain in
+    mapped_lines _ (λ k. (d _, (d _, (d _, (d _, (t _, (t _, (delay_is_plain _ _ _, tt)))))))) _
+rows_are_lines Links p net rows totals =
+    let d = decimal_is_plain in
+    mapped_lines _ (λ l. (d _, (d _, (d _, (d _, (d _, (d _, tt))))))) _
+rows_are_lines Timers p net rows totals = all_timers rows
+
+pub columns_are_line : (show : Show) → IsLine (columns_shown show)
+columns_are_line Trace = (refl, (refl, (refl, (refl, (refl, (refl, (refl, tt)))))))
+columns_are_line Members = (refl, (refl, (refl, (refl, (refl, (refl, (refl, (refl, (refl, (refl, (refl, (refl, (refl, tt)))))))))))))
+columns_are_line Losses = (refl, (refl, (refl, (refl, (refl, (refl, (refl, tt)))))))
+columns_are_line Links = (refl, (refl, (refl, (refl, (refl, (refl, tt))))))
+columns_are_line Timers = (refl, (refl, (refl, (refl, (refl, (refl, (refl, (refl, (refl, (refl, (refl, (refl, tt))))))))))))
+
+-- ---- a run more
+
+module _ (show : Show) (p : PlainScenario) (net : Network) where
+  replicated_more : (ws : List World) (w : World) (seed : ℕ) → replicated_rows show p net seed (ws ++ w ∷ [])
+      ≡ replicated_rows show p net seed ws ++ with_seed (seed + length ws) (rows_of_run show p net w)
+  replicated_more [] w seed =
+      let here : seed ≡ seed + 0 = omega arith in
+      append-nil (with_seed seed (rows_of_run show p net w)) ∙ ap (λ n. with_seed n (rows_of_run show p net w)) here
+  replicated_more (v ∷ ws) w seed =
+      let far : seed + 1 + length ws ≡ seed + length (v ∷ ws) = omega arith in
+      ap (λ l. with_seed seed (rows_of_run show p net v) ++ l) (replicated_more ws w (seed + 1))
+      ∙ sym (append_assoc (with_seed seed (rows_of_run show p net v)) (replicated_rows show p net (seed + 1) ws) _)
+      ∙ ap (λ n. replicated_rows show p net seed (v ∷ ws) ++ with_seed n (rows_of_run show p net w)) far
+
+  pub ends_more : (ws : List World) (w : World) (seed : ℕ) → EndInTurn p net seed ws → EndsIn p net (seed + length ws) w
+      → EndInTurn p net seed (ws ++ w ∷ [])
+  ends_more [] w seed h k = (let here : seed + 0 ≡ seed = omega arith in subst (λ n. EndsIn p net n w) here k, tt)
+  ends_more (v ∷ ws) w seed h k =
+      let far : seed + length (v ∷ ws) ≡ seed + 1 + length ws = omega arith in
+      (h.0, ends_more ws w (seed + 1) h.1 (subst (λ n. EndsIn p net n w) far k))
+
+  -- the table of no run is the line of the columns
+  pub no_run : (first : ℕ) (old new : Option (List ℕ)) → Appends old new (row_text default_writer (codes "seed" ∷ columns_shown show))
+      → TakesRuns p net first show [] old new
+  unfolding table_lines lines_of
+  no_run first old new h = (tt, subst (λ t. Appends old new t) (sym (append-nil _)) h)
+
+  pub table_grown : (ws : List World) (w : World) (first : ℕ) → replications_of show p net first (ws ++ w ∷ [])
+      ≡ replications_of show p net first ws ++ lines_of (with_seed (first + length ws) (rows_of_run show p net w))
+  unfolding table_lines
+  table_grown ws w first =
+      ap (λ rs. row_text default_writer (codes "seed" ∷ columns_shown show) ++ lines_of rs) (replicated_more ws w first)
+      ∙ ap (λ l. row_text default_writer (codes "seed" ∷ columns_shown show) ++ l)
+      (lines_joined (replicated_rows show p net first ws) (with_seed (first + length ws) (rows_of_run show p net w)))
+      ∙ sym (append_assoc (row_text default_writer (codes "seed" ∷ columns_shown show)) (lines_of (replicated_rows show p net first ws)) _)
+
+  pub one_run_more : (ws : List World) (w : World) (first : ℕ) (old mid new : Option (List ℕ)) → TakesRuns p net first show ws old mid
+      → EndsIn p net (first + length ws) w
+      → Appends mid new (lines_of (with_seed (first + length ws) (rows_of_run show p net w)))
+      → TakesRuns p net first show (ws ++ w ∷ []) old new
+  one_run_more ws w first old mid new h k grown = (
+    ends_more ws w first h.0 k,
+    subst (λ t. Appends old new t) (sym (table_grown ws w first)) (Appends-trans old mid new _ _ h.1 grown),
+  )
+
+-- ---- what a run of one seed tells
+
+pub whole_told : (T : Type 0) (v : T) (breaks : LabFault → World → Type 0) (p : PlainScenario) (net : Network) (seed : ℕ) (show : Show)
+    (old new : Option (List ℕ)) → TellsReport breaks p net seed show old new (Ok v)
+    → (w : World) × EndsIn p net seed w × Appends old new (report_of show p net w)
+whole_told T v breaks p net seed Trace old new h = h
+whole_told T v breaks p net seed Members old new h = h
+whole_told T v breaks p net seed Losses old new h = h
+whole_told T v breaks p net seed Links old new h = h
+whole_told T v breaks p net seed Timers old new h = h
+
+-- ---- runs under way
+
+pub range_more : (a n b : ℕ) → b ≡ a + n → range_with_len a n ++ b ∷ [] ≡ range_with_len a (n + 1)
+range_more a zero b e = ap (λ k. k ∷ []) (let h : b ≡ a = omega (arith, e) in h)
+range_more a (suc n) b e =
+    let more : suc (n + 1) ≡ suc n + 1 = omega arith in
+    ap (λ l. a ∷ l) (range_more (a + 1) n b (omega (arith, e))) ∙ ap (range_with_len a) more
+
+pub range_joined : (a n b m k : ℕ) → b ≡ a + n → k ≡ n + m → range_with_len a n ++ range_with_len b m ≡ range_with_len a k
+range_joined a zero b m k e f =
+    let h : b ≡ a = omega (arith, e) in let g : m ≡ k = omega (arith, f) in λ i. range_with_len (h i) (g i)
+range_joined a (suc n) b m zero e f = absurd (omega (arith, f))
+range_joined a (suc n) b m (suc k) e f = ap (λ l. a ∷ l) (range_joined (a + 1) n b m k (omega (arith, e)) (omega (arith, f)))
+
+pub range_first : (a n x : ℕ) (xs : List ℕ) → range_with_len a n ≡ x ∷ xs → (x ≡ a) × (0 < n) × (xs ≡ range_with_len (a + 1) (n - 1))
+range_first a zero x xs e = absurd (cc e)
+range_first a (suc n) x xs e =
+    let same : range_with_len (a + 1) n ≡ xs = cc e in
+    let less : n ≡ suc n - 1 = omega arith in
+    (cc e, omega arith, sym same ∙ ap (range_with_len (a + 1)) less)
+
+-- ---- what was written so far
+
+module _ (show : Show) (p : PlainScenario) (net : Network) (first : ℕ) where
+  -- the table of the runs up to these worlds was taken, and its bytes were counted
+  pub record HasRuns (ws : List World) (old new : Option (List ℕ)) (n : ℕ) : Type 0 where
+    pub taken : TakesRuns p net first show ws old new
+    pub counted : GrewBy 0 (length (replications_of show p net first ws)) n
+
+  none_is : replications_of show p net first [] ≡ row_text default_writer (codes "seed" ∷ columns_shown show)
+  unfolding table_lines lines_of
+  none_is = append-nil _
+
+  pub header_put : (T : Type 0) (v : T) (old new : Option (List ℕ)) (m : ℕ) (text : List ℕ)
+      → text ≡ row_text default_writer (codes "seed" ∷ columns_shown show) → PutsNext old 0 text (Ok v) new m → HasRuns [] old new m
+  header_put T v old new m text is put = record {
+    taken = no_run show p net first old new (subst (Appends old new) is put.0);
+    counted = subst (λ t. GrewBy 0 (length t) m) (is ∙ sym none_is) put.1;
+  }
+
+  pub header_failed : (T U : Type 0) (old new : Option (List ℕ)) (m count : ℕ) (text : List ℕ) (f : LabFault)
+      → text ≡ row_text default_writer (codes "seed" ∷ columns_shown show) → PutsNext {T = T} old 0 text (Err f) new m
+      → TellsReplications {T = U} p net first count show old new (Err f)
+  header_failed T U old new m count text (WriteFault n) is put =
+      ([], omega arith, (tt, (put.0, put.1, none_is ∙ sym is ∙ put.2, put.3, put.4, put.5)))
+  header_failed T U old new m count text BadCut is put = absurd put
+  header_failed T U old new m count text BadWidth is put = absurd put
+  header_failed T U old new m count text ShareFull is put = absurd put
+  header_failed T U old new m count text NoMemory is put = absurd put
+  header_failed T U old new m count text CountFull is put = absurd put
+
+  module _ (ws : List World) (old mid : Option (List ℕ)) (n : ℕ) (has : HasRuns ws old mid n) (seed count : ℕ)
+      (at : length ws ≡ seed - first) (from : first ≤ seed) (before : seed - first < count) where
+    here : seed ≡ first + length ws
+    here = omega (arith, at)
+
+    grown : (w : World) (text : List ℕ) → text ≡ lines_of (with_seed seed (rows_of_run show p net w))
+        → replications_of show p net first (ws ++ w ∷ []) ≡ replications_of show p net first ws ++ text
+    grown w text is = table_grown show p net ws w first ∙ ap (λ l. replications_of show p net first ws ++ l)
+        (ap (λ k. lines_of (with_seed k (rows_of_run show p net w))) (sym here) ∙ sym is)
+
+    pub run_put : (T : Type 0) (v : T) (lines : Vec ℕ) (new : Option (List ℕ)) (m : ℕ) → MakesLines p net show seed (Ok lines)
+        → PutsNext mid n lines.items (Ok v) new m
+        → (vs : List World) × (length vs ≡ seed + 1 - first) × HasRuns vs old new m
+    run_put T v lines new m made put = (
+      ws ++ made.0 ∷ [],
+      omega (arith, length-append ws (made.0 ∷ []), at),
+      record {
+        taken = one_run_more show p net ws made.0 first old mid new has.taken (subst (λ k. EndsIn p net k made.0) here made.1)
+            (subst (Appends mid new) (made.2 ∙ ap (λ k. lines_of (with_seed k (rows_of_run show p net made.0))) here) put.0);
+        counted = subst (λ k. GrewBy 0 k m)
+            (sym (ap length (grown made.0 lines.items made.2) ∙ length-append (replications_of show p net first ws) lines.items))
+            (count_more 0 (length (replications_of show p net first ws)) n (length lines.items) m has.counted put.1);
+      },
+    )
+
+    pub run_failed : (T U : Type 0) (lines : Vec ℕ) (new : Option (List ℕ)) (m : ℕ) (f : LabFault)
+        → MakesLines p net show seed (Ok lines) → PutsNext {T = T} mid n lines.items (Err f) new m
+        → TellsReplications {T = U} p net first count show old new (Err f)
+    run_failed T U lines new m (WriteFault k) made put =
+        let all = replications_of show p net first ws in (
+          ws ++ made.0 ∷ [],
+          omega (arith, length-append ws (made.0 ∷ []), at, before),
+          (
+            ends_more show p net ws made.0 first has.taken.0 (subst (λ k. EndsIn p net k made.0) here made.1),
+            (
+              all ++ put.0,
+              put.1,
+              grown made.0 lines.items made.2 ∙ ap (λ l. all ++ l) put.2 ∙ sym (append_assoc all put.0 put.1),
+              put.3,
+              Appends-trans old mid new all put.0 has.taken.1 put.4,
+              subst (λ j. GrewBy 0 j k) (sym (length-append all put.0)) (count_more 0 (length all) n (length put.0) k has.counted put.5),
+            ),
+          ),
+        )
+    run_failed T U lines new m BadCut made put = absurd put
+    run_failed T U lines new m BadWidth made put = absurd put
+    run_failed T U lines new m ShareFull made put = absurd put
+    run_failed T U lines new m NoMemory made put = absurd put
+    run_failed T U lines new m CountFull made put = absurd put
+
+    pub run_refused : (U : Type 0) (f : LabFault) → MakesLines p net show seed (Err f)
+        → TellsReplications {T = U} p net first count show old mid (Err f)
+    run_refused U CountFull made =
+        (ws, omega (arith, at, before), has.taken, subst (λ k. RunMeetsFull (setting_of p net k)) here made)
+    run_refused U NoMemory made = inr (ws, omega (arith, at, before), has.taken)
+    run_refused U BadCut made = absurd made
+    run_refused U BadWidth made = absurd made
+    run_refused U ShareFull made = absurd made
+    run_refused U (WriteFault n) made = absurd made
+
+-- the run of a seed is refused for no reason of the outlet's
+pub not_written : (T : Type 0) (p : PlainScenario) (net : Network) (show : Show) (seed : ℕ) (f : LabFault) (n m : ℕ)
+    → MakesLines p net show seed (Err f) → m ≡ n → m ≡ failures_after_run {T = T} (Err f) n
+not_written T p net show seed CountFull n m made e = e
+not_written T p net show seed NoMemory n m made e = e
+not_written T p net show seed BadCut n m made e = absurd made
+not_written T p net show seed BadWidth n m made e = absurd made
+not_written T p net show seed ShareFull n m made e = absurd made
+not_written T p net show seed (WriteFault k) n m made e = absurd made

@@ -1,0 +1,79 @@
+//! The run of one seed, as a team's worker makes it.
+ghost use Rattle.std.specs.Prelude.{◌≡◌, ℕ};
+ghost use Rattle.srm_program.specs.Replications.{MakesLines, MayReplicate};
+
+use crate::fault::{Fault, LabFault};
+use crate::members::run_members;
+use crate::options::Options;
+use srm_net::net::Net;
+use srm_report::outlet::WriteOutlet;
+use srm_report::seeds::seeded_lines;
+use srm_scenario::scenario::Scenario;
+use srm_team::work::Work;
+use std::alloc::Global;
+use std::marker::Sync;
+use std::sync::Wait;
+use std::thread::Threads;
+
+/// Runs of a scenario on its network, one event after the other. Of each seed it gives the lines of the run's table.
+#[derive(Clone, Copy)]
+pub(crate) struct Replicating<'a, R> {
+    pub rt: R,
+    /// The memory that workers take.
+    pub alloc: Global,
+    /// What is run.
+    pub scenario: &'a Scenario,
+    /// Its network.
+    pub net: &'a Net,
+    /// What is shown of each run.
+    pub options: Options,
+}
+
+impl<'a, R: Threads + Wait + Sync> Work<u64, Result<Vec<u8>, LabFault>> for Replicating<'a, R> {
+    ghost use Rattle.std.specs.Thread.{IsSync};
+    ghost use Rattle.srm_program.specs.Replications.{MakesLines, MayReplicate};
+
+    ghost ready = { λ w _. IsSync R.row × MayReplicate w.scenario.now w.net.now w.options };
+
+    ghost gives = { λ w seed r. MakesLines w.scenario.now w.net.now w.options.show seed r };
+
+    fn work(&self, seed: u64) -> Result<Vec<u8>, LabFault> {
+        lines_of_seed(
+            &self.rt,
+            self.alloc,
+            self.scenario,
+            self.net,
+            seed,
+            self.options,
+        )
+    }
+}
+
+/// The run of a seed into memory: the lines of its table's rows, each with the seed in front.
+///
+/// # Errors
+/// `NoMemory` or `CountFull`.
+fn lines_of_seed<R: Threads + Wait + Sync>(
+    rt: &R,
+    alloc: Global,
+    scenario: &Scenario,
+    net: &Net,
+    seed: u64,
+    options: Options,
+) -> Result<Vec<u8>, LabFault>
+    requires { MayReplicate scenario.now net.now options }
+    ensures { MakesLines scenario.now net.now options.show seed result }
+{
+    let mut outlet = WriteOutlet::new(Vec::new(alloc));
+    match run_members(rt, alloc, scenario, net, seed, options, &mut outlet) {
+        Ok(()) => {
+            let table = outlet.into_inner();
+            match seeded_lines(alloc, seed, table.as_slice()) {
+                Ok(lines) => Ok(lines),
+                Err(_) => Err(LabFault::NoMemory),
+            }
+        }
+        Err(Fault::Lab(LabFault::CountFull)) => Err(LabFault::CountFull),
+        Err(_) => Err(LabFault::NoMemory),
+    }
+}
