@@ -3,7 +3,8 @@
 
 usage: tests/sources/versions.py
 
-The program's version stands in crates/srm_command_line/src/command_line.rt. CITATION.cff and the Python package have the same one, and CHANGELOG.md either names it as the one to come, which is later than each release, or has it as its newest release. A
+The program's version stands in crates/srm_command_line/src/command_line.rt. CITATION.cff and the Python package have the same
+one, and CHANGELOG.md either names it as the one to come, which is later than each release, or has it as its newest release. A
 tag such as v1.2.0, of the commit that is checked out or of one before it, is of a release that CHANGELOG.md has, and of a
 commit whose CITATION.cff, if it has one, names that version; a tag of the commit that is checked out is of the program's
 version. Where there is a tag of a version, each release has one. Ends with status 1 where one of them differs.
