@@ -12,7 +12,7 @@ from pathlib import Path
 
 from srm_lab import RefusedError, ScenarioError, one_run
 from srm_lab.cli import text_of
-from srm_lab.sweep import Experiment
+from srm_lab.experiment import Experiment
 
 
 def holds(scenario: Path, text: str, tables: list[Path], sources: list[str]) -> bool:
