@@ -47,6 +47,7 @@ bench: $(PROGRAM) ## tells how fast the program is, beside a plain one: make ben
 	@bench/events_per_second.py $(PROGRAM) $(BENCH)
 	@bench/time_of_tables.py $(PROGRAM)
 	@bench/time_of_engines.py $(PROGRAM)
+	@bench/time_of_replications.py $(PROGRAM)
 
 fmt: ## lays out the sources of each crate
 	@for crate in $(CRATES); do (cd crates/$$crate && $(RT) fmt) || exit 1; done

@@ -13,8 +13,9 @@ MOST_NODES = ((1, 256), (2, 1024), (3, 65535))
 
 
 def scenario(shape: str, nodes: int, *, delay: int, until: int, draws: int, spacing: int, drops: Iterable[tuple[int, int]],
-             width: tuple[int, int] = (0, 0), sessions: Iterable[tuple[int, int]] = ()) -> bytes:
-    """The text of a scenario with a member on each node, a star's hub aside, of which member 0 draws each `spacing` ticks.
+             width: tuple[int, int] = (0, 0), sessions: Iterable[tuple[int, int]] = (), apart: int = 1) -> bytes:
+    """The text of a scenario with a member on each node, or each so many nodes, a star's hub aside, of which member 0 draws each
+    `spacing` ticks.
 
     Of the members' packets those of member 0 with the numbers in `drops` are dropped, each at its link; `sessions` are members
     and times. A width is C2 and D2 in thousandths, by default none: then timers have no random part.
@@ -24,7 +25,7 @@ def scenario(shape: str, nodes: int, *, delay: int, until: int, draws: int, spac
     lines = [f"version = {version}", f"until = {until}", "c1 = 2000", f"c2 = {width[0]}", "d1 = 1000", f"d2 = {width[1]}"]
     lines += [f'topology = "{shape}"', f"size = {nodes}", f"delay = {delay}"]
     lines += ["degree = 4"] if shape == "tree" else []
-    for node in range(first, nodes):
+    for node in range(first, nodes, apart):
         role = "sender" if node == first else "receiver"
         lines += ["[[member]]", f"node = {node}", f'role = "{role}"', f"stream = {node}"]
     for draw in range(draws):

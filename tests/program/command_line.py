@@ -292,7 +292,7 @@ class Replications(CommandLineCase):
     def test_each_table_is_that_of_the_single_runs(self) -> None:
         for table, count in itertools.product(fuzz_tables.HEADERS, (1, 2, 5, 100)):
             wanted = End(0, self.table(table, 7, count), b"")
-            for workers in (NO_WORDS, *(["--workers", number] for number in ("1", "2", "7", "64"))):
+            for workers in [NO_WORDS, *(["--workers", number] for number in ("1", "2", "7", "64"))]:
                 words = ["--replications", str(count), "--seed", "7", "--show", table, *workers]
                 with self.subTest(words=words):
                     self.assertEqual(self.ended(words, DRAWN)[0], wanted)
@@ -314,7 +314,7 @@ class Replications(CommandLineCase):
         self.assertEqual(self.ended([*words, str(last - 1)], DRAWN), (REFUSED_LINE, len(DRAWN)))
 
     def test_words_that_are_refused(self) -> None:
-        for words in (["0"], ["1000001"], ["x"], ["2.0"], ["-1"], [], ["2", "--replications", "2"], ["1", *WINDOW]):
+        for words in (["0"], ["1000001"], ["x"], ["2.0"], ["-1"], NO_WORDS, ["2", "--replications", "2"], ["1", *WINDOW]):
             with self.subTest(words=words):
                 self.assertEqual(self.ended(["--replications", *words], DRAWN), (REFUSED_LINE, len(DRAWN)))
 
