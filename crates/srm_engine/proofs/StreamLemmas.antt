@@ -21,6 +21,8 @@ use Rattle.srm_engine.specs.declared.step_fault.StepFault.TheVariants as step_fa
 use Rattle.srm_interfaces.specs.declared.sink.SinkFault.TheVariants as sink
 use Rattle.srm_interfaces.specs.declared.sink.Stage.{Stage}
 use Rattle.srm_model.specs.World.{World, IsReached, step}
+use Rattle.srm_scenario.specs.declared.session.Session.{Session}
+use Rattle.srm_engine.specs.Starts.{setting_on}
 use Rattle.srm_engine.specs.Engines.{MayRefuseStep, HasCounted, traffic_in}
 use Rattle.srm_engine.specs.Faults.{step_refused}
 use Rattle.srm_interfaces.specs.Sinks.{most_rows, stage_after}
@@ -101,10 +103,10 @@ module _ {S : Type 0} (took part : S → List Row → S → Type 0) where
   steps_undone stage A s old (halt.Sink (sink.Stopped n)) new h at e = cc
 
 -- what an engine counted that is seen as a world of a run
-pub run_totals : {M : Type 0} (e : Engine M) (p : PlainScenario) (net : Network) (seed : ℕ) (w : World) (totals : List ℕ)
-    → (e.scenario.now ≡ p) × (e.net.now ≡ net) → HasCounted e (packets_of w.trace) → totals ≡ tallied e.net.now e.tally
-    → totals ≡ crossings (traffic_of p net) w.trace
-run_totals e p net seed w totals given counted is =
-    let here : numbers_of (traffic_in e) (packets_of w.trace) ≡ numbers_of (traffic_of p net) (packets_of w.trace) =
-    λ k. numbers_of (traffic_of (given.0 k) (given.1 k)) (packets_of w.trace) in
-    is ∙ counted.numbers ∙ here ∙ totals_are (setting_of p net seed) w
+pub run_totals : {M : Type 0} (e : Engine M) (at : Session) (seed : ℕ) (w : World) (totals : List ℕ)
+    → e.session ≡ at → HasCounted e (packets_of w.trace) → totals ≡ tallied e.session.net.now e.tally
+    → totals ≡ crossings (traffic_of at.scenario.now at.net.now) w.trace
+run_totals e at seed w totals same counted is =
+    let here : numbers_of (traffic_in e) (packets_of w.trace) ≡ numbers_of (traffic_of at.scenario.now at.net.now) (packets_of w.trace) =
+    ap (λ at. numbers_of (traffic_of at.scenario.now at.net.now) (packets_of w.trace)) same in
+    is ∙ counted.numbers ∙ here ∙ totals_are (setting_on at seed) w

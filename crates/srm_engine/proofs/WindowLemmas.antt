@@ -51,6 +51,8 @@ use Rattle.srm_engine.specs.declared.ends.Ends.{Ends}
 use Rattle.srm_engine.specs.Ends.{BeginsAt, MayEnd, TellsCutting, ends_rule}
 use Rattle.srm_engine.specs.Faults.{window_fault_of, run_fault_of}
 use Rattle.srm_engine.specs.Streams.{sink_in, TellsHalt, stream_fault_of, run_fault_in}
+use Rattle.srm_scenario.specs.declared.session.Session.{Session}
+use Rattle.srm_engine.specs.Starts.{setting_on}
 use Rattle.srm_engine.specs.RowRuns.{MayLackWindow, UndoneAfter}
 use Rattle.srm_engine.specs.WindowStreams.{MeetsWindowRefusal, TellsStreamAsked, RefusedAtWindow}
 use Rattle.srm_engine.specs.Windowed.{IsCounted, MayCome, MayRefuseWindow, TellsRunAsked, rule_of}
@@ -83,7 +85,7 @@ ends_are_rules p net is accepted seed ends may = grind (arith, widths_are_rules,
 -- what is known of the jobs of the window that ends so, before the crew's call and after it is refused
 pub record JobsTell {M : Type 0} (f : M → Record) (e : WindowEngine M) (seed till : ℕ) (w : World)
     (js : List (Job M)) : Type 0 where
-  pub may : All (λ (j : Job M). cell.MayAdvance f (length e.net.now.hosts) j) js
+  pub may : All (λ (j : Job M). cell.MayAdvance f (length e.session.net.now.hosts) j) js
   pub few : length js ≤ most_nodes
   pub placed : map (λ (j : Job M). j.place) js ≡ range_with_len 0 (length js)
   pub seen : AreJobs f js (jobs_of e.groups.cut till w)
@@ -117,7 +119,7 @@ pub record WindowRan {M : Type 0} (f : M → Record) (e : WindowEngine M) (seed 
   pub grouped : AreGrouped f e.groups.cut (groups_of ds) (cells_in results)
   pub rows : lists_of ds ≡ rows_in results
   pub as_many : length (cells_in results) ≡ length w.cells
-  pub members : length (cells_in results) ≡ length e.scenario.now.members
+  pub members : length (cells_in results) ≡ length e.session.scenario.now.members
   pub sorted : All (IsSorted row_cmp) (some_of (rows_in results))
 
 -- ---- the next window
@@ -128,31 +130,32 @@ module _ {M : Type 0} (f : M → Record) (e : WindowEngine M) (is : IsUnderWay f
   s = setting_by e seed
 
   pub fit : IsFit s
-  fit = subst (λ (n : Network). IsFit (setting_of e.scenario.now n seed)) (sym is.network) (settings_are_fit e.scenario.now seed
+  fit = subst (λ (n : Network). IsFit (setting_of e.session.scenario.now n seed)) (sym e.session.network)
+      (settings_are_fit e.session.scenario.now seed
       is.accepted)
 
   rule_is : IsEndRule s (rule_by e seed)
-  rule_is = ends_are_rules e.scenario.now e.net.now is.network is.accepted seed e.ends is.ends
+  rule_is = ends_are_rules e.session.scenario.now e.session.net.now e.session.network is.accepted seed e.ends is.ends
 
   pub reached : IsReached s w
   reached = (windows_are_reached s (rule_by e seed) begins w comes.windows).0
 
-  pub members_are : length w.cells ≡ length e.scenario.now.members
+  pub members_are : length w.cells ≡ length e.session.scenario.now.members
   members_are = (good_reached s fit reached.0 w reached.1).members
 
   -- where something is pending
-  module _ (begin : ℕ) (at : BeginsNext f e begin) (early : begin < e.scenario.now.until) where
+  module _ (begin : ℕ) (at : BeginsNext f e begin) (early : begin < e.session.scenario.now.until) where
     begin_is : begin ≡ start_of s w
     begin_is = let b = at seed begins w comes in omega (arith, b)
 
     pub next : (v : Event) × IsNext s w v
     next = let v = (starts_tell s w).0 (let b = begin_is in omega arith) in (v.0, v.1)
 
-    pub begins_at : BeginsAt s w e.groups.cut e.groups.soon.items begin e.scenario.now.until
+    pub begins_at : BeginsAt s w e.groups.cut e.groups.soon.items begin e.session.scenario.now.until
     begins_at = record { fit = fit; reached = reached; soon = comes.kept.soon; begin_is = begin_is; until_is = refl }
 
   -- nothing is pending
-  pub is_last : (begin : ℕ) → BeginsNext f e begin → e.scenario.now.until ≤ begin → IsLast s w
+  pub is_last : (begin : ℕ) → BeginsNext f e begin → e.session.scenario.now.until ≤ begin → IsLast s w
   is_last begin at late = grind (arith, windows_are_reached)
 
   -- ---- its jobs
@@ -179,14 +182,15 @@ module _ {M : Type 0} (f : M → Record) (e : WindowEngine M) (is : IsUnderWay f
     pub end_is : till ≡ rule_by e seed w
     end_is = (at seed begins w comes).1
 
-    pub within : till ≤ e.scenario.now.until
+    pub within : till ≤ e.session.scenario.now.until
     within = let b = rule_is.within w in omega (arith, end_is)
 
     safe : IsSafe s till w
     safe = subst (λ n. IsSafe s n w) (sym end_is) (rule_is.safe w v reached is_next)
 
-    hosts_are : length e.net.now.hosts ≡ length e.scenario.now.members
-    hosts_are = ap (λ (n : Network). length n.hosts) is.network ∙ length-map e.scenario.now.members (λ (k : MemberSpec). k.node)
+    hosts_are : length e.session.net.now.hosts ≡ length e.session.scenario.now.members
+    hosts_are = ap (λ (n : Network). length n.hosts) e.session.network ∙ length-map e.session.scenario.now.members
+        (λ (k : MemberSpec). k.node)
 
     own_jobs : AreJobs f (jobs_with till 0 gs) upcoming
     own_jobs = are_jobs f cut till 0 gs (own_cells 0 w.cells) comes.kept.cut.0 grouped.cuts (from_seen f (all_in gs) w.cells grouped.cells)
@@ -201,13 +205,13 @@ module _ {M : Type 0} (f : M → Record) (e : WindowEngine M) (is : IsUnderWay f
               let hosts = hosts_are in
               let cuts = comes.kept.cut in
               let b = within in
-              subst (All (λ (j : Job M). cell.MayAdvance f (length e.net.now.hosts) j)) (sym same)
-              (may_advance f cut till (length e.net.now.hosts) gs w.cells cuts.0 cuts.1 (omega arith) (omega arith) grouped.cuts
+              subst (All (λ (j : Job M). cell.MayAdvance f (length e.session.net.now.hosts) j)) (sym same)
+              (may_advance f cut till (length e.session.net.now.hosts) gs w.cells cuts.0 cuts.1 (omega arith) (omega arith) grouped.cuts
               (from_seen f (all_in gs) w.cells grouped.cells));
           few =
               let b = few_groups cut gs comes.kept.cut.0 grouped.cuts in
               let c = grouped.cells.as_many in
-              let most = few_members e.scenario.now is.accepted in
+              let most = few_members e.session.scenario.now is.accepted in
               omega (arith, a);
           placed = ap (map (λ (j : Job M). j.place)) same ∙ places_with f till 0 gs ∙ ap (range_with_len 0) (sym a);
           seen = subst (λ l. AreJobs f l upcoming) (sym same) own_jobs;
@@ -248,7 +252,7 @@ module _ {M : Type 0} (f : M → Record) (e : WindowEngine M) (is : IsUnderWay f
 
     -- what a crew's answer tells of the window
     pub mapped : (js : List (Job M)) → js ≡ jobs_with till 0 gs → (r : Vec (job.Done M) × SeatView)
-        → Maps f e.scenario.now e.net.now e.seat js (Ok r)
+        → Maps f e.session.scenario.now e.session.net.now e.seat js (Ok r)
         → WindowRan f e seed till w r.0.items × HasGrown (counted_in (crossings s.traffic (rows_of r.0.items))) e.seat r.1
     mapped js same r maps = let told = maps.tells upcoming (jobs_tell js same).seen in (window_ran r.0.items told.0, told.1)
 
@@ -298,7 +302,8 @@ module _ {M : Type 0} (f : M → Record) (e : WindowEngine M) (is : IsUnderWay f
       one_more = windows_follow s (rule_by e seed) begins w after v fit rule_is comes.windows is_next
           (subst (λ n. IsWindow s n w after) end_is window_is)
 
-      pub later : (begin n : ℕ) → BeginsNext f e begin → begin < e.scenario.now.until → n ≡ min e.scenario.now.until (start_of s after)
+      pub later : (begin n : ℕ) → BeginsNext f e begin → begin < e.session.scenario.now.until
+          → n ≡ min e.session.scenario.now.until (start_of s after)
           → begin < n
       later begin n at early is_next = grind (arith, one_more)
 
@@ -314,7 +319,7 @@ module _ {M : Type 0} (f : M → Record) (e : WindowEngine M) (is : IsUnderWay f
   pub jobs_tell_now : JobsTell f e is.seed till is.world js
   jobs_tell_now = jobs_tell f e is is.seed is.begins is.world is.comes till at js same
 
-  pub ran_now : (r : Vec (job.Done M) × SeatView) → Maps f e.scenario.now e.net.now e.seat js (Ok r)
+  pub ran_now : (r : Vec (job.Done M) × SeatView) → Maps f e.session.scenario.now e.session.net.now e.seat js (Ok r)
       → WindowRan f e is.seed till is.world r.0.items
   ran_now r maps = (mapped f e is is.seed is.begins is.world is.comes till at js same r maps).0
 
@@ -328,11 +333,11 @@ opened_counted s l links seat whole = grind (arith, replicate_zero, none_crossed
 -- ---- what was asked for
 
 -- what holds of an engine's run holds of the run that was asked for
-pub as_asked : {M : Type 0} (Q : Setting → (World → ℕ) → ℕ → Type 0) (e : WindowEngine M) (p : PlainScenario)
-    (net : Network) (c : Cutting) (asked : Windows) (seed : ℕ) → frame_of e ≡ (p, net, c.cut, c.ends) → TellsCutting p net asked (Ok c)
+pub as_asked : {M : Type 0} (Q : Setting → (World → ℕ) → ℕ → Type 0) (e : WindowEngine M) (at : Session)
+    (c : Cutting) (asked : Windows) (seed : ℕ) → frame_of e ≡ (at, c.cut, c.ends) → TellsCutting at.scenario.now at.net.now asked (Ok c)
     → Q (setting_by e seed) (rule_by e seed) e.groups.cut
-    → Q (setting_of p net seed) (rule_of (setting_of p net seed) net asked.width) asked.cut
-as_asked Q e p net c asked seed same told h = grind arith
+    → Q (setting_on at seed) (rule_of (setting_on at seed) at.net.now asked.width) asked.cut
+as_asked Q e at c asked seed same told h = grind arith
 
 -- what is told of what was asked for, where it is told why the run gave no outcome
 pub asked_told : (A : Type 0) (net : Network) (asked : Windows) (x : StreamFault) (e : RunFault) → run_fault_in x ≡ Some e
@@ -358,14 +363,14 @@ refused_at_window took part s rule n from (halt.Sink (sink.Stopped k)) to h = tt
 
 -- what was left undone where such a run is refused memory
 pub windows_undone : {S : Type 0} (took part : S → List Row → S → Type 0) (stage : S → Stage) (A : Type 0) (s : Setting)
-    (rule : Setting → World → ℕ) (n : ℕ) (from : S) (x : Halt WindowFault) (to : S)
-    → TellsHalt took part (MayCome s (rule s) n) s from x to → stage to ≡ stage_after (sink_in {A = A} (Err x))
-    → UndoneAfter stage took part (MayLackWindow rule n s) s from (stream_fault_of run_fault_of x) to
-windows_undone took part stage A s rule n from (halt.Run window.NoMemory) to h at e = inr (inl h)
-windows_undone took part stage A s rule n from (halt.Run window.CountFull) to h at e = cc
-windows_undone took part stage A s rule n from (halt.Run window.ShareFull) to h at e = cc
-windows_undone took part stage A s rule n from (halt.Sink sink.NoMemory) to h at e = inr (inr (at, h))
-windows_undone took part stage A s rule n from (halt.Sink (sink.Stopped k)) to h at e = cc
+    (net : Network) (asked : Windows) (from : S) (x : Halt WindowFault) (to : S)
+    → TellsHalt took part (MayCome s (rule_of s net asked.width) asked.cut) s from x to → stage to ≡ stage_after (sink_in {A = A} (Err x))
+    → UndoneAfter stage took part (MayLackWindow s net asked) s from (stream_fault_of run_fault_of x) to
+windows_undone took part stage A s net asked from (halt.Run window.NoMemory) to h at e = inr (inl h)
+windows_undone took part stage A s net asked from (halt.Run window.CountFull) to h at e = cc
+windows_undone took part stage A s net asked from (halt.Run window.ShareFull) to h at e = cc
+windows_undone took part stage A s net asked from (halt.Sink sink.NoMemory) to h at e = inr (inr (at, h))
+windows_undone took part stage A s net asked from (halt.Sink (sink.Stopped k)) to h at e = cc
 
 -- ---- its end
 
@@ -392,12 +397,3 @@ counted_words f e is seed begins w comes totals long words =
     let t = (setting_by e seed).traffic in
     total_words totals e.seat.shares (crossings t w.trace) words
     (long ∙ ap (λ n. 5 * n) is.links ∙ sym (crossings_long t w.trace)) comes.counted.shares
-
--- the totals of an engine's run are those of the run that was asked for
-pub totals_from : {M : Type 0} (e : WindowEngine M) (p : PlainScenario) (net : Network) (seed : ℕ) (w : World) (totals : List ℕ)
-    → (e.scenario.now ≡ p) × (e.net.now ≡ net) → totals ≡ crossings (setting_by e seed).traffic w.trace
-    → totals ≡ crossings (setting_of p net seed).traffic w.trace
-totals_from e p net seed w totals given is =
-    let here : crossings (setting_by e seed).traffic w.trace ≡ crossings (setting_of p net seed).traffic w.trace =
-    λ k. crossings (setting_of (given.0 k) (given.1 k) seed).traffic w.trace in
-    is ∙ here

@@ -1,8 +1,6 @@
 -- What is seen of the engine, and what its calls tell.
 use Rattle.std.specs.Prelude.{◌≡◌, ◌<◌, ◌+◌, ◌^◌, ℕ, List, [], ◌∷◌, ◌++◌, length, Option, Some, None, Result, Ok, Err}
 use Rattle.srm_net.specs.declared.packet.Packet.{Packet}
-use Rattle.srm_net.specs.Network.{Network}
-use Rattle.srm_scenario.specs.Plain.{PlainScenario, network_of}
 use Rattle.srm_member.specs.declared.row.Row.{Row}
 use Rattle.srm_member.specs.Record.{Record}
 use Rattle.srm_cell.specs.Setting.{Traffic, Setting, traffic_of, setting_of}
@@ -14,7 +12,6 @@ use Rattle.srm_engine.specs.declared.engine.Engine.{Engine}
 use Rattle.srm_engine.specs.declared.step_fault.StepFault.{StepFault}
 use Rattle.srm_engine.specs.declared.step_fault.StepFault.TheVariants as fault
 use Rattle.srm_model.specs.World.{World, IsReached, step, opening}
-use Rattle.srm_engine.specs.Openings.{HoldOpeningRecords}
 use Rattle.srm_model.specs.Hearing.{IsUnheard, all_hear, heard_below}
 use Rattle.srm_engine.specs.Seen.{ShowCells}
 use Rattle.srm_model.specs.Totalled.{and_sent, MaySend}
@@ -28,23 +25,15 @@ MayRefuseStep o fault.CountFull = o ≡ Full
 module _ {M : Type 0} where
   -- the traffic of an engine's scenario and network
   abbrev pub traffic_in : Engine M → Traffic
-  traffic_in e = traffic_of e.scenario.now e.net.now
+  traffic_in e = traffic_of e.session.scenario.now e.session.net.now
 
   -- their setting with a seed
   abbrev pub setting_in : Engine M → ℕ → Setting
-  setting_in e seed = setting_of e.scenario.now e.net.now seed
-
-  -- the network is the scenario's
-  abbrev pub IsSetUp : Engine M → Type 0
-  IsSetUp e = e.net.now ≡ network_of e.scenario.now
-
-  -- the second engine is of the scenario and network of the first
-  abbrev pub IsStillOf : Engine M → Engine M → Type 0
-  IsStillOf old new = (new.scenario ≡ old.scenario) × (new.net ≡ old.net)
+  setting_in e seed = setting_of e.session.scenario.now e.session.net.now seed
 
   -- the engine has counted these packets
   abbrev pub HasCounted : Engine M → List Packet → Type 0
-  HasCounted e ps = Tallies e.scenario.now e.net.now ps e.tally
+  HasCounted e ps = Tallies e.session.scenario.now e.session.net.now ps e.tally
 
   -- the engine is seen as this world: its cells, and the count of the trace's packets
   pub record Shows (f : M → Record) (e : Engine M) (w : World) : Type 0 where
@@ -71,7 +60,7 @@ module _ {M : Type 0} where
   abbrev pub MaySendNow : (M → Record) → Engine M → Option Packet → Type 0
   MaySendNow f e sent =
       (ps : List PlainCell) × (qs : List Packet) × ShowCells f e.cells ps × HasCounted e qs
-      × MaySend (length e.scenario.now.members) ps qs sent
+      × MaySend (length e.session.scenario.now.members) ps qs sent
 
   -- after a packet was sent, if any was: all cells have heard it, and it is counted
   abbrev pub Sends : (M → Record) → Option Packet → Engine M → Engine M → Type 0
@@ -82,8 +71,8 @@ module _ {M : Type 0} where
   -- a packet may be handed out: members sent it before the latest end of all, and it is new to the cells of all members
   pub record MayDeliver (f : M → Record) (p : Packet) (e : Engine M) : Type 0 where
     pub sent : p.sent < end_of_time
-    pub sender : p.id.sender < length e.scenario.now.members
-    pub members : length e.cells.cells.items ≡ length e.scenario.now.members
+    pub sender : p.id.sender < length e.session.scenario.now.members
+    pub members : length e.cells.cells.items ≡ length e.session.scenario.now.members
     pub cells : List PlainCell
     pub seen : ShowCells f e.cells cells
     pub new : IsUnheard p.id cells
@@ -97,7 +86,3 @@ module _ {M : Type 0} where
   -- the engine is seen as the opening world with a seed
   abbrev pub IsOpened : (M → Record) → ℕ → Engine M → Type 0
   IsOpened f seed e = Shows f e (opening (setting_in e seed))
-
-  -- so for every seed whose opening records the boxes hold
-  abbrev pub OpensFrom : (M → Record) → PlainScenario → Network → List Record → Engine M → Type 0
-  OpensFrom f p net rs e = (seed : ℕ) → HoldOpeningRecords p net seed rs → IsOpened f seed e

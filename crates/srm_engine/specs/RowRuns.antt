@@ -1,11 +1,10 @@
 -- Runs that hand their rows to a sink and are asked for no exits: what they tell, and when memory is refused to them.
 use Rattle.std.specs.Prelude.{◌≡◌, ◌⊎◌, ℕ, List, Result, Ok, Err, IfErr}
 use Rattle.srm_net.specs.Network.{Network}
-use Rattle.srm_scenario.specs.Plain.{PlainScenario}
+use Rattle.srm_engine.specs.declared.width.Windows.{Windows}
 use Rattle.srm_member.specs.declared.row.Row.{Row}
 use Rattle.srm_member.specs.declared.exit.Exit.{Exit}
-use Rattle.srm_member.specs.Record.{Record}
-use Rattle.srm_cell.specs.Setting.{Setting, setting_of}
+use Rattle.srm_cell.specs.Setting.{Setting}
 use Rattle.srm_interfaces.specs.declared.sink.SinkFault.TheVariants as sink
 use Rattle.srm_interfaces.specs.declared.sink.Stage.{Stage}
 use Rattle.srm_interfaces.specs.declared.sink.Stage.TheVariants.{Refused}
@@ -14,9 +13,8 @@ use Rattle.srm_engine.specs.declared.window_fault.WindowFault.TheVariants as win
 use Rattle.srm_engine.specs.declared.stream_fault.StreamFault.{StreamFault}
 use Rattle.srm_engine.specs.declared.stream_fault.StreamFault.TheVariants.{Run}
 use Rattle.srm_model.specs.World.{World, IsLast, IsOutcome}
-use Rattle.srm_engine.specs.Openings.{HoldOpeningRecords}
 use Rattle.srm_engine.specs.Streams.{TakesTraceFront, TakesUpTo}
-use Rattle.srm_engine.specs.Windowed.{MayCome}
+use Rattle.srm_engine.specs.Windowed.{MayCome, rule_of}
 
 -- ---- totals
 
@@ -28,28 +26,17 @@ module _ {S : Type 0} (took part : S → List Row → S → Type 0) where
       (rows : List Row) × (exits : List Exit) × IsOutcome s rows exits totals × took old rows new
   TellsTotals s old (Err e) new = TakesTraceFront took part s old new
 
-  -- so for every seed whose opening records the boxes hold
-  abbrev pub TotalsFrom : PlainScenario → Network → List Record → S → Result (List ℕ) StreamFault → S → Type 0
-  TotalsFrom p net rs old r new = (seed : ℕ) → HoldOpeningRecords p net seed rs
-      → TellsTotals (setting_of p net seed) old r new
-
   -- what an engine tells that handed on the rows of a run: it is seen as the last world of the sequential run, of which
   -- the sink took the trace; or the sink took no more than a front of it
   abbrev pub TellsLast : {E : Type 0} → (E → World → Type 0) → Setting → S → Result E StreamFault → S → Type 0
   TellsLast is_seen_as s old (Ok e) new = (w : World) × IsLast s w × took old w.trace new × is_seen_as e w
   TellsLast is_seen_as s old (Err x) new = TakesTraceFront took part s old new
 
-  -- so for every seed whose opening records the boxes hold
-  abbrev pub LastFrom : {E : Type 0} → (ℕ → E → World → Type 0) → PlainScenario → Network → List Record
-      → S → Result E StreamFault → S → Type 0
-  LastFrom is_seen_as p net rs old r new = (seed : ℕ) → HoldOpeningRecords p net seed rs
-      → TellsLast (is_seen_as seed) (setting_of p net seed) old r new
-
 -- ---- memory
 
 -- memory may be refused to the window that begins in a world of a run, where windows end so and jobs are so large
-abbrev pub MayLackWindow : (Setting → World → ℕ) → ℕ → Setting → World → Type 0
-MayLackWindow rule cut s w = MayCome s (rule s) cut w window.NoMemory
+abbrev pub MayLackWindow : Setting → Network → Windows → World → Type 0
+MayLackWindow s net asked w = MayCome s (rule_of s net asked.width) asked.cut w window.NoMemory
 
 module _ {S : Type 0} (stage : S → Stage) (took part : S → List Row → S → Type 0) where
   -- where memory is refused to a run that hands its rows to a sink, it left something undone: the sink is as it was; or
@@ -65,8 +52,6 @@ module _ {S : Type 0} (stage : S → Stage) (took part : S → List Row → S �
   abbrev pub UndoneAfter : (World → Type 0) → Setting → S → StreamFault → S → Type 0
   UndoneAfter may_lack s old x new = x ≡ Run fault.NoMemory → IsUndone may_lack s old new
 
-  -- so for every seed whose opening records the boxes hold
-  abbrev pub UndoneFrom : {A : Type 0} → (Setting → World → Type 0) → PlainScenario → Network → List Record
-      → S → Result A StreamFault → S → Type 0
-  UndoneFrom may_lack p net rs old r new = (seed : ℕ) → HoldOpeningRecords p net seed rs
-      → IfErr r (λ f. UndoneAfter (may_lack (setting_of p net seed)) (setting_of p net seed) old f new)
+  -- so of what a run answers
+  abbrev pub TellsUndone : {A : Type 0} → (World → Type 0) → Setting → S → Result A StreamFault → S → Type 0
+  TellsUndone may_lack s old r new = IfErr r (λ x. UndoneAfter may_lack s old x new)

@@ -2,12 +2,10 @@
 use Rattle.std.specs.Prelude.{◌≡◌, ◌⊎◌, ◌<◌, ◌≤◌, ◌^◌, ℕ, List, ◌++◌, length, Option, Some, None, Result, Ok, Err}
 use Rattle.std.specs.Prelude.{MatchResult, IfErr}
 use Rattle.std.specs.Global.{Vec}
-use Rattle.srm_net.specs.Network.{Network}
-use Rattle.srm_scenario.specs.Plain.{PlainScenario}
 use Rattle.srm_member.specs.declared.row.Row.{Row}
 use Rattle.srm_member.specs.declared.exit.Exit.{Exit}
 use Rattle.srm_member.specs.Record.{Record}
-use Rattle.srm_cell.specs.Setting.{Setting, setting_of}
+use Rattle.srm_cell.specs.Setting.{Setting}
 use Rattle.srm_cell.specs.Cells.{Idle, Full}
 use Rattle.srm_cell.specs.Views.{HasWork}
 use Rattle.srm_engine.specs.declared.engine.Engine.{Engine}
@@ -25,7 +23,6 @@ use Rattle.srm_engine.specs.declared.stream_fault.StreamFault.{StreamFault}
 use Rattle.srm_engine.specs.declared.stream_fault.StreamFault.TheVariants.{Run, Stopped}
 use Rattle.srm_interfaces.specs.Sinks.{most_rows}
 use Rattle.srm_model.specs.World.{World, IsReached, IsLast, IsOutcome, step}
-use Rattle.srm_engine.specs.Openings.{HoldOpeningRecords}
 use Rattle.srm_engine.specs.Engines.{Shows, IsOpened, setting_in}
 
 -- ---- refusals
@@ -105,12 +102,6 @@ module _ {S : Type 0} (took part : S → List Row → S → Type 0) where
   TellsStream s old (Ok v) new = (rows : List Row) × IsOutcome s rows v.0.items v.1 × took old rows new
   TellsStream s old (Err e) new = TakesTraceFront s old new
 
-  -- so for every seed whose opening records the boxes hold
-  abbrev pub StreamsFrom : PlainScenario → Network → List Record → S → Result (Vec Exit × List ℕ) StreamFault → S
-      → Type 0
-  StreamsFrom p net rs old r new = (seed : ℕ) → HoldOpeningRecords p net seed rs
-      → TellsStream (setting_of p net seed) old r new
-
   -- when a run that is not cut into windows is refused: for memory, or as its sink was; and where the packet count is
   -- used up less than a piece after the rows that the sink took
   abbrev pub MeetsRefusal : Setting → S → StreamFault → S → Type 0
@@ -119,10 +110,9 @@ module _ {S : Type 0} (took part : S → List Row → S → Type 0) where
   MeetsRefusal s old (Run e) new = ⊥
   MeetsRefusal s old (Stopped n) new = Unit {0}
 
-  -- so for every seed whose opening records the boxes hold
-  abbrev pub RefusedFrom : {A : Type 0} → PlainScenario → Network → List Record → S → Result A StreamFault → S → Type 0
-  RefusedFrom p net rs old r new = (seed : ℕ) → HoldOpeningRecords p net seed rs
-      → IfErr r (λ x. MeetsRefusal (setting_of p net seed) old x new)
+  -- so where it is refused
+  abbrev pub TellsRefusal : {A : Type 0} → Setting → S → Result A StreamFault → S → Type 0
+  TellsRefusal s old r new = IfErr r (λ x. MeetsRefusal s old x new)
 
 -- ---- pieces
 

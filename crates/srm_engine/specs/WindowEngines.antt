@@ -1,13 +1,12 @@
 -- What is seen of the engine in windows, and what its calls tell.
 use Rattle.std.specs.Prelude.{◌≡◌, ℕ, List, [], ◌∷◌, ◌++◌, length, map, min, Result, Ok, Err, MatchResult}
 use Rattle.std.specs.Global.{Vec}
-use Rattle.srm_net.specs.Network.{Network}
-use Rattle.srm_scenario.specs.Plain.{PlainScenario, network_of}
+use Rattle.srm_scenario.specs.declared.session.Session.{Session}
 use Rattle.srm_scenario.specs.Accepted.{IsAccepted}
 use Rattle.srm_member.specs.declared.row.Row.{Row}
 use Rattle.srm_member.specs.declared.exit.Exit.{Exit}
 use Rattle.srm_member.specs.Record.{Record}
-use Rattle.srm_cell.specs.Setting.{Setting, setting_of}
+use Rattle.srm_cell.specs.Setting.{Setting}
 use Rattle.srm_cell.specs.Crossings.{crossings}
 use Rattle.srm_cell.specs.Cells.{Event}
 use Rattle.srm_cell.specs.Jobs as cell
@@ -22,6 +21,7 @@ use Rattle.srm_engine.specs.declared.window_fault.WindowFault.{WindowFault}
 use Rattle.srm_engine.specs.declared.window_fault.WindowFault.TheVariants.{NoMemory}
 use Rattle.srm_engine.specs.Ends.{ends_rule, MayEnd}
 use Rattle.srm_engine.specs.Groups.{AreKept}
+use Rattle.srm_engine.specs.Starts.{setting_on}
 use Rattle.srm_engine.specs.Streams.{TellsHalt}
 use Rattle.srm_engine.specs.Windowed.{IsCounted, MayCome, MayRefuseWindow}
 
@@ -38,13 +38,13 @@ module _ {S : Type 0} (took part : S → List Row → S → Type 0) where
   HandsLists lists old (Err (halt.Sink e)) new = (rows : List Row) × IsMerge lists rows × part old rows new
 
 module _ {M : Type 0} where
-  -- what an engine's run is of: its scenario and network, how many cells a job has, and where windows end
-  abbrev pub frame_of : WindowEngine M → PlainScenario × Network × ℕ × Ends
-  frame_of e = (e.scenario.now, e.net.now, e.groups.cut, e.ends)
+  -- what an engine's run is of: its session, how many cells a job has, and where windows end
+  abbrev pub frame_of : WindowEngine M → Session × ℕ × Ends
+  frame_of e = (e.session, e.groups.cut, e.ends)
 
   -- the setting of its run with a seed
   abbrev pub setting_by : WindowEngine M → ℕ → Setting
-  setting_by e seed = setting_of e.scenario.now e.net.now seed
+  setting_by e seed = setting_on e.session seed
 
   -- where the windows of that run end
   abbrev pub rule_by : WindowEngine M → ℕ → World → ℕ
@@ -58,21 +58,20 @@ module _ {M : Type 0} where
     pub kept : AreKept f (setting_by e seed) e.groups w.cells
     pub counted : IsCounted (setting_by e seed).traffic e.ledger w.trace e.seat
 
-  -- the run is under way: its scenario is accepted, the network is the scenario's, the ledger has the network's links,
-  -- windows may end so, and some of them came to what the engine is seen as
+  -- the run is under way: its scenario is accepted, the ledger has the network's links, windows may end so, and some of
+  -- them came to what the engine is seen as
   pub record IsUnderWay (f : M → Record) (e : WindowEngine M) : Type 0 where
-    pub accepted : IsAccepted e.scenario.now
-    pub network : e.net.now ≡ network_of e.scenario.now
-    pub links : e.ledger.links ≡ length e.net.now.links
-    pub ends : MayEnd e.net.now e.ends
+    pub accepted : IsAccepted e.session.scenario.now
+    pub links : e.ledger.links ≡ length e.session.net.now.links
+    pub ends : MayEnd e.session.net.now e.ends
     pub seed : ℕ
     pub begins : List World
     pub world : World
     pub comes : ComesTo f seed e begins world
 
-  -- windows came to this world, as which the engine is seen
-  abbrev pub IsAt : (M → Record) → ℕ → WindowEngine M → World → Type 0
-  IsAt f seed e w = (begins : List World) × ComesTo f seed e begins w
+  -- windows of a run with this setting came to this world, as which the engine is seen
+  abbrev pub IsAt : (M → Record) → Setting → WindowEngine M → World → Type 0
+  IsAt f s e w = (seed : ℕ) × (s ≡ setting_by e seed) × ((begins : List World) × ComesTo f seed e begins w)
 
   -- the engine is seen as the opening world with a seed
   abbrev pub OpensAt : (M → Record) → ℕ → WindowEngine M → Type 0
@@ -82,7 +81,7 @@ module _ {M : Type 0} where
   abbrev pub BeginsNext : (M → Record) → WindowEngine M → ℕ → Type 0
   BeginsNext f e begin =
       (seed : ℕ) (begins : List World) (w : World) → ComesTo f seed e begins w
-      → begin ≡ min e.scenario.now.until (start_of (setting_by e seed) w)
+      → begin ≡ min e.session.scenario.now.until (start_of (setting_by e seed) w)
 
   -- something is pending, and the window in which it is handled ends at this tick
   abbrev pub EndsNext : (M → Record) → WindowEngine M → ℕ → Type 0

@@ -1,10 +1,8 @@
 -- Runs in windows that hand their rows to a sink, and what they tell.
 use Rattle.std.specs.Prelude.{◌≡◌, ◌⊎◌, ℕ, List, Result, Ok, Err, IfErr, IfSome}
 use Rattle.srm_net.specs.Network.{Network}
-use Rattle.srm_scenario.specs.Plain.{PlainScenario}
 use Rattle.srm_member.specs.declared.row.Row.{Row}
-use Rattle.srm_member.specs.Record.{Record}
-use Rattle.srm_cell.specs.Setting.{Setting, setting_of}
+use Rattle.srm_cell.specs.Setting.{Setting}
 use Rattle.srm_cell.specs.Jobs as cell
 use Rattle.srm_engine.specs.declared.width.Windows.{Windows}
 use Rattle.srm_engine.specs.declared.fault.RunFault.TheVariants as fault
@@ -13,9 +11,8 @@ use Rattle.srm_engine.specs.declared.stream_fault.StreamFault.TheVariants.{Run, 
 use Rattle.srm_engine.specs.declared.window_fault.WindowFault.TheVariants as window
 use Rattle.srm_model.specs.World.{World, IsLast}
 use Rattle.srm_model.specs.WindowChains.{AreWindows, window_jobs}
-use Rattle.srm_engine.specs.Openings.{HoldOpeningRecords}
 use Rattle.srm_engine.specs.Streams.{run_fault_in, TakesUpTo}
-use Rattle.srm_engine.specs.Windowed.{IsCut, MayBeWide, TellsRunAsked, MayRefuse, MayCome}
+use Rattle.srm_engine.specs.Windowed.{rule_of, IsCut, MayBeWide, TellsRunAsked, MayRefuse, MayCome}
 
 -- ---- what is asked for
 
@@ -41,12 +38,10 @@ module _ {S : Type 0} (took part : S → List Row → S → Type 0) where
   RefusedAtWindow s rule cut old (Run e) new = Unit {0}
   RefusedAtWindow s rule cut old (Stopped n) new = Unit {0}
 
-  -- so for every seed whose opening records the boxes hold
-  abbrev pub RefusedInWindows : {A : Type 0} → PlainScenario → Network → List Record → (Setting → World → ℕ) → ℕ → S
-      → Result A StreamFault → S → Type 0
-  RefusedInWindows p net rs rule cut old r new =
-      (seed : ℕ) → HoldOpeningRecords p net seed rs
-      → IfErr r (λ x. RefusedAtWindow (setting_of p net seed) (rule (setting_of p net seed)) cut old x new)
+  -- so of what a run answers that is asked for so
+  abbrev pub RefusedInWindows : {A : Type 0} → Setting → Network → Windows → S → Result A StreamFault → S → Type 0
+  RefusedInWindows s net asked old r new = IfErr r (λ x. RefusedAtWindow s
+      (rule_of s net asked.width) asked.cut old x new)
 
 -- ---- calls of a crew
 
@@ -62,9 +57,6 @@ module _ {C : Type 0} (handed : C → List (List cell.PlainJob) → C → Type 0
       × handed old (window_jobs rule cut begins) new
   TellsCalls s rule cut old (Err e) new = MeetsWindowRefusal s rule cut old e new
 
-  -- so for every seed whose opening records the boxes hold
-  abbrev pub CallsInWindows : {A : Type 0} → PlainScenario → Network → List Record → (Setting → World → ℕ) → ℕ → C
-      → Result A StreamFault → C → Type 0
-  CallsInWindows p net rs rule cut old r new =
-      (seed : ℕ) → HoldOpeningRecords p net seed rs
-      → TellsCalls (setting_of p net seed) (rule (setting_of p net seed)) cut old r new
+  -- so of a run that is asked for so
+  abbrev pub CallsInWindows : {A : Type 0} → Setting → Network → Windows → C → Result A StreamFault → C → Type 0
+  CallsInWindows s net asked old r new = TellsCalls s (rule_of s net asked.width) asked.cut old r new

@@ -10,7 +10,6 @@ use crate::next_times::NextTimes;
 use srm_cell::cell::Cell;
 use srm_cell::fault::CellFault;
 use srm_member::exit::Exit;
-use srm_member::member::Member;
 use srm_member::participant::Participant;
 use srm_member::row::Row;
 use srm_net::packet::Packet;
@@ -62,16 +61,16 @@ pub(crate) fn finish_cells<M: Participant>(
 
 /// The cells of all members in order of their numbers, and their next times.
 #[derive(Drop)]
-pub(crate) struct Cells<M = Box<dyn Member>> {
+pub(crate) struct Cells<M> {
     pub(crate) cells: Vec<Cell<M>>,
     pub(crate) times: NextTimes,
 }
 
-impl Cells {
+impl<M: Participant> Cells<M> {
     /// These cells, their next times found.
-    pub(crate) fn of(alloc: Global, cells: Vec<Cell>) -> Result<Cells, AllocError>
+    pub(crate) fn of(alloc: Global, cells: Vec<Cell<M>>) -> Result<Cells<M>, AllocError>
         requires { length cells.items ≤ 65536 }
-        ensures { IfOk result (λ indexed. IsIndexOf (λ b. plain b) cells.items indexed) }
+        ensures { IfOk result (λ indexed. IsIndexOf M.plain cells.items indexed) }
     {
         let times = NextTimes::of(alloc, next_times(alloc, cells.as_slice())?)?;
         Ok(Cells { cells, times })
@@ -88,7 +87,7 @@ impl Cells {
         requires till { till ≤ end_of_time }
         requires cell { member < length self.old.cells.items }
         requires time { member < length self.old.times }
-        ensures { PutsStep (λ r. TakesStep (λ b. plain b) member till self.old r self.new) rows.old.items result rows.new.items }
+        ensures { PutsStep (λ r. TakesStep M.plain member till self.old r self.new) rows.old.items result rows.new.items }
     {
         let cell = &mut self.cells[usize::from(member)];
         let is_event = match cell.step_onto(alloc, till, rows) {
@@ -105,7 +104,7 @@ impl Cells {
         requires cell { member < length self.old.cells.items }
         requires time { member < length self.old.times }
         requires new { IsNewAt member packet.now.id self.old }
-        ensures { IfOk result (λ _. HandsTo (λ b. plain b) member packet.now at self.old self.new) }
+        ensures { IfOk result (λ _. HandsTo M.plain member packet.now at self.old self.new) }
     {
         let cell = &mut self.cells[usize::from(member)];
         let Ok(()) = cell.accept(packet, at) else {
@@ -118,8 +117,11 @@ impl Cells {
 }
 
 // The next time of each cell, in order.
-fn next_times(alloc: Global, cells: &[Cell]) -> Result<Vec<Option<u64>>, AllocError>
-    ensures { IfOk result (λ times. AreNextTimes (λ b. plain b) cells.now times.items) }
+fn next_times<M: Participant>(
+    alloc: Global,
+    cells: &[Cell<M>],
+) -> Result<Vec<Option<u64>>, AllocError>
+    ensures { IfOk result (λ times. AreNextTimes M.plain cells.now times.items) }
 {
     let mut times = Vec::with_capacity(alloc, cells.len())?;
     for cell in cells {

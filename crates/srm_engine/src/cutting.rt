@@ -1,14 +1,12 @@
 //! How a run is cut, once it was checked.
 ghost use Rattle.std.specs.Prelude.{◌≡◌};
-ghost use Rattle.srm_scenario.specs.Plain.{network_of};
 ghost use Rattle.srm_engine.specs.Ends.{TellsCutting};
 
 use crate::ends::Ends;
 use crate::fault::RunFault;
 use crate::stream_fault::StreamFault;
 use crate::width::Windows;
-use srm_net::net::Net;
-use srm_scenario::scenario::Scenario;
+use srm_scenario::session::Session;
 
 /// How a run is cut: it was checked that it may be cut so.
 #[derive(Drop)]
@@ -33,18 +31,13 @@ impl Cutting {
     ///
     /// # Errors
     /// `BadCut` comes before `BadWidth`.
-    pub(crate) fn of(
-        scenario: &Scenario,
-        net: &Net,
-        asked: Windows,
-    ) -> Result<Cutting, CuttingFault>
-        requires network { net.now ≡ network_of scenario.now }
-        ensures { TellsCutting scenario.now net.now asked result }
+    pub(crate) fn of(session: Session, asked: Windows) -> Result<Cutting, CuttingFault>
+        ensures { TellsCutting session.entry.scenario.now session.entry.net.now asked result }
     {
         if asked.cut == 0 || asked.cut > 1024 {
             return Err(CuttingFault::BadCut);
         }
-        let Some(ends) = Ends::of(scenario, net, asked.width) else {
+        let Some(ends) = Ends::of(session, asked.width) else {
             return Err(CuttingFault::BadWidth);
         };
         let cut = asked.cut as usize;

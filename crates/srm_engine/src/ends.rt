@@ -1,10 +1,10 @@
 //! Where windows end.
 ghost use Rattle.std.specs.Prelude.{◌≡◌, ◌<◌, ◌≤◌, ◌+◌, ◌↔◌, ℕ, IsTrue, min, length};
-ghost use Rattle.srm_scenario.specs.Plain.{network_of};
 ghost use Rattle.srm_cell.specs.Setting.{Setting, setting_of};
 ghost use Rattle.srm_model.specs.World.{World};
 ghost use Rattle.srm_model.specs.Windows.{IsWidth, way_of};
 ghost use Rattle.srm_model.specs.WindowChains.{least_width};
+ghost use Rattle.srm_engine.specs.Starts.{setting_on};
 ghost use Rattle.srm_engine.specs.Ends.{ends_rule, BeginsAt, TellsRule};
 
 use crate::soonest::{Soonest, least_promise};
@@ -12,6 +12,7 @@ use crate::width::Width;
 use srm_net::net::Net;
 use srm_net::role::Role;
 use srm_scenario::scenario::Scenario;
+use srm_scenario::session::Session;
 
 /// Where the windows of a run end.
 #[derive(Drop)]
@@ -24,14 +25,13 @@ pub(crate) enum Ends {
 
 impl Ends {
     /// Where windows of this width end, if they may be so wide.
-    pub(crate) fn of(scenario: &Scenario, net: &Net, width: Width) -> Option<Ends>
-        requires network { net.now ≡ network_of scenario.now }
-        ensures { TellsRule scenario.now net.now width result }
+    pub(crate) fn of(session: Session, width: Width) -> Option<Ends>
+        ensures { TellsRule session.entry.scenario.now session.entry.net.now width result }
     {
         match width {
-            Width::Least => Some(Ends::After(widest(scenario, net))),
+            Width::Least => Some(Ends::After(widest(session.scenario, session.net))),
             Width::Ticks(ticks) => {
-                if may_be_wide(net, ticks) {
+                if may_be_wide(session.net, ticks) {
                     Some(Ends::After(ticks))
                 } else {
                     None
@@ -89,13 +89,12 @@ fn may_be_wide(net: &Net, ticks: u64) -> bool
 }
 
 /// The least way that a member's packets have before them, in ticks: that to the nearest other member. A listener sends none.
-pub(crate) fn way(scenario: &Scenario, net: &Net, member: u16) -> Option<u64>
-    requires network { net.now ≡ network_of scenario.now }
-    requires member { member < length scenario.now.members }
-    ensures { (seed : ℕ) → result ≡ way_of (setting_of scenario.now net.now seed) member }
+pub(crate) fn way(session: Session, member: u16) -> Option<u64>
+    requires member { member < length session.scenario.now.members }
+    ensures { (seed : ℕ) → result ≡ way_of (setting_on session.entry seed) member }
 {
-    let nearest = net.out(member);
-    match scenario.role(member) {
+    let nearest = session.net.out(member);
+    match session.scenario.role(member) {
         Role::Listener => None,
         _ => nearest,
     }

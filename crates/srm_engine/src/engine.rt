@@ -1,31 +1,29 @@
 //! The sequential engine.
 ghost use Rattle.std.specs.Prelude.{◌≡◌, ◌<◌, ◌≤◌, ◌+◌, ◌-◌, ◌^◌, ℕ, IfOk, length, map};
 ghost use Rattle.srm_net.specs.Spreads.{IsSpread};
-ghost use Rattle.srm_scenario.specs.Plain.{network_of};
 ghost use Rattle.srm_cell.specs.PutRows.{PutsStep};
-ghost use Rattle.srm_engine.specs.Openings.{HoldOpeningRecords};
-ghost use Rattle.srm_engine.specs.Engines.{IsSetUp, IsStillOf, MayStep, StepsOn, MaySendNow, Sends, MayDeliver, Delivers, IsOpened, OpensFrom};
+ghost use Rattle.srm_engine.specs.Starts.{AreOpening, InRunsOn};
+ghost use Rattle.srm_engine.specs.Engines.{MayStep, StepsOn, MaySendNow, Sends, MayDeliver, Delivers, IsOpened};
 ghost use Rattle.srm_engine.specs.Engines.{Shows};
 ghost use Rattle.srm_interfaces.specs.Sinks.{IsOpen, stage_after, stops_in};
 ghost use Rattle.srm_engine.specs.Streams.{sink_in, MayTake, TakesSteps, StreamsRows, StandsAs, stopped_in, MayLackSteps};
-ghost use Rattle.srm_engine.specs.Streams.{RefusedFrom};
-ghost use Rattle.srm_engine.specs.RowRuns.{LastFrom, UndoneFrom};
+ghost use Rattle.srm_engine.specs.Streams.{TellsRefusal};
+ghost use Rattle.srm_engine.specs.RowRuns.{TellsLast, TellsUndone};
+ghost use Rattle.srm_model.specs.World.{opening};
 
 use crate::cells::{Cells, open_cells};
 use crate::halt::Halt;
 use crate::handing::hand_none;
-use crate::start::Start;
 use crate::step_fault::StepFault;
 use crate::stream_fault::StreamFault;
 use srm_cell::arrival::arrival;
 use srm_cell::tally::Tally;
 use srm_interfaces::sink::RowSink;
-use srm_member::member::Member;
+use srm_member::participant::Participant;
 use srm_member::row::Row;
-use srm_net::net::Net;
 use srm_net::packet::Packet;
 use srm_net::spread::Spread;
-use srm_scenario::scenario::Scenario;
+use srm_scenario::session::Session;
 use std::alloc::{AllocError, Global};
 
 // How many rows are handed on at a time.
@@ -36,32 +34,27 @@ const MOST_PIECES: u64 = 144_115_188_075_855_872;
 
 /// A run of a scenario: the cells of all members, and the totals so far.
 #[derive(Drop)]
-pub(crate) struct Engine<'a, M = Box<dyn Member>> {
-    pub(crate) scenario: &'a Scenario,
-    pub(crate) net: &'a Net,
+pub(crate) struct Engine<'a, M> {
+    pub(crate) session: Session<'a>,
     pub(crate) cells: Cells<M>,
     pub(crate) tally: Tally,
 }
 
-impl<'a> Engine<'a> {
+impl<'a, M: Participant> Engine<'a, M> {
     /// The cells of all members at the beginning, nothing counted.
     pub(crate) fn open(
         alloc: Global,
-        scenario: &'a Scenario,
-        net: &'a Net,
-        members: Vec<Box<dyn Member>>,
-    ) -> Result<Engine<'a>, AllocError>
-        requires network { net.now ≡ network_of scenario.now }
-        requires boxes { (seed : ℕ) × HoldOpeningRecords scenario.now net.now seed (map (λ b. plain b) members.items) }
-        ensures given { IfOk result (λ e. (e.scenario.now ≡ scenario.now) × (e.net.now ≡ net.now)) }
-        ensures opened { IfOk result (λ e. OpensFrom (λ b. plain b) scenario.now net.now
-            (map (λ b. plain b) members.items) e) }
+        session: Session<'a>,
+        members: Vec<M>,
+    ) -> Result<Engine<'a, M>, AllocError>
+        requires boxes { AreOpening session (map M.plain members.items) }
+        ensures session { IfOk result (λ e. e.session ≡ session.entry) }
+        ensures opened { IfOk result (λ e. InRunsOn session.entry (map M.plain members.items) (λ s. Shows M.plain e (opening s))) }
     {
-        let tally = Tally::new(alloc, net.links().len() as u16)?;
-        let cells = Cells::of(alloc, open_cells(alloc, scenario, members)?)?;
+        let tally = Tally::new(alloc, session.net.links().len() as u16)?;
+        let cells = Cells::of(alloc, open_cells(alloc, session.scenario, members)?)?;
         Ok(Engine {
-            scenario,
-            net,
+            session,
             cells,
             tally,
         })
@@ -71,31 +64,25 @@ impl<'a> Engine<'a> {
     /// After the last of them it asks for no memory.
     pub(crate) fn run<S: RowSink>(
         alloc: Global,
-        start: Start<'a>,
+        session: Session<'a>,
+        members: Vec<M>,
         sink: &mut S,
-    ) -> Result<Engine<'a>, StreamFault>
-        requires network { start.net.now ≡ network_of start.scenario.now }
-        requires boxes { (seed : ℕ) × HoldOpeningRecords start.scenario.now start.net.now seed
-            (map (λ b. plain b) start.members.items) }
+    ) -> Result<Engine<'a, M>, StreamFault>
+        requires boxes { AreOpening session (map M.plain members.items) }
         requires open { IsOpen (S.stage sink.old) }
         requires failures { S.failures sink.old < 2 ^ 64 - 1 }
-        ensures given { IfOk result (λ e. (e.scenario.now ≡ start.entry.scenario.now) × (e.net.now ≡ start.entry.net.now)) }
+        ensures session { IfOk result (λ e. e.session ≡ session.entry) }
         ensures device { S.same sink.old sink.new }
         ensures stands { StandsAs result (S.stage sink.new) }
         ensures failures { S.failures sink.new ≡ S.failures sink.old + stopped_in result }
-        ensures last { LastFrom S.took S.part (λ _. Shows (λ b. plain b)) start.entry.scenario.now start.entry.net.now
-            (map (λ b. plain b) start.entry.members.items) sink.old result sink.new }
-        ensures refused { RefusedFrom S.took S.part start.entry.scenario.now start.entry.net.now
-            (map (λ b. plain b) start.entry.members.items) sink.old result sink.new }
-        ensures undone { UndoneFrom S.stage S.took S.part MayLackSteps start.entry.scenario.now start.entry.net.now
-            (map (λ b. plain b) start.entry.members.items) sink.old result sink.new }
+        ensures last { InRunsOn session.entry (map M.plain members.items)
+            (λ s. TellsLast S.took S.part (Shows M.plain) s sink.old result sink.new) }
+        ensures refused { InRunsOn session.entry (map M.plain members.items)
+            (λ s. TellsRefusal S.took S.part s sink.old result sink.new) }
+        ensures undone { InRunsOn session.entry (map M.plain members.items)
+            (λ s. TellsUndone S.stage S.took S.part (MayLackSteps s) s sink.old result sink.new) }
     {
-        let Start {
-            scenario,
-            net,
-            members,
-        } = start;
-        let mut engine = match Engine::open(alloc, scenario, net, members) {
+        let mut engine = match Engine::open(alloc, session, members) {
             Ok(engine) => engine,
             Err(error) => return Err(error.into()),
         };
@@ -112,15 +99,14 @@ impl<'a> Engine<'a> {
         alloc: Global,
         sink: &mut S,
     ) -> Result<(), Halt<StepFault>>
-        requires network { IsSetUp self.old }
-        requires opened { (seed : ℕ) × IsOpened (λ b. plain b) seed self.old }
+        requires opened { (seed : ℕ) × IsOpened M.plain seed self.old }
         requires open { IsOpen (S.stage sink.old) }
         requires failures { S.failures sink.old < 2 ^ 64 - 1 }
-        ensures same { IsStillOf self.old self.new }
+        ensures session { self.new.session ≡ self.old.session }
         ensures device { S.same sink.old sink.new }
         ensures stage { S.stage sink.new ≡ stage_after (sink_in result) }
         ensures failures { S.failures sink.new ≡ S.failures sink.old + stops_in (sink_in result) }
-        ensures rows { StreamsRows S.took S.part (λ b. plain b) self.old sink.old result
+        ensures rows { StreamsRows S.took S.part M.plain self.old sink.old result
             sink.new self.new }
     {
         if let Err(fault) = hand_none(alloc, sink) {
@@ -146,11 +132,10 @@ impl<'a> Engine<'a> {
 
     /// Steps, one after the other, until nothing is pending before the end of the run, or there are so many rows.
     pub(crate) fn steps(&mut self, alloc: Global, most: usize) -> Result<Vec<Row>, StepFault>
-        requires network { IsSetUp self.old }
-        requires known { MayTake (λ b. plain b) self.old }
-        ensures same { IsStillOf self.old self.new }
+        requires known { MayTake M.plain self.old }
+        ensures session { self.new.session ≡ self.old.session }
         ensures few { IfOk result (λ rows. length rows.items ≤ most) }
-        ensures steps { TakesSteps (λ b. plain b) most self.old result self.new }
+        ensures steps { TakesSteps M.plain most self.old result self.new }
     {
         let mut rows = Vec::new(alloc);
         while rows.len() < most {
@@ -166,12 +151,11 @@ impl<'a> Engine<'a> {
     /// The step of the sequential run: the least pending event of all is taken, its row put behind others, and its packet handed
     /// out. Tells whether there was an event.
     pub(crate) fn step(&mut self, alloc: Global, rows: &mut Vec<Row>) -> Result<bool, StepFault>
-        requires network { IsSetUp self.old }
-        requires known { MayStep (λ b. plain b) self.old }
-        ensures same { IsStillOf self.old self.new }
-        ensures step { PutsStep (λ r. StepsOn (λ b. plain b) self.old r self.new) rows.old.items result rows.new.items }
+        requires known { MayStep M.plain self.old }
+        ensures session { self.new.session ≡ self.old.session }
+        ensures step { PutsStep (λ r. StepsOn M.plain self.old r self.new) rows.old.items result rows.new.items }
     {
-        let until = self.scenario.until();
+        let until = self.session.scenario.until();
         let Some((time, member)) = self.cells.times.least() else {
             return Ok(false);
         };
@@ -190,33 +174,40 @@ impl<'a> Engine<'a> {
 
     // Counts and hands out the packet that a row sent, if any.
     fn send(&mut self, alloc: Global, row: &Row) -> Result<(), AllocError>
-        requires network { IsSetUp self.old }
-        requires may { MaySendNow (λ b. plain b) self.old row.now.sent }
-        ensures same { IsStillOf self.old self.new }
-        ensures sent { IfOk result (λ _. Sends (λ b. plain b) row.now.sent self.old self.new) }
+        requires may { MaySendNow M.plain self.old row.now.sent }
+        ensures session { self.new.session ≡ self.old.session }
+        ensures sent { IfOk result (λ _. Sends M.plain row.now.sent self.old self.new) }
     {
         let Some(packet) = &row.sent else {
             return Ok(());
         };
-        let spread = self
-            .net
-            .spread(alloc, self.scenario.drops(), packet.id, packet.sent)?;
-        self.tally.count(self.net, &spread, packet);
+        let spread = self.session.net.spread(
+            alloc,
+            self.session.scenario.drops(),
+            packet.id,
+            packet.sent,
+        )?;
+        self.tally.count(self.session.net, &spread, packet);
         self.deliver(packet, &spread)?;
         Ok(())
     }
 
     // Every member to which a packet, of which this is the spread, has a flight is handed it.
     fn deliver(&mut self, packet: &Packet, spread: &Spread) -> Result<(), AllocError>
-        requires network { IsSetUp self.old }
-        requires spread { IsSpread self.old.net.now self.old.scenario.now.drops packet.now.id packet.now.sent spread.now }
-        requires may { MayDeliver (λ b. plain b) packet.now self.old }
-        ensures same { IsStillOf self.old self.new }
+        requires spread { IsSpread self.old.session.net.now self.old.session.scenario.now.drops packet.now.id packet.now.sent spread.now }
+        requires may { MayDeliver M.plain packet.now self.old }
+        ensures session { self.new.session ≡ self.old.session }
         ensures tally { self.new.tally ≡ self.old.tally }
-        ensures heard { IfOk result (λ _. Delivers (λ b. plain b) packet.now self.old self.new) }
+        ensures heard { IfOk result (λ _. Delivers M.plain packet.now self.old self.new) }
     {
-        for member in 0..self.scenario.members() {
-            if let Some(at) = arrival(self.scenario, self.net, packet, spread, member) {
+        for member in 0..self.session.scenario.members() {
+            if let Some(at) = arrival(
+                self.session.scenario,
+                self.session.net,
+                packet,
+                spread,
+                member,
+            ) {
                 self.cells.hand(member, packet, at)?;
             }
         }

@@ -1,11 +1,11 @@
 //! The cells of all members, those of each job together.
 ghost use Rattle.std.specs.Prelude.{◌≡◌, ◌<◌, ◌≤◌, ◌++◌, [], ℕ, List, IfOk, length, map};
 ghost use Rattle.srm_net.specs.Limits.{end_of_time};
-ghost use Rattle.srm_scenario.specs.Plain.{network_of};
 ghost use Rattle.srm_cell.specs.Cells.{PlainCell};
-ghost use Rattle.srm_cell.specs.Setting.{Setting, setting_of};
+ghost use Rattle.srm_cell.specs.Setting.{Setting};
 ghost use Rattle.srm_cell.specs.Crossings.{joined};
 ghost use Rattle.srm_model.specs.Windows.{way_of};
+ghost use Rattle.srm_engine.specs.Starts.{setting_on};
 ghost use Rattle.srm_engine.specs.Seen.{AreCellsInOrder};
 ghost use Rattle.srm_engine.specs.Groups.{AreCuts, sizes, all_in, jobs_with, groups_of, lists_of, some_of};
 ghost use Rattle.srm_engine.specs.Groups.{IsCut, AreKept, MayLookAgain, LooksAgain};
@@ -22,10 +22,9 @@ use srm_interfaces::crew::Crew;
 use srm_member::member::Member;
 use srm_member::participant::Participant;
 use srm_member::row::Row;
-use srm_net::net::Net;
 use srm_net::packet::Packet;
 use srm_net::sequence::Sequence;
-use srm_scenario::scenario::Scenario;
+use srm_scenario::session::Session;
 use std::alloc::{AllocError, Global};
 
 /// The cells of all members, those of each job together, and how soon something is due in each of these groups.
@@ -41,41 +40,38 @@ impl<M: Participant> Groups<M> {
     /// These cells in groups of `cut`.
     pub(crate) fn of(
         alloc: Global,
-        scenario: &Scenario,
-        net: &Net,
+        session: Session,
         cells: Vec<Cell<M>>,
         cut: usize,
     ) -> Result<Groups<M>, AllocError>
-        requires network { net.now ≡ network_of scenario.now }
         requires cut { IsCut cut }
-        requires members { length cells.items ≤ length scenario.now.members }
+        requires members { length cells.items ≤ length session.scenario.now.members }
         ensures cut { IfOk result (λ all. all.cut ≡ cut) }
         ensures kept { IfOk result (λ all. (seed : ℕ) (ps : List PlainCell)
             → AreCellsInOrder M.plain cells.items ps
-            → AreKept M.plain (setting_of scenario.now net.now seed) all ps) }
+            → AreKept M.plain (setting_on session.entry seed) all ps) }
     {
         let groups = group(alloc, cells, cut)?;
-        let soon = soonest_of_each(alloc, scenario, net, groups.as_slice(), cut)?;
+        let soon = soonest_of_each(alloc, session, groups.as_slice(), cut)?;
         Ok(Groups { cut, groups, soon })
     }
 
     /// Looks again for how soon something is due in each group in which something was due before tick `till`, after the own runs of
     /// all cells to it: where nothing was, no cell has changed.
-    pub(crate) fn look_again(self, scenario: &Scenario, net: &Net, till: u64) -> Groups<M>
-        requires network { net.now ≡ network_of scenario.now }
-        requires may { MayLookAgain (length scenario.now.members) self }
+    pub(crate) fn look_again(self, session: Session, till: u64) -> Groups<M>
+        requires may { MayLookAgain (length session.scenario.now.members) self }
         ensures same { (result.cut ≡ self.cut) × (result.groups ≡ self.groups) }
         ensures soon { (seed : ℕ) → LooksAgain M.plain
-            (setting_of scenario.now net.now seed) till self result }
+            (setting_on session.entry seed) till self result }
     {
-        let until = scenario.until();
+        let until = session.scenario.until();
         let Groups { cut, groups, soon } = self;
         let mut soon = soon;
         let all = groups.as_slice();
         let kept = soon.as_mut_slice();
         for (index, group) in all.iter().enumerate() {
             if kept[index].time < till {
-                kept[index] = soonest_in(scenario, net, group.as_slice(), index * cut, until);
+                kept[index] = soonest_in(session, group.as_slice(), index * cut, until);
             }
         }
         Groups { cut, groups, soon }
@@ -111,21 +107,21 @@ impl<M: Participant> Groups<M> {
     fn deliver(
         &mut self,
         alloc: Global,
-        scenario: &Scenario,
-        net: &Net,
+        session: Session,
         packet: &Packet,
     ) -> Result<(), AllocError>
-        requires network { net.now ≡ network_of scenario.now }
         requires may { (seed : ℕ) × MayDeliverIn M.plain
-            (setting_of scenario.now net.now seed) packet.now self.old }
+            (setting_on session seed) packet.now self.old }
         ensures cut { IfOk result (λ _. self.new.cut ≡ self.old.cut) }
         ensures heard { IfOk result (λ _. (seed : ℕ) → DeliversIn M.plain
-            (setting_of scenario.now net.now seed) packet.now self.old self.new) }
+            (setting_on session.entry seed) packet.now self.old self.new) }
     {
-        let spread = net.spread(alloc, scenario.drops(), packet.id, packet.sent)?;
-        for member in 0..scenario.members() {
-            if let Some(at) = arrival(scenario, net, packet, &spread, member) {
-                let way = way(scenario, net, member);
+        let spread = session
+            .net
+            .spread(alloc, session.scenario.drops(), packet.id, packet.sent)?;
+        for member in 0..session.scenario.members() {
+            if let Some(at) = arrival(session.scenario, session.net, packet, &spread, member) {
+                let way = way(session, member);
                 self.hand(member, way, packet, at)?;
             }
         }
@@ -133,24 +129,17 @@ impl<M: Participant> Groups<M> {
     }
 
     // Every member hears the packets of the rows, one after the other.
-    fn hear(
-        &mut self,
-        alloc: Global,
-        scenario: &Scenario,
-        net: &Net,
-        rows: &[Row],
-    ) -> Result<(), AllocError>
-        requires network { net.now ≡ network_of scenario.now }
-        requires until { scenario.now.until ≤ end_of_time }
+    fn hear(&mut self, alloc: Global, session: Session, rows: &[Row]) -> Result<(), AllocError>
+        requires until { session.scenario.now.until ≤ end_of_time }
         requires may { (seed : ℕ) × MayHear M.plain
-            (setting_of scenario.now net.now seed) rows.now self.old }
+            (setting_on session seed) rows.now self.old }
         ensures cut { IfOk result (λ _. self.new.cut ≡ self.old.cut) }
         ensures heard { IfOk result (λ _. (seed : ℕ) → Hears M.plain
-            (setting_of scenario.now net.now seed) rows.now self.old self.new) }
+            (setting_on session.entry seed) rows.now self.old self.new) }
     {
         for row in rows {
             if let Some(packet) = &row.sent {
-                self.deliver(alloc, scenario, net, packet)?;
+                self.deliver(alloc, session, packet)?;
             }
         }
         Ok(())
@@ -160,20 +149,18 @@ impl<M: Participant> Groups<M> {
     pub(crate) fn hear_each(
         &mut self,
         alloc: Global,
-        scenario: &Scenario,
-        net: &Net,
+        session: Session,
         lists: &[Vec<Row>],
     ) -> Result<(), AllocError>
-        requires network { net.now ≡ network_of scenario.now }
-        requires until { scenario.now.until ≤ end_of_time }
+        requires until { session.scenario.now.until ≤ end_of_time }
         requires may { (seed : ℕ) × MayHear M.plain
-            (setting_of scenario.now net.now seed) (joined (map (λ v. v.items) lists.now)) self.old }
+            (setting_on session seed) (joined (map (λ v. v.items) lists.now)) self.old }
         ensures cut { IfOk result (λ _. self.new.cut ≡ self.old.cut) }
         ensures heard { IfOk result (λ _. (seed : ℕ) → Hears M.plain
-            (setting_of scenario.now net.now seed) (joined (map (λ v. v.items) lists.now)) self.old self.new) }
+            (setting_on session.entry seed) (joined (map (λ v. v.items) lists.now)) self.old self.new) }
     {
         for rows in lists {
-            self.hear(alloc, scenario, net, rows.as_slice())?;
+            self.hear(alloc, session, rows.as_slice())?;
         }
         Ok(())
     }
@@ -183,34 +170,32 @@ impl<M: Participant> Groups<M> {
     pub(crate) fn heard_by<C: Crew<M>>(
         self,
         alloc: Global,
-        scenario: &Scenario,
-        net: &Net,
+        session: Session,
         crew: &mut C,
         lists: &[Vec<Row>],
     ) -> Result<Groups<M>, AllocError>
         requires ready { C.ready crew.old }
-        requires serves { C.serves crew.old scenario.now net.now }
-        requires network { net.now ≡ network_of scenario.now }
-        requires until { scenario.now.until ≤ end_of_time }
+        requires serves { C.serves crew.old session.scenario.now session.net.now }
+        requires until { session.scenario.now.until ≤ end_of_time }
         requires may { (seed : ℕ) × MayHearInAnyOrder M.plain
-            (setting_of scenario.now net.now seed) (joined (map (λ v. v.items) lists.now)) self }
+            (setting_on session seed) (joined (map (λ v. v.items) lists.now)) self }
         ensures ready { C.ready crew.new }
-        ensures serves { C.serves crew.new scenario.now net.now }
+        ensures serves { C.serves crew.new session.entry.scenario.now session.entry.net.now }
         ensures handed { C.handed crew.old [] crew.new }
         ensures cut { IfOk result (λ heard. heard.cut ≡ self.cut) }
         ensures heard { IfOk result (λ heard. (seed : ℕ) → HearsInSomeOrder M.plain
-            (setting_of scenario.now net.now seed) (joined (map (λ v. v.items) lists.now)) self heard) }
+            (setting_on session.entry seed) (joined (map (λ v. v.items) lists.now)) self heard) }
     {
-        if !are_enough(lists, scenario.members()) {
+        if !are_enough(lists, session.scenario.members()) {
             let mut groups = self;
-            groups.hear_each(alloc, scenario, net, lists)?;
+            groups.hear_each(alloc, session, lists)?;
             return Ok(groups);
         }
         let Groups { cut, groups, .. } = self;
-        let listed = sent_in(alloc, scenario, net, lists)?;
+        let listed = sent_in(alloc, session, lists)?;
         let sent = in_order_of_sending(listed)?;
-        let groups = crew.hear(alloc, scenario, net, sent, groups)?;
-        let soon = soonest_of_each(alloc, scenario, net, groups.as_slice(), cut)?;
+        let groups = crew.hear(alloc, session.scenario, session.net, sent, groups)?;
+        let soon = soonest_of_each(alloc, session, groups.as_slice(), cut)?;
         Ok(Groups { cut, groups, soon })
     }
 

@@ -1,14 +1,12 @@
 //! What was sent in rows.
 ghost use Rattle.std.specs.Prelude.{◌≡◌, ◌++◌, IfOk, All, IsPermutation, map};
-ghost use Rattle.srm_scenario.specs.Plain.{network_of};
 ghost use Rattle.srm_cell.specs.Crossings.{joined, packets_of};
 ghost use Rattle.srm_cell.specs.Hearing.{IsSent, packets_in};
 ghost use Rattle.srm_engine.specs.SentRows.{MayBeSent};
 
 use srm_cell::sent::Sent;
 use srm_member::row::Row;
-use srm_net::net::Net;
-use srm_scenario::scenario::Scenario;
+use srm_scenario::session::Session;
 use std::alloc::{AllocError, Global};
 
 // From so many hearings on, of a packet by a member each, a crew is to share them: below it costs more to wake it.
@@ -31,18 +29,16 @@ fn sent_rows(rows: &[Row]) -> usize {
 /// The packets of the lists' rows, in their order, each with its spread.
 pub(crate) fn sent_in(
     alloc: Global,
-    scenario: &Scenario,
-    net: &Net,
+    session: Session,
     lists: &[Vec<Row>],
 ) -> Result<Vec<Sent>, AllocError>
-    requires network { net.now ≡ network_of scenario.now }
-    requires sent { All (λ v. All (λ r. MayBeSent scenario.now r.sent) v.items) lists.now }
+    requires sent { All (λ v. All (λ r. MayBeSent session.scenario.now r.sent) v.items) lists.now }
     ensures packets { IfOk result (λ all. packets_in all.items ≡ packets_of (joined (map (λ v. v.items) lists.now))) }
-    ensures sent { IfOk result (λ all. All (λ x. IsSent scenario.now net.now x) all.items) }
+    ensures sent { IfOk result (λ all. All (λ x. IsSent session.entry.scenario.now session.entry.net.now x) all.items) }
 {
     let mut all = Vec::new(alloc);
     for rows in lists {
-        add_sent(alloc, scenario, net, rows.as_slice(), &mut all)?;
+        add_sent(alloc, session, rows.as_slice(), &mut all)?;
     }
     Ok(all)
 }
@@ -50,20 +46,18 @@ pub(crate) fn sent_in(
 // Adds the packets of the rows.
 fn add_sent(
     alloc: Global,
-    scenario: &Scenario,
-    net: &Net,
+    session: Session,
     rows: &[Row],
     all: &mut Vec<Sent>,
 ) -> Result<(), AllocError>
-    requires network { net.now ≡ network_of scenario.now }
-    requires sent { All (λ r. MayBeSent scenario.now r.sent) rows.now }
-    requires before { All (λ x. IsSent scenario.now net.now x) all.old.items }
+    requires sent { All (λ r. MayBeSent session.scenario.now r.sent) rows.now }
+    requires before { All (λ x. IsSent session.scenario.now session.net.now x) all.old.items }
     ensures packets { IfOk result (λ _. packets_in all.new.items ≡ packets_in all.old.items ++ packets_of rows.now) }
-    ensures sent { IfOk result (λ _. All (λ x. IsSent scenario.now net.now x) all.new.items) }
+    ensures sent { IfOk result (λ _. All (λ x. IsSent session.entry.scenario.now session.entry.net.now x) all.new.items) }
 {
     for row in rows {
         if let Some(packet) = &row.sent {
-            let sent = Sent::of(alloc, scenario, net, packet)?;
+            let sent = Sent::of(alloc, session.scenario, session.net, packet)?;
             all.push(sent)?;
         }
     }

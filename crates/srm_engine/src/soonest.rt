@@ -1,9 +1,9 @@
 //! How soon something is due in the cells of each group.
 ghost use Rattle.std.specs.Prelude.{◌≡◌, ◌+◌, ◌<◌, ◌≤◌, ℕ, List, IfOk, min, length};
-ghost use Rattle.srm_scenario.specs.Plain.{network_of};
 ghost use Rattle.srm_cell.specs.Cells.{PlainCell};
-ghost use Rattle.srm_cell.specs.Setting.{Setting, setting_of};
+ghost use Rattle.srm_cell.specs.Setting.{Setting};
 ghost use Rattle.srm_model.specs.Windows.{promise_by, least_with as lesser, least_promise as least_promised};
+ghost use Rattle.srm_engine.specs.Starts.{setting_on};
 ghost use Rattle.srm_engine.specs.Ends.{KeepFixed};
 ghost use Rattle.srm_engine.specs.Groups.{AreCuts, AreGrouped, sizes, all_in};
 ghost use Rattle.srm_model.specs.World.{World};
@@ -13,8 +13,7 @@ ghost use Rattle.srm_engine.specs.Soonest.{IsInRange, IsSoonest, AreSoonest, Are
 use crate::ends::way;
 use srm_cell::cell::Cell;
 use srm_member::participant::Participant;
-use srm_net::net::Net;
-use srm_scenario::scenario::Scenario;
+use srm_scenario::session::Session;
 use std::alloc::{AllocError, Global};
 
 /// How soon something is due in some cells, at the end of the run at the latest.
@@ -61,26 +60,24 @@ fn least_with_sum(time: u64, next: Option<u64>, way: Option<u64>) -> u64
 
 /// How soon something is due in the cells of the members from `first` on, in a run that ends at tick `until`.
 pub(crate) fn soonest_in<M: Participant>(
-    scenario: &Scenario,
-    net: &Net,
+    session: Session,
     cells: &[Cell<M>],
     first: usize,
     until: u64,
 ) -> Soonest
-    requires network { net.now ≡ network_of scenario.now }
-    requires until { until ≡ scenario.now.until }
-    requires members { first + length cells.now ≤ length scenario.now.members }
-    requires few { length scenario.now.members < 65536 }
+    requires until { until ≡ session.scenario.now.until }
+    requires members { first + length cells.now ≤ length session.scenario.now.members }
+    requires few { length session.scenario.now.members < 65536 }
     ensures { (seed : ℕ) (ps : List PlainCell)
         → AreThose M.plain first cells.now ps
-        → IsSoonest (setting_of scenario.now net.now seed) (IsInRange first (length cells.now)) ps result }
+        → IsSoonest (setting_on session.entry seed) (IsInRange first (length cells.now)) ps result }
 {
     let mut soonest = Soonest {
         time: until,
         promise: until,
     };
     for (index, cell) in cells.iter().enumerate() {
-        let way = way(scenario, net, (first + index) as u16);
+        let way = way(session, (first + index) as u16);
         soonest = soonest.with(cell.next_time(), way);
     }
     soonest
@@ -89,23 +86,21 @@ pub(crate) fn soonest_in<M: Participant>(
 /// How soon something is due in each group of `cut` cells.
 pub(crate) fn soonest_of_each<M: Participant>(
     alloc: Global,
-    scenario: &Scenario,
-    net: &Net,
+    session: Session,
     groups: &[Vec<Cell<M>>],
     cut: usize,
 ) -> Result<Vec<Soonest>, AllocError>
-    requires network { net.now ≡ network_of scenario.now }
     requires cut { 0 < cut }
     requires cuts { AreCuts cut (sizes groups.now) }
-    requires members { length (all_in groups.now) ≤ length scenario.now.members }
+    requires members { length (all_in groups.now) ≤ length session.scenario.now.members }
     ensures { IfOk result (λ xs. (seed : ℕ) (ps : List PlainCell)
         → AreGrouped M.plain cut groups.now ps
-        → AreSoonest (setting_of scenario.now net.now seed) cut xs.items ps) }
+        → AreSoonest (setting_on session.entry seed) cut xs.items ps) }
 {
-    let until = scenario.until();
+    let until = session.scenario.until();
     let mut soonest = Vec::new(alloc);
     for (index, group) in groups.iter().enumerate() {
-        soonest.push(soonest_in(scenario, net, group.as_slice(), index * cut, until))?;
+        soonest.push(soonest_in(session, group.as_slice(), index * cut, until))?;
     }
     Ok(soonest)
 }

@@ -1,13 +1,12 @@
 //! The sequential run, its rows handed on as they come.
 ghost use Rattle.std.specs.Prelude.{◌≡◌, ◌<◌, ◌+◌, ◌-◌, ◌^◌, ℕ, map};
 ghost use Rattle.srm_scenario.specs.Plain.{network_of};
-ghost use Rattle.srm_engine.specs.Openings.{HoldOpeningRecords};
+ghost use Rattle.srm_engine.specs.Openings.{HoldOpeningRecords, InRuns};
 ghost use Rattle.srm_interfaces.specs.Sinks.{IsOpen};
-ghost use Rattle.srm_engine.specs.Streams.{StandsAs, stopped_in, StreamsFrom, RefusedFrom};
+ghost use Rattle.srm_engine.specs.Streams.{StandsAs, stopped_in, TellsStream, TellsRefusal};
 
 use crate::cells::finish_cells;
 use crate::engine::Engine;
-use crate::start::Start;
 use crate::stream_fault::StreamFault;
 use srm_interfaces::sink::RowSink;
 use srm_ledger::totals::Totals;
@@ -15,6 +14,7 @@ use srm_member::exit::Exit;
 use srm_member::member::Member;
 use srm_net::net::Net;
 use srm_scenario::scenario::Scenario;
+use srm_scenario::session::Session;
 use std::alloc::Global;
 
 /// The sequential run of a scenario, as `step_run`'s, its rows handed to a sink as they come: first none, and then all of them, in
@@ -44,28 +44,22 @@ pub fn step_stream<S: RowSink>(
     ensures device { S.same sink.old sink.new }
     ensures stands { StandsAs result (S.stage sink.new) }
     ensures failures { S.failures sink.new ≡ S.failures sink.old + stopped_in result }
-    ensures stream { StreamsFrom S.took S.part scenario.now net.now (map (λ b. plain b) members.items)
-        sink.old result sink.new }
-    ensures refused { RefusedFrom S.took S.part scenario.now net.now (map (λ b. plain b) members.items)
-        sink.old result sink.new }
+    ensures stream { InRuns scenario.now net.now (map (λ b. plain b) members.items)
+        (λ s. TellsStream S.took S.part s sink.old result sink.new) }
+    ensures refused { InRuns scenario.now net.now (map (λ b. plain b) members.items)
+        (λ s. TellsRefusal S.took S.part s sink.old result sink.new) }
 {
-    let start = Start {
-        scenario,
-        net,
-        members,
-    };
-    let ran = match Engine::run(alloc, start, sink) {
+    let ran = match Engine::run(alloc, Session { scenario, net }, members, sink) {
         Ok(ran) => ran,
         Err(fault) => return Err(fault),
     };
     let Engine {
-        net,
+        session,
         cells,
         tally,
-        ..
     } = ran;
     match finish_cells(alloc, cells.cells) {
-        Ok(exits) => Ok((exits, tally.into_totals(net))),
+        Ok(exits) => Ok((exits, tally.into_totals(session.net))),
         Err(error) => Err(error.into()),
     }
 }

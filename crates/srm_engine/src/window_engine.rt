@@ -1,15 +1,13 @@
 //! The engine in windows.
 ghost use Rattle.std.specs.Prelude.{◌≡◌, ◌<◌, ◌+◌, ◌-◌, ◌*◌, ◌^◌, ℕ, List, IfOk, All, IsSorted, length, map};
-ghost use Rattle.srm_scenario.specs.Plain.{network_of};
 ghost use Rattle.srm_model.specs.World.{World, row_cmp};
 ghost use Rattle.srm_model.specs.WindowRuns.{StandAlike};
-ghost use Rattle.srm_engine.specs.Openings.{HoldOpeningRecords};
+ghost use Rattle.srm_engine.specs.Starts.{BeginsWith, InRunsOf};
 ghost use Rattle.srm_engine.specs.Ends.{MayCut};
 ghost use Rattle.srm_interfaces.specs.Sinks.{IsOpen, stage_after, stops_in};
 ghost use Rattle.srm_engine.specs.Streams.{sink_in, StandsAs, stopped_in};
-ghost use Rattle.srm_engine.specs.Windowed.{rule_of};
 ghost use Rattle.srm_engine.specs.WindowStreams.{IsLeft, TellsStreamAsked, CallsInWindows, RefusedInWindows};
-ghost use Rattle.srm_engine.specs.RowRuns.{LastFrom, MayLackWindow, UndoneFrom};
+ghost use Rattle.srm_engine.specs.RowRuns.{TellsLast, MayLackWindow, TellsUndone};
 ghost use Rattle.srm_engine.specs.WindowEngines.{IsUnderWay, IsAt, frame_of, OpensAt, BeginsNext, EndsNext, TellsWindow, TellsWindows};
 ghost use Rattle.srm_engine.specs.WindowEngines.{TellsCounted, TellsEnd, lists_in};
 ghost use Rattle.srm_ledger.specs.Seats.{totals_of};
@@ -31,19 +29,16 @@ use srm_interfaces::sink::RowSink;
 use srm_ledger::ledger::{Ledger, Seat};
 use srm_ledger::totals::Totals;
 use srm_member::exit::Exit;
-use srm_member::member::Member;
 use srm_member::participant::Participant;
 use srm_member::row::Row;
-use srm_net::net::Net;
-use srm_scenario::scenario::Scenario;
+use srm_scenario::session::Session;
 use std::alloc::{AllocError, Global};
 
 /// A run of a scenario in windows: the cells of all members in the groups of its jobs, the ledger with its whole seat, and where
 /// windows end.
 #[derive(Drop)]
-pub(crate) struct WindowEngine<'a, M = Box<dyn Member>> {
-    pub(crate) scenario: &'a Scenario,
-    pub(crate) net: &'a Net,
+pub(crate) struct WindowEngine<'a, M> {
+    pub(crate) session: Session<'a>,
     pub(crate) ledger: Ledger,
     pub(crate) seat: Seat,
     pub(crate) groups: Groups<M>,
@@ -54,29 +49,24 @@ impl<'a, M: Participant> WindowEngine<'a, M> {
     /// The cells of all members at the beginning, nothing counted.
     pub(crate) fn open(
         alloc: Global,
-        scenario: &'a Scenario,
-        net: &'a Net,
-        members: Vec<M>,
+        start: Start<'a, M>,
         cutting: Cutting,
     ) -> Result<WindowEngine<'a, M>, AllocError>
-        requires network { net.now ≡ network_of scenario.now }
-        requires cutting { MayCut net.now cutting }
-        requires boxes { (seed : ℕ) × HoldOpeningRecords scenario.now net.now seed (map M.plain members.items) }
-        ensures frame { IfOk result (λ e. frame_of e ≡ (scenario.now, net.now, cutting.cut, cutting.ends)) }
+        requires cutting { MayCut start.session.net.now cutting }
+        ensures frame { IfOk result (λ e. frame_of e ≡ (start.entry.session, cutting.cut, cutting.ends)) }
         ensures stands { IfOk result (λ e. IsUnderWay M.plain e) }
-        ensures opened { IfOk result (λ e. (seed : ℕ) → HoldOpeningRecords scenario.now net.now seed
-            (map M.plain members.items) → OpensAt M.plain seed e) }
+        ensures opened { IfOk result (λ e. (seed : ℕ) → BeginsWith start.entry seed → OpensAt M.plain seed e) }
     {
-        let _until = scenario.until();
-        let Ok((ledger, seat)) = Ledger::open(alloc, net.links().len()) else {
+        let Start { session, members } = start;
+        let _until = session.scenario.until();
+        let Ok((ledger, seat)) = Ledger::open(alloc, session.net.links().len()) else {
             return Err(AllocError);
         };
-        let cells = open_cells(alloc, scenario, members)?;
+        let cells = open_cells(alloc, session.scenario, members)?;
         let Cutting { cut, ends } = cutting;
-        let groups = Groups::of(alloc, scenario, net, cells, cut)?;
+        let groups = Groups::of(alloc, session, cells, cut)?;
         Ok(WindowEngine {
-            scenario,
-            net,
+            session,
             ledger,
             seat,
             groups,
@@ -94,42 +84,30 @@ impl<'a, M: Participant> WindowEngine<'a, M> {
         sink: &mut S,
     ) -> Result<WindowEngine<'a, M>, StreamFault>
         requires ready { C.ready crew.old }
-        requires serves { C.serves crew.old start.scenario.now start.net.now }
-        requires network { start.net.now ≡ network_of start.scenario.now }
-        requires boxes { (seed : ℕ) × HoldOpeningRecords start.scenario.now start.net.now seed (map M.plain start.members.items) }
+        requires serves { C.serves crew.old start.session.scenario.now start.session.net.now }
         requires open { IsOpen (S.stage sink.old) }
         requires failures { S.failures sink.old < 2 ^ 64 - 1 }
         ensures ready { C.ready crew.new }
-        ensures serves { C.serves crew.new start.entry.scenario.now start.entry.net.now }
-        ensures given { IfOk result (λ e. (e.scenario.now ≡ start.entry.scenario.now) × (e.net.now ≡ start.entry.net.now)) }
+        ensures serves { C.serves crew.new start.entry.session.scenario.now start.entry.session.net.now }
         ensures under_way { IfOk result (λ e. IsUnderWay M.plain e) }
         ensures device { S.same sink.old sink.new }
         ensures stands { StandsAs result (S.stage sink.new) }
         ensures failures { S.failures sink.new ≡ S.failures sink.old + stopped_in result }
-        ensures asked { TellsStreamAsked start.entry.net.now asked result }
+        ensures asked { TellsStreamAsked start.entry.session.net.now asked result }
         ensures left { IsLeft sink.old result sink.new }
-        ensures last { LastFrom S.took S.part (IsAt M.plain) start.entry.scenario.now start.entry.net.now
-            (map M.plain start.entry.members.items) sink.old result sink.new }
-        ensures windows { CallsInWindows C.handed start.entry.scenario.now start.entry.net.now
-            (map M.plain start.entry.members.items) (λ s. rule_of s start.entry.net.now asked.width) asked.cut crew.old result
-            crew.new }
-        ensures refused { RefusedInWindows S.took S.part start.entry.scenario.now start.entry.net.now
-            (map M.plain start.entry.members.items) (λ s. rule_of s start.entry.net.now asked.width) asked.cut sink.old result
-            sink.new }
-        ensures undone { UndoneFrom S.stage S.took S.part
-            (MayLackWindow (λ s. rule_of s start.entry.net.now asked.width) asked.cut)
-            start.entry.scenario.now start.entry.net.now (map M.plain start.entry.members.items) sink.old result sink.new }
+        ensures last { InRunsOf start.entry (λ s. TellsLast S.took S.part (IsAt M.plain s) s sink.old result sink.new) }
+        ensures windows { InRunsOf start.entry (λ s. CallsInWindows C.handed s start.entry.session.net.now asked
+            crew.old result crew.new) }
+        ensures refused { InRunsOf start.entry (λ s. RefusedInWindows S.took S.part s start.entry.session.net.now asked
+            sink.old result sink.new) }
+        ensures undone { InRunsOf start.entry (λ s. TellsUndone S.stage S.took S.part
+            (MayLackWindow s start.entry.session.net.now asked) s sink.old result sink.new) }
     {
-        let Start {
-            scenario,
-            net,
-            members,
-        } = start;
-        let cutting = match Cutting::of(scenario, net, asked) {
+        let cutting = match Cutting::of(start.session, asked) {
             Ok(cutting) => cutting,
             Err(fault) => return Err(fault.into()),
         };
-        let engine = match WindowEngine::open(alloc, scenario, net, members, cutting) {
+        let engine = match WindowEngine::open(alloc, start, cutting) {
             Ok(opened) => opened,
             Err(error) => return Err(error.into()),
         };
@@ -143,18 +121,21 @@ impl<'a, M: Participant> WindowEngine<'a, M> {
     fn begin(&self) -> u64
         ensures { BeginsNext M.plain self.now result }
     {
-        least(self.groups.soon.as_slice(), self.scenario.until())
+        least(self.groups.soon.as_slice(), self.session.scenario.until())
     }
 
     // When the window ends that begins at this tick.
     fn end(&self, begin: u64) -> u64
         requires stands { IsUnderWay M.plain self.now }
         requires begin { BeginsNext M.plain self.now begin }
-        requires early { begin < self.now.scenario.now.until }
+        requires early { begin < self.now.session.scenario.now.until }
         ensures { EndsNext M.plain self.now result }
     {
-        self.ends
-            .end(self.groups.soon.as_slice(), begin, self.scenario.until())
+        self.ends.end(
+            self.groups.soon.as_slice(),
+            begin,
+            self.session.scenario.until(),
+        )
     }
 
     /// The window that begins at this tick: every cell runs alone to its end, and then hears the packets of all rows. Gives the
@@ -166,12 +147,12 @@ impl<'a, M: Participant> WindowEngine<'a, M> {
         begin: u64,
     ) -> Result<(WindowEngine<'a, M>, Vec<Vec<Row>>), WindowFault>
         requires ready { C.ready crew.old }
-        requires serves { C.serves crew.old self.scenario.now self.net.now }
+        requires serves { C.serves crew.old self.session.scenario.now self.session.net.now }
         requires stands { IsUnderWay M.plain self }
         requires begin { BeginsNext M.plain self begin }
-        requires early { begin < self.scenario.now.until }
+        requires early { begin < self.session.scenario.now.until }
         ensures ready { C.ready crew.new }
-        ensures serves { C.serves crew.new self.entry.scenario.now self.entry.net.now }
+        ensures serves { C.serves crew.new self.entry.session.scenario.now self.entry.session.net.now }
         ensures frame { IfOk result (λ ran. frame_of ran.0 ≡ frame_of self.entry) }
         ensures stands { IfOk result (λ ran. IsUnderWay M.plain ran.0) }
         ensures later { IfOk result (λ ran. (next : ℕ) → BeginsNext M.plain ran.0 next
@@ -182,13 +163,13 @@ impl<'a, M: Participant> WindowEngine<'a, M> {
     {
         let end = self.end(begin);
         let WindowEngine {
-            scenario,
-            net,
+            session,
             ledger,
             seat,
             groups,
             ends,
         } = self;
+        let Session { scenario, net } = session;
         let Groups { cut, groups, soon } = groups;
         let jobs = jobs(alloc, groups, end)?;
         let (all, seat) = match crew.map(alloc, scenario, net, &ledger, seat, jobs) {
@@ -196,11 +177,10 @@ impl<'a, M: Participant> WindowEngine<'a, M> {
             Err(fault) => return Err(WindowFault::of(fault).unwrap()),
         };
         let (groups, lists) = apart(alloc, all)?;
-        let groups = Groups { cut, groups, soon }.look_again(scenario, net, end);
-        let groups = groups.heard_by(alloc, scenario, net, crew, lists.as_slice())?;
+        let groups = Groups { cut, groups, soon }.look_again(session, end);
+        let groups = groups.heard_by(alloc, session, crew, lists.as_slice())?;
         let engine = WindowEngine {
-            scenario,
-            net,
+            session,
             ledger,
             seat,
             groups,
@@ -218,12 +198,12 @@ impl<'a, M: Participant> WindowEngine<'a, M> {
         sink: &mut S,
     ) -> Result<WindowEngine<'a, M>, Halt<WindowFault>>
         requires ready { C.ready crew.old }
-        requires serves { C.serves crew.old self.scenario.now self.net.now }
+        requires serves { C.serves crew.old self.session.scenario.now self.session.net.now }
         requires stands { IsUnderWay M.plain self }
         requires open { IsOpen (S.stage sink.old) }
         requires failures { S.failures sink.old < 2 ^ 64 - 1 }
         ensures ready { C.ready crew.new }
-        ensures serves { C.serves crew.new self.entry.scenario.now self.entry.net.now }
+        ensures serves { C.serves crew.new self.entry.session.scenario.now self.entry.session.net.now }
         ensures stands { IfOk result (λ e. IsUnderWay M.plain e) }
         ensures frame { IfOk result (λ e. frame_of e ≡ frame_of self.entry) }
         ensures device { S.same sink.old sink.new }
@@ -235,7 +215,7 @@ impl<'a, M: Participant> WindowEngine<'a, M> {
         if let Err(fault) = hand_none(alloc, sink) {
             return Err(Halt::Sink(fault));
         }
-        let until = self.scenario.until();
+        let until = self.session.scenario.until();
         let mut engine = self;
         let mut begin = engine.begin();
         while begin < until {

@@ -1,10 +1,9 @@
 //! The run in windows, its rows handed on as they come.
 ghost use Rattle.std.specs.Prelude.{◌≡◌, ◌<◌, ◌≤◌, ◌+◌, ◌-◌, ◌^◌, ℕ, map};
 ghost use Rattle.srm_scenario.specs.Plain.{network_of};
-ghost use Rattle.srm_engine.specs.Openings.{HoldOpeningRecords};
+ghost use Rattle.srm_engine.specs.Openings.{HoldOpeningRecords, InRuns};
 ghost use Rattle.srm_interfaces.specs.Sinks.{IsOpen};
-ghost use Rattle.srm_engine.specs.Streams.{StandsAs, stopped_in, StreamsFrom};
-ghost use Rattle.srm_engine.specs.Windowed.{rule_of};
+ghost use Rattle.srm_engine.specs.Streams.{StandsAs, stopped_in, TellsStream};
 ghost use Rattle.srm_engine.specs.WindowStreams.{IsLeft, TellsStreamAsked, CallsInWindows, RefusedInWindows};
 
 use crate::start::Start;
@@ -18,6 +17,7 @@ use srm_member::exit::Exit;
 use srm_member::participant::Participant;
 use srm_net::net::Net;
 use srm_scenario::scenario::Scenario;
+use srm_scenario::session::Session;
 use std::alloc::Global;
 
 /// The run of a scenario in windows of time, as `window_run`'s, its rows handed to a sink as they come: first none, and then
@@ -60,18 +60,15 @@ pub fn window_stream<M: Participant, C: Crew<M>, S: RowSink>(
     ensures failures { S.failures sink.new ≡ S.failures sink.old + stopped_in result }
     ensures asked { TellsStreamAsked net.now asked result }
     ensures left { IsLeft sink.old result sink.new }
-    ensures stream { StreamsFrom S.took S.part scenario.now net.now (map M.plain members.items)
-        sink.old result sink.new }
-    ensures windows { CallsInWindows C.handed scenario.now net.now (map M.plain members.items)
-        (λ s. rule_of s net.now asked.width) asked.cut crew.old result crew.new }
-    ensures refused { RefusedInWindows S.took S.part scenario.now net.now (map M.plain members.items)
-        (λ s. rule_of s net.now asked.width) asked.cut sink.old result sink.new }
+    ensures stream { InRuns scenario.now net.now (map M.plain members.items)
+        (λ s. TellsStream S.took S.part s sink.old result sink.new) }
+    ensures windows { InRuns scenario.now net.now (map M.plain members.items)
+        (λ s. CallsInWindows C.handed s net.now asked crew.old result crew.new) }
+    ensures refused { InRuns scenario.now net.now (map M.plain members.items)
+        (λ s. RefusedInWindows S.took S.part s net.now asked sink.old result sink.new) }
 {
-    let start = Start {
-        scenario,
-        net,
-        members,
-    };
+    let session = Session { scenario, net };
+    let start = Start { session, members };
     let ran = match WindowEngine::run(alloc, start, crew, asked, sink) {
         Ok(ran) => ran,
         Err(fault) => return Err(fault),

@@ -1,4 +1,7 @@
 //! Runs that are asked for totals alone: memory is refused to none of which all rows were handed on.
+ghost use Rattle.std.specs.Prelude.{◌<◌, ◌-◌, ◌^◌, map};
+ghost use Rattle.srm_interfaces.specs.Sinks.{IsOpen};
+ghost use Rattle.srm_engine.specs.Starts.{AreOpening};
 
 use crate::counting::Counting;
 use crate::opening::opened;
@@ -11,7 +14,10 @@ use srm_engine::stream_fault::StreamFault;
 use srm_engine::width::{Width, Windows};
 use srm_engine::window_rows::window_rows;
 use srm_examples::scenarios::CHAIN_OF_FIVE_ONE_LOSS;
-use srm_interfaces::sink::Stage;
+use srm_interfaces::sink::{RowSink, Stage};
+use srm_ledger::totals::Totals;
+use srm_member::participant::Participant;
+use srm_scenario::session::Session;
 use std::alloc::{AllocError, Global};
 use std::process::Abort;
 use std::sync::Arc;
@@ -20,6 +26,25 @@ use std::sync::atomic::AtomicU64;
 // How many rows the run of this scenario has, as examples/chain-of-five-one-loss.trace.csv stores them. Its members hold packets, so
 // that each asks for memory where it is finished.
 const ALL_ROWS: usize = 22;
+
+// A run of these members, in windows or one event after the other. They are of any type, since no `Start` can be of boxes.
+fn run_from<M: Participant, S: RowSink>(
+    alloc: Global,
+    session: Session,
+    members: Vec<M>,
+    asked: Option<Windows>,
+    sink: &mut S,
+) -> Result<Totals, StreamFault>
+    requires opening { AreOpening session (map M.plain members.items) }
+    requires open { IsOpen (S.stage sink.old) }
+    requires failures { S.failures sink.old < 2 ^ 64 - 1 }
+{
+    let start = Start { session, members };
+    match asked {
+        Some(windows) => window_rows(alloc, start, &mut PlainCrew::new(), windows, sink),
+        None => step_rows(alloc, start, sink),
+    }
+}
 
 // Runs it with a sink that counts its rows: it took all of them, or memory was refused before it had.
 fn run_counted(rt: &impl Abort, alloc: Global, asked: Option<Windows>) -> Result<(), AllocError> {
@@ -30,17 +55,11 @@ fn run_counted(rt: &impl Abort, alloc: Global, asked: Option<Windows>) -> Result
         rows: 0,
         stage: Stage::Fresh,
     };
-    let mut crew = PlainCrew::new();
-    let start = Start {
+    let session = Session {
         scenario: &scenario,
         net: &net,
-        members,
     };
-    let answer = match asked {
-        Some(windows) => window_rows(alloc, start, &mut crew, windows, &mut sink),
-        None => step_rows(alloc, start, &mut sink),
-    };
-    match answer {
+    match run_from(alloc, session, members, asked, &mut sink) {
         Ok(_) => {
             assert_eq!(rt; sink.rows, ALL_ROWS);
             Ok(())

@@ -1,5 +1,5 @@
 -- What the refusal of an engine is to the program, and what its sink took.
-use Rattle.std.proofs.Common.{◌≡◌, ℕ, List, Err, inl, inr, refl, sym, subst}
+use Rattle.std.proofs.Common.{◌≡◌, ◌∙◌, ◌+◌, add-zero, ℕ, List, Err, inl, inr, refl, sym, subst}
 use Rattle.srm_net.specs.Network.{Network}
 use Rattle.srm_scenario.specs.Plain.{PlainScenario}
 use Rattle.srm_member.specs.declared.row.Row.{Row}
@@ -10,13 +10,15 @@ use Rattle.srm_options.specs.declared.options.Options.{Options}
 use Rattle.srm_engine.specs.declared.fault.RunFault.TheVariants as fault
 use Rattle.srm_engine.specs.declared.stream_fault.StreamFault.{StreamFault}
 use Rattle.srm_engine.specs.declared.stream_fault.StreamFault.TheVariants.{Run, Stopped}
-use Rattle.srm_engine.specs.Streams.{TakesTraceFront, TakesUpTo, MeetsRefusal}
+use Rattle.srm_engine.specs.Streams.{TakesTraceFront, TakesUpTo, MeetsRefusal, StandsAs, stopped_in}
 use Rattle.srm_engine.specs.Windowed.{rule_of}
 use Rattle.srm_engine.specs.WindowStreams.{TellsStreamAsked, IsLeft, RefusedAtWindow}
 use Rattle.srm_engine.proofs.Stepping.{meets_full}
 use Rattle.srm_program.specs.declared.fault.LabFault.{LabFault}
 use Rattle.srm_program.specs.declared.fault.LabFault.TheVariants.{CountFull, ShareFull}
-use Rattle.srm_program.specs.Runs.{fault_of_stream, MayBreakOffBy, TellsRows}
+use Rattle.srm_interfaces.specs.declared.sink.Stage.{Stage}
+use Rattle.srm_program.specs.Reports.{failures_after_run}
+use Rattle.srm_program.specs.Runs.{fault_of_stream, MayBreakOffBy, StandsAfter, TellsRows}
 
 -- a run that is not cut into windows
 no_window : (e : Engine) (P : Type 0) → e ≡ Step → e ≡ Window → P
@@ -73,3 +75,23 @@ module _ {S : Type 0} (took part : S → List Row → S → Type 0) (p : PlainSc
       by (Run fault.BadCut) asked left refused = (left (inl refl), (window, asked))
       by (Run fault.BadWidth) asked left refused = (left (inr refl), (window, asked.0, asked.1))
       by (Stopped n) asked left refused = (front, λ e. asked)
+
+-- a sink stands as the program's fault says, where it stands as the engine's does
+pub stands_after : (A T : Type 0) (x : StreamFault) (at : Stage) → StandsAs {A = A} (Err x) at
+    → StandsAfter {T = T} (Err (fault_of_stream x)) at
+stands_after A T (Run fault.NoMemory) at h = tt
+stands_after A T (Run fault.CountFull) at h = h
+stands_after A T (Run fault.ShareFull) at h = h
+stands_after A T (Run fault.BadCut) at h = tt
+stands_after A T (Run fault.BadWidth) at h = tt
+stands_after A T (Stopped n) at h = h
+
+-- and its device failed as often
+pub failures_after : (A T : Type 0) (x : StreamFault) (old new : ℕ) → new ≡ old + stopped_in {A = A} (Err x)
+    → new ≡ failures_after_run {T = T} (Err (fault_of_stream x)) old
+failures_after A T (Run fault.NoMemory) old new h = h ∙ add-zero old
+failures_after A T (Run fault.CountFull) old new h = h ∙ add-zero old
+failures_after A T (Run fault.ShareFull) old new h = h ∙ add-zero old
+failures_after A T (Run fault.BadCut) old new h = h ∙ add-zero old
+failures_after A T (Run fault.BadWidth) old new h = h ∙ add-zero old
+failures_after A T (Stopped n) old new h = h

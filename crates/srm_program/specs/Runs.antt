@@ -108,33 +108,3 @@ module _ {S : Type 0} (took part : S → List Row → S → Type 0) where
   abbrev pub TellsRows : PlainScenario → Network → ℕ → Options → S → Result (List ℕ) LabFault → S → Type 0
   TellsRows p net seed o old r new =
       HandsRows (MayBreakOff p net seed o) (setting_of p net seed) old r new × TellsRefusedFor p net seed o r
-
--- members with these records may be run in windows
-abbrev pub MayRunInWindows : PlainScenario → Network → Options → List Record → Type 0
-MayRunInWindows p net o records =
-    (o.engine ≡ Window) × (net ≡ network_of p) × ((seed : ℕ) × HoldOpeningRecords p net seed records)
-
-module _ {S : Type 0} (stage : S → Stage) (failures : S → ℕ) (same : S → S → Type 0)
-    (took part : S → List Row → S → Type 0) where
-  -- what their run tells, whoever works in it: how the sink stands, and its rows for every seed
-  abbrev pub HandsOn : PlainScenario → Network → Options → List Record → S → Result (List ℕ) LabFault → S → Type 0
-  HandsOn p net o records old r new =
-      same old new × StandsAfter r (stage new) × (failures new ≡ failures_after_run r (failures old))
-      × ((seed : ℕ) → HoldOpeningRecords p net seed records → TellsRows took part p net seed o old r new)
-
--- ---- tables that list rows
-
--- members with these records may be run, and their rows listed
-abbrev pub MayBeListed : PlainScenario → Network → Options → List Record → Type 0
-MayBeListed p net o records =
-    (net ≡ network_of p) × ((seed : ℕ) × HoldOpeningRecords p net seed records) × MayShareBag o.workers
-
-module _ {O : Type 0} (form : Form) (failures : O → ℕ) (taken : O → Option (List ℕ)) where
-  -- what comes of that: how often the outlet failed, and for every seed what it took of the table, and the refusals
-  abbrev pub IsListed : {T : Type 0} → PlainScenario → Network → Options → List Record
-      → O → Result T LabFault → O → Type 0
-  IsListed p net o records old r new =
-      (failures new ≡ failures_after_run r (failures old))
-      × ((seed : ℕ) → HoldOpeningRecords p net seed records
-      → TellsListing (text_in form) most_gathered (MayBreakOff p net seed o) p net seed (taken old) (taken new) r
-      × TellsRefusedFor p net seed o r)

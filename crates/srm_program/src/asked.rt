@@ -1,15 +1,16 @@
 //! What is asked of a run.
-use crate::options::Options;
-use srm_net::net::Net;
-use srm_scenario::scenario::Scenario;
+ghost use Rattle.std.specs.Prelude.{map};
+ghost use Rattle.srm_engine.specs.Starts.{AreOpening};
 
-/// What is asked of a run, besides its members.
-#[derive(Clone, Copy)]
-pub(crate) struct Asked<'a> {
-    /// What is run.
-    pub scenario: &'a Scenario,
-    /// The scenario's network.
-    pub net: &'a Net,
-    /// How, and what is shown of it.
-    pub options: Options,
+use crate::task::Task;
+use srm_member::participant::Participant;
+
+/// A task, and its members as they are at first.
+#[derive(Drop)]
+pub(crate) struct Asked<'a, M: Participant> {
+    /// Which session is run, and how.
+    pub task: Task<'a>,
+    /// The members, in order of their numbers.
+    pub members: Vec<M>,
+    pub ghost opening: { AreOpening task.session (map M.plain members.items) },
 }

@@ -16,6 +16,7 @@ pub mod replications;
 mod report;
 pub mod run;
 pub mod session;
+mod task;
 
 pub use srm_command_line::{command_line, request};
 pub use srm_options::options;

@@ -1,19 +1,21 @@
 //! Tables that list rows, written as the rows of a run come.
-ghost use Rattle.std.specs.Prelude.{◌≡◌, ◌<◌, ◌-◌, ◌^◌, ℕ, Some, [], map};
-ghost use Rattle.srm_scenario.specs.Plain.{network_of};
-ghost use Rattle.srm_engine.specs.Outcomes.{HoldOpeningRecords};
+ghost use Rattle.std.specs.Prelude.{◌≡◌, ◌<◌, ◌-◌, ◌^◌, Some, [], map};
 ghost use Rattle.srm_interfaces.specs.declared.sink.Stage.{Stage};
 ghost use Rattle.srm_report.specs.ListingSinks.{stage_of, outlet_under, gathered_by, gathering_room, written_by, AreOverOne};
 ghost use Rattle.srm_report.specs.Listings.{text_in};
+ghost use Rattle.srm_engine.specs.Starts.{AreOpening};
+ghost use Rattle.srm_program.specs.Askings.{ForEachSeed, IsListed, MayLead};
 ghost use Rattle.srm_program.specs.Reports.{failures_after_run, TellsListing};
-ghost use Rattle.srm_program.specs.Runs.{MayShareBag, MayBreakOff, TellsRefusedFor, MayBeListed, IsListed};
+ghost use Rattle.srm_program.specs.Runs.{MayBreakOff, TellsRefusedFor};
 
 use crate::asked::Asked;
 use crate::fault::LabFault;
 use crate::hand_rows::hand_rows;
 use crate::in_team::PIECES;
 use crate::options::{CrewKind, Engine};
-use srm_member::member::Member;
+use crate::task::Task;
+use srm_interfaces::crew::Crew;
+use srm_member::participant::Participant;
 use srm_member::row::Row;
 use srm_report::fault::ReportFault;
 use srm_report::lining::Lining;
@@ -38,16 +40,13 @@ const GATHERED: usize = 8_192;
 const MANY_ROWS: usize = 200;
 
 // Writes the rows through a new sink, as they come, and then what it gathered.
-fn write_rows<R: Threads + Wait + Sync, L: Listing, O: Outlet>(
-    rt: &R,
+fn write_rows<M: Participant, C: Crew<M>, L: Listing, O: Outlet>(
     alloc: Global,
-    asked: &Asked,
-    members: Vec<Box<dyn Member>>,
+    asked: Asked<M>,
+    crew: &mut C,
     sink: &mut ListingSink<L, O>,
 ) -> Result<(), LabFault>
-    requires network { asked.now.net.now ≡ network_of asked.now.scenario.now }
-    requires boxes { (seed : ℕ) × HoldOpeningRecords asked.now.scenario.now asked.now.net.now seed (map (λ b. plain b) members.items) }
-    requires workers { MayShareBag asked.now.options.workers }
+    requires crew { MayLead C.Crew crew.old asked.task.session }
     requires fresh { stage_of sink.old ≡ Stage.Fresh }
     requires gathered { gathered_by sink.old ≡ [] }
     requires written { written_by sink.old ≡ 0 }
@@ -55,14 +54,11 @@ fn write_rows<R: Threads + Wait + Sync, L: Listing, O: Outlet>(
     ensures outlet { AreOverOne sink.old sink.new }
     ensures failures { O.failures (outlet_under sink.new)
         ≡ failures_after_run result (O.failures (outlet_under sink.old)) }
-    ensures listing { (seed : ℕ) → HoldOpeningRecords asked.now.scenario.now asked.now.net.now seed (map (λ b. plain b) members.items)
-        → TellsListing (text_in L.form) (gathering_room sink.old)
-        (MayBreakOff asked.now.scenario.now asked.now.net.now seed asked.now.options) asked.now.scenario.now asked.now.net.now seed
-        (O.taken (outlet_under sink.old)) (O.taken (outlet_under sink.new)) result }
-    ensures asked { (seed : ℕ) → HoldOpeningRecords asked.now.scenario.now asked.now.net.now seed (map (λ b. plain b) members.items)
-        → TellsRefusedFor asked.now.scenario.now asked.now.net.now seed asked.now.options result }
+    ensures listing { ForEachSeed asked.entry.task (map M.plain asked.entry.members.items) (λ p net seed. TellsListing (text_in L.form) (gathering_room sink.old)
+        (MayBreakOff p net seed asked.entry.task.options) p net seed (O.taken (outlet_under sink.old)) (O.taken (outlet_under sink.new)) result) }
+    ensures asked { ForEachSeed asked.entry.task (map M.plain asked.entry.members.items) (λ p net seed. TellsRefusedFor p net seed asked.entry.task.options result) }
 {
-    match hand_rows(rt, alloc, asked, members, sink) {
+    match hand_rows(alloc, asked, crew, sink) {
         Ok(_) => match sink.flush() {
             Ok(()) => Ok(()),
             Err(WriteFault { written }) => Err(LabFault::WriteFault { written }),
@@ -72,49 +68,49 @@ fn write_rows<R: Threads + Wait + Sync, L: Listing, O: Outlet>(
 }
 
 // Writes a table as its rows come, through a sink of its own.
-fn write_table<R: Threads + Wait + Sync, L: Listing, O: Outlet>(
-    rt: &R,
+fn write_table<M: Participant, C: Crew<M>, L: Listing, O: Outlet>(
     alloc: Global,
-    asked: &Asked,
+    asked: Asked<M>,
+    crew: &mut C,
     listing: L,
-    members: Vec<Box<dyn Member>>,
     outlet: &mut O,
 ) -> Result<(), LabFault>
-    requires run { MayBeListed asked.now.scenario.now asked.now.net.now asked.now.options (map (λ b. plain b) members.items) }
+    requires crew { MayLead C.Crew crew.old asked.task.session }
     requires count { O.failures outlet.old < 2 ^ 64 - 1 }
-    ensures { IsListed L.form O.failures O.taken asked.now.scenario.now asked.now.net.now asked.now.options
-        (map (λ b. plain b) members.items) outlet.old result outlet.new }
+    ensures { IsListed O.Outlet L.form asked.entry.task (map M.plain asked.entry.members.items) outlet.old result outlet.new }
 {
     let mut sink = ListingSink::gathering(alloc, listing, outlet, GATHERED);
-    let answer = write_rows(rt, alloc, asked, members, &mut sink);
+    let answer = write_rows(alloc, asked, crew, &mut sink);
     // By its contract, the outlet is then as the sink left it.
     let _outlet = sink.into_outlet();
     answer
 }
 
 // The same of a table and members that wait.
-fn write_waiting<R: Threads + Wait + Sync, L: Listing, O: Outlet>(
-    rt: &R,
+fn write_waiting<M: Participant, C: Crew<M>, L: Listing, O: Outlet>(
     alloc: Global,
-    asked: &Asked,
-    waiting: &mut Option<(L, Vec<Box<dyn Member>>)>,
+    task: &Task,
+    waiting: &mut Option<(L, Vec<M>)>,
+    crew: &mut C,
     outlet: &mut O,
 ) -> Result<(), LabFault>
-    requires waiting { (l : _) × (waiting.old ≡ Some l)
-        × MayBeListed asked.now.scenario.now asked.now.net.now asked.now.options (map (λ b. plain b) l.1.items) }
+    requires waiting { (l : _) × (waiting.old ≡ Some l) × AreOpening task.now.session (map M.plain l.1.items) }
+    requires crew { MayLead C.Crew crew.old task.now.session }
     requires count { O.failures outlet.old < 2 ^ 64 - 1 }
     ensures { (l : _) → waiting.old ≡ Some l
-        → IsListed L.form O.failures O.taken asked.now.scenario.now asked.now.net.now asked.now.options
-        (map (λ b. plain b) l.1.items) outlet.old result outlet.new }
+        → IsListed O.Outlet L.form task.now (map M.plain l.1.items) outlet.old result outlet.new }
 {
     let (listing, members) = waiting.take().unwrap();
-    write_table(rt, alloc, asked, listing, members, outlet)
+    let asked = Asked { task: *task, members };
+    write_table(alloc, asked, crew, listing, outlet)
 }
 
 // The same beside so many threads, of which there may be none. They serve at the bench until the table is written.
 fn write_beside<
     J: Naming + Send + Sync,
     R: Threads + Wait + Sync,
+    M: Participant,
+    C: Crew<M>,
     L: Listing + Copy + Send + Sync,
     T: Listing,
     O: Outlet,
@@ -122,32 +118,29 @@ fn write_beside<
     rt: &R,
     alloc: Global,
     bench: &Bench<Lining<L>, Vec<Row>, Result<Vec<u8>, ReportFault>, J>,
-    asked: &Asked,
-    listing: T,
-    members: Vec<Box<dyn Member>>,
+    task: &Task,
+    waiting: (T, Vec<M>),
+    crew: &mut C,
     outlet: &mut O,
 ) -> Result<(), LabFault>
-    requires run { MayBeListed asked.now.scenario.now asked.now.net.now asked.now.options (map (λ b. plain b) members.items) }
+    requires opening { AreOpening task.now.session (map M.plain waiting.1.items) }
+    requires crew { MayLead C.Crew crew.old task.now.session }
     requires count { O.failures outlet.old < 2 ^ 64 - 1 }
-    ensures { IsListed T.form O.failures O.taken asked.now.scenario.now asked.now.net.now asked.now.options
-        (map (λ b. plain b) members.items) outlet.old result outlet.new }
+    ensures { IsListed O.Outlet T.form task.now (map M.plain waiting.1.items) outlet.old result outlet.new }
 {
-    let threads = usize::from(asked.options.workers) - 1;
-    let mut waiting = Some((listing, members));
-    // The first closure borrows the other ones.
+    let threads = usize::from(task.options.workers) - 1;
+    let mut waiting = Some(waiting);
+    // The first closure borrows `alloc`.
     let own = alloc;
-    let own_rt = rt;
     let ((), answer) = join_mut(
         rt,
         &mut || serve_all(rt, alloc, threads, bench),
         &mut ||
-            requires { (l : _) × (waiting ≡ Some l)
-                × MayBeListed asked.now.scenario.now asked.now.net.now asked.now.options (map (λ b. plain b) l.1.items)
-                × (O.failures outlet.now < 2 ^ 64 - 1) }
+            requires { (l : _) × (waiting ≡ Some l) × AreOpening task.now.session (map M.plain l.1.items)
+                × MayLead C.Crew crew.now task.now.session × (O.failures outlet.now < 2 ^ 64 - 1) }
             ensures { (l : _) → waiting.entry ≡ Some l
-                → IsListed T.form O.failures O.taken asked.entry.now.scenario.now asked.entry.now.net.now asked.entry.now.options
-                (map (λ b. plain b) l.1.items) outlet.entry.now result outlet.exit.now }
-        { write_waiting(own_rt, own, asked, &mut waiting, outlet) },
+                → IsListed O.Outlet T.form task.entry.now (map M.plain l.1.items) outlet.entry.now result outlet.exit.now }
+        { write_waiting(own, task, &mut waiting, crew, outlet) },
     );
     answer
 }
@@ -157,62 +150,61 @@ fn write_beside<
 fn write_by_team<
     J: Naming + Send + Sync,
     R: Threads + Wait + Sync,
+    M: Participant,
+    C: Crew<M>,
     L: Listing + Copy + Send + Sync,
     O: Outlet,
 >(
     rt: &R,
     alloc: Global,
     opened: Opened<Lining<L>, Vec<Row>>,
-    asked: &Asked,
+    asked: Asked<M>,
+    crew: &mut C,
     listing: L,
-    members: Vec<Box<dyn Member>>,
     outlet: &mut O,
 ) -> Result<(), LabFault>
     requires history { opened ≡ J.book }
-    requires run { MayBeListed asked.now.scenario.now asked.now.net.now asked.now.options (map (λ b. plain b) members.items) }
+    requires crew { MayLead C.Crew crew.old asked.task.session }
     requires count { O.failures outlet.old < 2 ^ 64 - 1 }
-    ensures { IsListed L.form O.failures O.taken asked.now.scenario.now asked.now.net.now asked.now.options
-        (map (λ b. plain b) members.items) outlet.old result outlet.new }
+    ensures { IsListed O.Outlet L.form asked.entry.task (map M.plain asked.entry.members.items) outlet.old result outlet.new }
 {
     match open_team::<Lining<L>, Vec<Row>, Result<Vec<u8>, ReportFault>, J>(
         alloc,
         opened,
-        PIECES * usize::from(asked.options.workers),
+        PIECES * usize::from(asked.task.options.workers),
     ) {
         Ok((team, bench)) => {
             let listing = TeamListing::new(rt, team, listing, MANY_ROWS);
-            write_beside(rt, alloc, &bench, asked, listing, members, outlet)
+            let Asked { task, members } = asked;
+            write_beside(rt, alloc, &bench, &task, (listing, members), crew, outlet)
         }
-        Err(_) => write_table(rt, alloc, asked, listing, members, outlet),
+        Err(_) => write_table(alloc, asked, crew, listing, outlet),
     }
 }
 
 /// Writes a table that lists rows, as the rows of the run come. Where a team of several workers runs the scenario, as many make the
 /// text of windows with many rows.
-pub(crate) fn write_listing<R: Threads + Wait + Sync, L: Listing + Copy + Send + Sync, O: Outlet>(
+pub(crate) fn write_listing<
+    R: Threads + Wait + Sync,
+    M: Participant,
+    C: Crew<M>,
+    L: Listing + Copy + Send + Sync,
+    O: Outlet,
+>(
     rt: &R,
     alloc: Global,
-    asked: &Asked,
+    asked: Asked<M>,
+    crew: &mut C,
     listing: L,
-    members: Vec<Box<dyn Member>>,
     outlet: &mut O,
 ) -> Result<(), LabFault>
-    requires run { MayBeListed asked.now.scenario.now asked.now.net.now asked.now.options (map (λ b. plain b) members.items) }
+    requires crew { MayLead C.Crew crew.old asked.task.session }
     requires count { O.failures outlet.old < 2 ^ 64 - 1 }
-    ensures { IsListed L.form O.failures O.taken asked.now.scenario.now asked.now.net.now asked.now.options
-        (map (λ b. plain b) members.items) outlet.old result outlet.new }
+    ensures { IsListed O.Outlet L.form asked.entry.task (map M.plain asked.entry.members.items) outlet.old result outlet.new }
 {
-    let o = &asked.options;
+    let o = asked.task.options;
     if o.engine == Engine::Window && o.crew == CrewKind::Team && o.workers > 1 {
-        return write_by_team::<Brand, R, L, O>(
-            rt,
-            alloc,
-            Opened::new(),
-            asked,
-            listing,
-            members,
-            outlet,
-        );
+        return write_by_team::<Brand, R, M, C, L, O>(rt, alloc, Opened::new(), asked, crew, listing, outlet);
     }
-    write_table(rt, alloc, asked, listing, members, outlet)
+    write_table(alloc, asked, crew, listing, outlet)
 }

@@ -1,6 +1,5 @@
 //! The members of a scenario, made by their roles.
 ghost use Rattle.std.specs.Prelude.{◌≡◌, ◌<◌, ◌-◌, ◌^◌};
-ghost use Rattle.srm_scenario.specs.Plain.{network_of};
 ghost use Rattle.srm_program.specs.Runs.{MayShareBag};
 ghost use Rattle.srm_program.specs.Sessions.{session_failures, TellsSession};
 
@@ -9,39 +8,36 @@ use crate::made::{Made, made_members};
 use crate::options::Options;
 use crate::run::run;
 use srm_member::member::Member;
-use srm_net::net::Net;
 use srm_report::outlet::Outlet;
-use srm_scenario::scenario::Scenario;
+use srm_scenario::session::Session;
 use std::alloc::Global;
 use std::marker::Sync;
 use std::sync::Wait;
 use std::thread::Threads;
 
-/// Makes each member of a scenario by its role, with random words of this seed, runs them in boxes, and writes the report of the run.
+/// Makes each member of a session by its role, with random words of this seed, runs them in boxes, and writes the report of the run.
 ///
 /// # Errors
 /// Memory runs out before the run, and nothing is written; or the run is refused, as [`run`] says.
 pub(crate) fn run_members<R: Threads + Wait + Sync, O: Outlet>(
     rt: &R,
     alloc: Global,
-    scenario: &Scenario,
-    net: &Net,
+    session: Session,
     seed: u64,
     options: Options,
     outlet: &mut O,
 ) -> Result<(), Fault>
-    requires network { net.now ≡ network_of scenario.now }
     requires workers { MayShareBag options.workers }
     requires count { O.failures outlet.old < 2 ^ 64 - 1 }
     ensures failures { O.failures outlet.new ≡ session_failures result (O.failures outlet.old) }
-    ensures report { TellsSession scenario.now net.now seed options
+    ensures report { TellsSession session.entry.scenario.now session.entry.net.now seed options
         (O.taken outlet.old) (O.taken outlet.new) result }
 {
     let mut members: Vec<Box<dyn Member>> = Vec::with_capacity(
         alloc,
-        usize::from(scenario.members()),
+        usize::from(session.scenario.members()),
     )?;
-    for made in made_members(alloc, scenario, net, seed)? {
+    for made in made_members(alloc, session, seed)? {
         let member: Box<dyn Member> = match made {
             Made::Sender(sender) => Box::new(alloc, sender)?,
             Made::Receiver(receiver) => Box::new(alloc, receiver)?,
@@ -50,6 +46,7 @@ pub(crate) fn run_members<R: Threads + Wait + Sync, O: Outlet>(
         };
         members.push(member)?;
     }
+    let Session { scenario, net } = session;
     match run(rt, alloc, scenario, net, members, options, outlet) {
         Ok(()) => Ok(()),
         Err(fault) => Err(Fault::Lab(fault)),

@@ -13,7 +13,7 @@ use crate::fault::{Fault, LabFault, LineFault};
 use crate::line::{NoMemory, line_of};
 use crate::options::Options;
 use crate::request::{Request, request_of};
-use crate::session::{Session, simulate};
+use crate::session::{Simulated, simulate};
 use srm_report::outlet::Outlet;
 use srm_report::writing::{WriteFault, write_out};
 use srm_scenario::feed::Feed;
@@ -83,7 +83,7 @@ pub fn answer<R: Threads + Wait + Sync, F: Feed, O: Outlet, E: Outlet>(
 {
     let Request { asked, message } = request;
     let explains = asks_explanation(&asked);
-    let Session { done, text } = carry_out(rt, alloc, asked, feed, outlet);
+    let Simulated { done, text } = carry_out(rt, alloc, asked, feed, outlet);
     match done {
         Ok(()) => 0,
         Err(fault) => {
@@ -101,7 +101,7 @@ fn carry_out<R: Threads + Wait + Sync, F: Feed, O: Outlet>(
     asked: Result<(u64, Options), LineFault>,
     feed: &mut F,
     outlet: &mut O,
-) -> Session
+) -> Simulated
     requires asked { IfOk asked MayBeAsked }
     requires feed { F.failures feed.old < 2 ^ 64 - 1 }
     requires outlet { O.failures outlet.old < 2 ^ 64 - 1 }
@@ -116,12 +116,12 @@ fn carry_out<R: Threads + Wait + Sync, F: Feed, O: Outlet>(
     match asked {
         Ok((seed, options)) => simulate(rt, alloc, feed, seed, options, outlet),
         Err(LineFault::Help { text }) => match write_out(outlet, text.as_bytes()) {
-            Ok(()) => Session::unread(alloc, Ok(())),
+            Ok(()) => Simulated::unread(alloc, Ok(())),
             Err(WriteFault { written }) => {
-                Session::unread(alloc, Err(Fault::Lab(LabFault::WriteFault { written })))
+                Simulated::unread(alloc, Err(Fault::Lab(LabFault::WriteFault { written })))
             }
         },
-        Err(fault) => Session::unread(alloc, Err(Fault::Line(fault))),
+        Err(fault) => Simulated::unread(alloc, Err(Fault::Line(fault))),
     }
 }
 

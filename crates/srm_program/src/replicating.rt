@@ -9,6 +9,7 @@ use srm_net::net::Net;
 use srm_report::outlet::WriteOutlet;
 use srm_report::seeds::seeded_lines;
 use srm_scenario::scenario::Scenario;
+use srm_scenario::session::Session;
 use srm_team::work::Work;
 use std::alloc::Global;
 use std::marker::Sync;
@@ -65,7 +66,8 @@ fn lines_of_seed<R: Threads + Wait + Sync>(
     ensures { MakesLines scenario.now net.now options.show seed result }
 {
     let mut outlet = WriteOutlet::new(Vec::new(alloc));
-    match run_members(rt, alloc, scenario, net, seed, options, &mut outlet) {
+    let session = Session { scenario, net };
+    match run_members(rt, alloc, session, seed, options, &mut outlet) {
         Ok(()) => {
             let table = outlet.into_inner();
             match seeded_lines(alloc, seed, table.as_slice()) {

@@ -1,18 +1,27 @@
 //! One run of a scenario, and its report.
 ghost use Rattle.std.specs.Prelude.{◌≡◌, ◌<◌, ◌-◌, ◌^◌, ℕ, map};
 ghost use Rattle.srm_scenario.specs.Plain.{network_of};
-ghost use Rattle.srm_scenario.specs.Accepted.{IsAccepted};
-ghost use Rattle.srm_engine.specs.Outcomes.{HoldOpeningRecords};
-ghost use Rattle.srm_program.specs.Reports.{failures_after_run, TellsTable};
-ghost use Rattle.srm_program.specs.Runs.{MayShareBag, TellsRefusedFor, TellsRunFor};
+ghost use Rattle.srm_engine.specs.Openings.{HoldOpeningRecords};
+ghost use Rattle.srm_engine.specs.Starts.{AreOpening};
+ghost use Rattle.srm_program.specs.Askings.{MayLead, Reports, Tabled};
+ghost use Rattle.srm_program.specs.Reports.{failures_after_run};
+ghost use Rattle.srm_program.specs.Runs.{MayShareBag, TellsRunFor};
 
 use crate::asked::Asked;
 use crate::fault::LabFault;
 use crate::hand_rows::hand_rows;
 use crate::listed::write_listing;
-use crate::options::{Options, Show};
+use crate::in_team::in_team;
+use crate::options::{CrewKind, Engine, Options, Show};
 use crate::report::write_text;
+use crate::task::Task;
+use srm_crew::bag_crew::BagCrew;
+use srm_crew::gate::OpenGate;
+use srm_crew::plain::PlainCrew;
+use srm_crew::pool::PoolCrew;
+use srm_interfaces::crew::Crew;
 use srm_member::member::Member;
+use srm_member::participant::Participant;
 use srm_net::net::Net;
 use srm_report::links::links_text;
 use srm_report::losses_sink::LossesSink;
@@ -22,6 +31,7 @@ use srm_report::outlet::Outlet;
 use srm_report::timers::TimersListing;
 use srm_report::trace::TraceListing;
 use srm_scenario::scenario::Scenario;
+use srm_scenario::session::Session;
 use std::alloc::Global;
 use std::marker::Sync;
 use std::sync::Wait;
@@ -65,93 +75,100 @@ pub fn run<R: Threads + Wait + Sync, O: Outlet>(
     ensures report { (seed : ℕ) → HoldOpeningRecords scenario.now net.now seed (map (λ b. plain b) members.items)
         → TellsRunFor scenario.now net.now seed options (O.taken outlet.old) (O.taken outlet.new) result }
 {
-    // By its contract, every scenario is accepted: that makes the rows of its run orderly.
-    let _ = scenario.until();
-    let asked = Asked {
-        scenario,
-        net,
-        options,
-    };
-    match options.show {
-        Show::Trace => write_listing(rt, alloc, &asked, TraceListing, members, outlet),
-        Show::Members => write_members(rt, alloc, &asked, members, outlet),
-        Show::Losses => write_losses(rt, alloc, &asked, members, outlet),
-        Show::Links => write_links(rt, alloc, &asked, members, outlet),
-        Show::Timers => write_listing(rt, alloc, &asked, TimersListing, members, outlet),
+    let session = Session { scenario, net };
+    let task = Task { session, options };
+    if options.engine == Engine::Step {
+        return report(rt, alloc, task, members, &mut PlainCrew::new(), outlet);
+    }
+    match options.crew {
+        CrewKind::Plain => report(rt, alloc, task, members, &mut PlainCrew::new(), outlet),
+        CrewKind::Pool => report(rt, alloc, task, members, &mut PoolCrew::new(rt), outlet),
+        CrewKind::Bag => {
+            let mut crew = BagCrew::new(rt, OpenGate, options.workers);
+            report(rt, alloc, task, members, &mut crew, outlet)
+        }
+        CrewKind::Team => in_team(rt, alloc, task, members, outlet),
+    }
+}
+
+/// The report of a task, with this crew. Its members are of any type, since no struct that keeps what is known of them can be of
+/// boxes.
+pub(crate) fn report<R: Threads + Wait + Sync, M: Participant, C: Crew<M>, O: Outlet>(
+    rt: &R,
+    alloc: Global,
+    task: Task,
+    members: Vec<M>,
+    crew: &mut C,
+    outlet: &mut O,
+) -> Result<(), LabFault>
+    requires opening { AreOpening task.session (map M.plain members.items) }
+    requires crew { MayLead C.Crew crew.old task.session }
+    requires count { O.failures outlet.old < 2 ^ 64 - 1 }
+    ensures { Reports O.Outlet task.entry (map M.plain members.items) outlet.old result outlet.new }
+{
+    let asked = Asked { task, members };
+    match task.options.show {
+        Show::Trace => write_listing(rt, alloc, asked, crew, TraceListing, outlet),
+        Show::Members => write_members(alloc, asked, crew, outlet),
+        Show::Losses => write_losses(alloc, asked, crew, outlet),
+        Show::Links => write_links(alloc, asked, crew, outlet),
+        Show::Timers => write_listing(rt, alloc, asked, crew, TimersListing, outlet),
     }
 }
 
 // Counts the rows of each member, and writes the table of members at the end.
-fn write_members<R: Threads + Wait + Sync, O: Outlet>(
-    rt: &R,
+fn write_members<M: Participant, C: Crew<M>, O: Outlet>(
     alloc: Global,
-    asked: &Asked,
-    members: Vec<Box<dyn Member>>,
+    asked: Asked<M>,
+    crew: &mut C,
     outlet: &mut O,
 ) -> Result<(), LabFault>
-    requires network { asked.now.net.now ≡ network_of asked.now.scenario.now }
-    requires boxes { (seed : ℕ) × HoldOpeningRecords asked.now.scenario.now asked.now.net.now seed (map (λ b. plain b) members.items) }
-    requires workers { MayShareBag asked.now.options.workers }
+    requires crew { MayLead C.Crew crew.old asked.task.session }
     requires count { O.failures outlet.old < 2 ^ 64 - 1 }
-    ensures failures { O.failures outlet.new ≡ failures_after_run result (O.failures outlet.old) }
-    ensures table { (seed : ℕ) → HoldOpeningRecords asked.now.scenario.now asked.now.net.now seed (map (λ b. plain b) members.items)
-        → TellsTable asked.now.scenario.now asked.now.net.now seed Show.Members (O.taken outlet.old) (O.taken outlet.new) result }
-    ensures asked { (seed : ℕ) → HoldOpeningRecords asked.now.scenario.now asked.now.net.now seed (map (λ b. plain b) members.items)
-        → TellsRefusedFor asked.now.scenario.now asked.now.net.now seed asked.now.options result }
+    ensures { Tabled O.Outlet Show.Members asked.entry.task (map M.plain asked.entry.members.items) outlet.old result outlet.new }
 {
+    let scenario = asked.task.session.scenario;
     let mut sink = MembersSink::new(alloc);
-    match hand_rows(rt, alloc, asked, members, &mut sink) {
-        Ok(_) => write_text(sink.text(alloc, asked.scenario), outlet),
+    match hand_rows(alloc, asked, crew, &mut sink) {
+        Ok(_) => write_text(sink.text(alloc, scenario), outlet),
         Err(fault) => Err(fault),
     }
 }
 
 // Finds the losses of the rows, and writes the table of losses at the end.
-fn write_losses<R: Threads + Wait + Sync, O: Outlet>(
-    rt: &R,
+fn write_losses<M: Participant, C: Crew<M>, O: Outlet>(
     alloc: Global,
-    asked: &Asked,
-    members: Vec<Box<dyn Member>>,
+    asked: Asked<M>,
+    crew: &mut C,
     outlet: &mut O,
 ) -> Result<(), LabFault>
-    requires accepted { IsAccepted asked.now.scenario.now }
-    requires network { asked.now.net.now ≡ network_of asked.now.scenario.now }
-    requires boxes { (seed : ℕ) × HoldOpeningRecords asked.now.scenario.now asked.now.net.now seed (map (λ b. plain b) members.items) }
-    requires workers { MayShareBag asked.now.options.workers }
+    requires crew { MayLead C.Crew crew.old asked.task.session }
     requires count { O.failures outlet.old < 2 ^ 64 - 1 }
-    ensures failures { O.failures outlet.new ≡ failures_after_run result (O.failures outlet.old) }
-    ensures table { (seed : ℕ) → HoldOpeningRecords asked.now.scenario.now asked.now.net.now seed (map (λ b. plain b) members.items)
-        → TellsTable asked.now.scenario.now asked.now.net.now seed Show.Losses (O.taken outlet.old) (O.taken outlet.new) result }
-    ensures asked { (seed : ℕ) → HoldOpeningRecords asked.now.scenario.now asked.now.net.now seed (map (λ b. plain b) members.items)
-        → TellsRefusedFor asked.now.scenario.now asked.now.net.now seed asked.now.options result }
+    ensures { Tabled O.Outlet Show.Losses asked.entry.task (map M.plain asked.entry.members.items) outlet.old result outlet.new }
 {
+    let Session { scenario, net } = asked.task.session;
+    // By its contract, every scenario is accepted: that makes the rows of its run orderly.
+    let _ = scenario.until();
     let mut sink = LossesSink::new(alloc);
-    match hand_rows(rt, alloc, asked, members, &mut sink) {
-        Ok(_) => write_text(sink.text(alloc, asked.net), outlet),
+    match hand_rows(alloc, asked, crew, &mut sink) {
+        Ok(_) => write_text(sink.text(alloc, net), outlet),
         Err(fault) => Err(fault),
     }
 }
 
 // Writes the table of links at the end, of the totals alone.
-fn write_links<R: Threads + Wait + Sync, O: Outlet>(
-    rt: &R,
+fn write_links<M: Participant, C: Crew<M>, O: Outlet>(
     alloc: Global,
-    asked: &Asked,
-    members: Vec<Box<dyn Member>>,
+    asked: Asked<M>,
+    crew: &mut C,
     outlet: &mut O,
 ) -> Result<(), LabFault>
-    requires network { asked.now.net.now ≡ network_of asked.now.scenario.now }
-    requires boxes { (seed : ℕ) × HoldOpeningRecords asked.now.scenario.now asked.now.net.now seed (map (λ b. plain b) members.items) }
-    requires workers { MayShareBag asked.now.options.workers }
+    requires crew { MayLead C.Crew crew.old asked.task.session }
     requires count { O.failures outlet.old < 2 ^ 64 - 1 }
-    ensures failures { O.failures outlet.new ≡ failures_after_run result (O.failures outlet.old) }
-    ensures table { (seed : ℕ) → HoldOpeningRecords asked.now.scenario.now asked.now.net.now seed (map (λ b. plain b) members.items)
-        → TellsTable asked.now.scenario.now asked.now.net.now seed Show.Links (O.taken outlet.old) (O.taken outlet.new) result }
-    ensures asked { (seed : ℕ) → HoldOpeningRecords asked.now.scenario.now asked.now.net.now seed (map (λ b. plain b) members.items)
-        → TellsRefusedFor asked.now.scenario.now asked.now.net.now seed asked.now.options result }
+    ensures { Tabled O.Outlet Show.Links asked.entry.task (map M.plain asked.entry.members.items) outlet.old result outlet.new }
 {
     let mut sink = NoRows::new();
-    match hand_rows(rt, alloc, asked, members, &mut sink) {
+    match hand_rows(alloc, asked, crew, &mut sink) {
         Ok(totals) => write_text(links_text(alloc, &totals), outlet),
         Err(fault) => Err(fault),
     }

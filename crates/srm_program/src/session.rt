@@ -16,14 +16,15 @@ use srm_scenario::bytes::{TextFault, read_text};
 use srm_scenario::fault::ScenarioFault;
 use srm_scenario::feed::Feed;
 use srm_scenario::reading::scenario_of_text;
+use srm_scenario::session::Session;
 use std::alloc::Global;
 use std::marker::Sync;
 use std::sync::Wait;
 use std::thread::Threads;
 
-/// What came of a session.
+/// What came of a simulation.
 #[derive(Debug, Drop)]
-pub struct Session {
+pub struct Simulated {
     /// Whether it was refused, and why.
     pub done: Result<(), Fault>,
     /// The text that was read, so that a refusal can be explained: all that was given, or nothing. It is nothing where the feed failed
@@ -32,13 +33,13 @@ pub struct Session {
     pub text: Vec<u8>,
 }
 
-impl Session {
-    // A session that read no text.
-    pub(crate) fn unread(alloc: Global, done: Result<(), Fault>) -> Session
+impl Simulated {
+    // One that read no text.
+    pub(crate) fn unread(alloc: Global, done: Result<(), Fault>) -> Simulated
         ensures done { result.done ≡ done }
         ensures text { result.text.items ≡ [] }
     {
-        Session {
+        Simulated {
             done,
             text: Vec::new(alloc),
         }
@@ -55,7 +56,7 @@ pub fn simulate<R: Threads + Wait + Sync, F: Feed, O: Outlet>(
     seed: u64,
     options: Options,
     outlet: &mut O,
-) -> Session
+) -> Simulated
     requires workers { MayShareBag options.workers }
     requires replications { MayBeReplicated seed options.engine options.replications }
     requires feed { F.failures feed.old < 2 ^ 64 - 1 }
@@ -78,17 +79,17 @@ pub fn simulate<R: Threads + Wait + Sync, F: Feed, O: Outlet>(
         Err(TextFault::ReadFault) => {
             let done = Err(Fault::Scenario(ScenarioFault::ReadFault));
             let text = Vec::new(alloc);
-            return Session { done, text };
+            return Simulated { done, text };
         }
         Err(TextFault::TooLong) => {
             let done = Err(Fault::Scenario(ScenarioFault::TooLong));
             let text = Vec::new(alloc);
-            return Session { done, text };
+            return Simulated { done, text };
         }
-        Err(TextFault::NoMemory) => return Session::unread(alloc, Err(Fault::NoMemory)),
+        Err(TextFault::NoMemory) => return Simulated::unread(alloc, Err(Fault::NoMemory)),
     };
     let done = simulate_text(rt, alloc, &text, seed, options, outlet);
-    Session { done, text }
+    Simulated { done, text }
 }
 
 /// Makes the members of the scenario that a text describes, with random words of this seed, runs them, and writes the report of
@@ -126,7 +127,13 @@ pub fn simulate_text<R: Threads + Wait + Sync, O: Outlet>(
         return Err(Fault::NoMemory);
     };
     match options.replications {
-        None => run_members(rt, alloc, &scenario, &net, seed, options, outlet),
+        None => {
+            let session = Session {
+                scenario: &scenario,
+                net: &net,
+            };
+            run_members(rt, alloc, session, seed, options, outlet)
+        }
         Some(count) => {
             let seeds = Seeds { first: seed, count };
             match replicate(rt, alloc, &scenario, &net, seeds, options, outlet) {

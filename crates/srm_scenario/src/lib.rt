@@ -25,6 +25,7 @@ pub mod rules;
 pub mod scenario;
 pub mod script;
 mod scripts;
+pub mod session;
 pub mod table;
 pub mod top;
 pub mod topology;

@@ -34,12 +34,12 @@ loop-cell-preserved g c =
       ap length {y = ts ++ t ∷ []} pushed ∙ length-append ts (t ∷ []) ∙ ap (λ n. n + 1) i.0,
       λ j x get.
           pushed_each (λ k (y : Option ℕ). (d : _) → slice_get c.args.cells.now k ≡ Some d
-          → IsNextTime (λ b. (goal.Member-dyn g (b.vtable, b.value)).plain b.value) d y) ts t i.1
+          → IsNextTime g.M.Participant.plain d y) ts t i.1
           (λ d at.
           let is = same_Some _ d (ap Some c.cell-item.is
           ∙ sym (slice_get-get_or c.args.cells.now c.loop-cell.cell-index c.cell-item.result c.loop-cell-test.true)
           ∙ ap (slice_get c.args.cells.now) (sym i.0) ∙ at) in
-          subst (λ e. IsNextTime (λ b. (goal.Member-dyn g (b.vtable, b.value)).plain b.value) e t) is c.next_time.ensures)
+          subst (λ e. IsNextTime g.M.Participant.plain e t) is c.next_time.ensures)
           j x (subst (λ l. slice_get l j ≡ Some x) pushed get),
     )
 
@@ -50,6 +50,6 @@ returns g c =
     let many = i.0 in
     let all : length c.loop-cell.times.items ≡ length c.args.cells.now = omega arith in (
       all,
-      λ ps h. times_of (λ b. (goal.Member-dyn g (b.vtable, b.value)).plain b.value) c.args.cells.now ps
+      λ ps h. times_of g.M.Participant.plain c.args.cells.now ps
           c.loop-cell.times.items h all i.1,
     )

@@ -7,4 +7,4 @@ abbrev pub invariant-loop-cell : goal.invariant-loop-cell
 invariant-loop-cell g l =
     (length l.times.items ≡ l.cell-index)
     × ((j : ℕ) (t : Option ℕ) → slice_get l.times.items j ≡ Some t → (c : _) → slice_get l.cells j ≡ Some c
-    → IsNextTime (λ b. (goal.Member-dyn g (b.vtable, b.value)).plain b.value) c t)
+    → IsNextTime g.M.Participant.plain c t)

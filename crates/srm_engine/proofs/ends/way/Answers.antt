@@ -3,5 +3,6 @@ use Rattle.srm_engine.proofs.Promises.{way_of_other}
 use Rattle.srm_engine.proofs.ends.way.Goals as goal
 
 pub returns-in_default : goal.returns-in_default
-returns-in_default c = λ seed. c.out-nearest.ensures.value ∙ way_of_other c.args.scenario.now c.args.net.now seed c.args.member
-    c.role.result c.requires.network c.role.ensures (λ e. c.in_default.not-Listener e)
+returns-in_default c = λ seed. c.out-nearest.ensures.value ∙ way_of_other c.args.session.scenario.now c.args.session.net.now seed
+    c.args.member
+    c.role.result c.args.session.network c.role.ensures (λ e. c.in_default.not-Listener e)

@@ -13,15 +13,15 @@ use Rattle.srm_engine.proofs.sent.sent_in.Goals as goal
 pub loop-rows-init : goal.loop-rows-init
 loop-rows-init c = (
   ap packets_in c.new-all.ensures.items,
-  subst (All (λ x. IsSent c.args.scenario.now c.args.net.now x)) (sym c.new-all.ensures.items)
-      (All-nil (λ x. IsSent c.args.scenario.now c.args.net.now x)),
+  subst (All (λ x. IsSent c.args.session.scenario.now c.args.session.net.now x)) (sym c.new-all.ensures.items)
+      (All-nil (λ x. IsSent c.args.session.scenario.now c.args.session.net.now x)),
 )
 
 pub add_sent-requires-clause-sent : goal.add_sent-requires-clause-sent
 add_sent-requires-clause-sent c =
-    subst (All (λ (r : Row). MayBeSent c.args.scenario.now r.sent)) (sym c.as_slice.ensures.value)
-    (subst (λ (v : Vec Row). All (λ (r : Row). MayBeSent c.args.scenario.now r.sent) v.items) (sym c.rows-item.is)
-    (All-get_or (λ (v : Vec Row). All (λ (r : Row). MayBeSent c.args.scenario.now r.sent) v.items) c.args.lists.now
+    subst (All (λ (r : Row). MayBeSent c.args.session.scenario.now r.sent)) (sym c.as_slice.ensures.value)
+    (subst (λ (v : Vec Row). All (λ (r : Row). MayBeSent c.args.session.scenario.now r.sent) v.items) (sym c.rows-item.is)
+    (All-get_or (λ (v : Vec Row). All (λ (r : Row). MayBeSent c.args.session.scenario.now r.sent) v.items) c.args.lists.now
     c.loop-rows.rows-index c.rows-item.result c.loop-rows-test.true c.requires.sent))
 
 pub loop-rows-preserved : goal.loop-rows-preserved

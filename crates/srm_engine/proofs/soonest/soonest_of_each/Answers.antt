@@ -1,6 +1,6 @@
 use Rattle.std.proofs.Common.{◌≡◌, ◌∙◌, ◌+◌, ◌/◌, ◌∷◌, [], sym, ap, subst, arith, length, length-append, get_or}
 use Rattle.srm_scenario.proofs.Members.{few_members}
-use Rattle.srm_cell.specs.Setting.{setting_of}
+use Rattle.srm_engine.specs.Starts.{setting_on}
 use Rattle.srm_engine.specs.declared.soonest.Soonest.{Soonest}
 use Rattle.srm_engine.specs.Soonest.{IsSoonest}
 use Rattle.srm_engine.proofs.SoonGroups.{looked_at, group_within, group_below, pushed_each}
@@ -11,7 +11,7 @@ overflow_mul-index g c =
     let at = group_within c.args.cut c.args.groups.now c.loop-index.index c.index-groups-index.result c.requires.cut c.requires.cuts
     c.loop-index-test.true in
     let within = at.within in
-    let few = few_members c.args.scenario.now c.until-until.ensures.accepted in
+    let few = few_members c.args.session.scenario.now c.until-until.ensures.accepted in
     let members = c.requires.members in
     omega arith
 
@@ -26,7 +26,7 @@ soonest_in-requires-clause-members g c =
     omega arith
 
 pub soonest_in-requires-clause-few : goal.soonest_in-requires-clause-few
-soonest_in-requires-clause-few g c = let few = few_members c.args.scenario.now c.until-until.ensures.accepted in omega arith
+soonest_in-requires-clause-few g c = let few = few_members c.args.session.scenario.now c.until-until.ensures.accepted in omega arith
 
 pub loop-index-preserved : goal.loop-index-preserved
 loop-index-preserved g c =
@@ -39,7 +39,7 @@ loop-index-preserved g c =
     let i = c.loop-index.invariant in (
       ap length pushed ∙ length-append old (y ∷ []) ∙ ap (λ n. n + 1) i.0,
       λ seed ps h j x get.
-          let s = setting_of c.args.scenario.now c.args.net.now seed in
+          let s = setting_on c.args.session seed in
           let new = looked_at g.M.Participant.plain c.args.cut gs ps c.requires.cut h s k group
           c.as_slice.result.now y c.loop-index-test.true c.index-groups-index.is c.as_slice.ensures.value
           (c.soonest_in.ensures seed ps) in

@@ -1,6 +1,6 @@
 use Rattle.std.proofs.Common.{◌≡◌, ◌/◌, ℕ, List, Some, length, slice_get}
-use Rattle.srm_cell.specs.Setting.{setting_of}
 use Rattle.srm_cell.specs.Cells.{PlainCell}
+use Rattle.srm_engine.specs.Starts.{setting_on}
 use Rattle.srm_engine.specs.declared.soonest.Soonest.{Soonest}
 use Rattle.srm_engine.specs.Groups.{AreGrouped}
 use Rattle.srm_engine.specs.Soonest.{IsSoonest}
@@ -10,4 +10,4 @@ abbrev pub invariant-loop-index : goal.invariant-loop-index
 invariant-loop-index g l =
     (length l.soonest.items ≡ l.index)
     × ((seed : ℕ) (ps : List PlainCell) → AreGrouped g.M.Participant.plain l.cut l.groups ps
-    → (j : ℕ) (x : Soonest) → slice_get l.soonest.items j ≡ Some x → IsSoonest (setting_of l.scenario l.net seed) (λ m. m / l.cut ≡ j) ps x)
+    → (j : ℕ) (x : Soonest) → slice_get l.soonest.items j ≡ Some x → IsSoonest (setting_on l.session seed) (λ m. m / l.cut ≡ j) ps x)

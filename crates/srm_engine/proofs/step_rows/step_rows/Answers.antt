@@ -6,8 +6,8 @@ use Rattle.srm_engine.proofs.step_rows.step_rows.Goals as goal
 
 pub into_totals-requires : goal.into_totals-requires
 into_totals-requires g c =
-    let t = c.in-Ok.ensures.last c.requires.boxes.0 c.requires.boxes.1 in
-    (c.in-Ok.ran.scenario.now, packets_of t.0.trace, t.3.counted)
+    let t = c.in-Ok.ensures.last _ c.args.start.opening in
+    (c.in-Ok.ran.session.scenario.now, packets_of t.0.trace, t.3.counted)
 
 pub returns-in-Err-clause-undone : goal.returns-in-Err-clause-undone
 returns-in-Err-clause-undone g c = c.in-Err.ensures.undone
@@ -22,8 +22,8 @@ returns-in-Ok-clause-totals g c = λ seed h.
         last = t.1;
         trace_is = refl;
         exits_are = refl;
-        totals_are = run_totals c.in-Ok.ran c.args.start.scenario.now c.args.start.net.now seed t.0 c.into_totals.result
-            c.in-Ok.ensures.given t.3.counted c.into_totals.ensures;
+        totals_are = run_totals c.in-Ok.ran c.args.start.session seed t.0 c.into_totals.result
+            c.in-Ok.ensures.session t.3.counted c.into_totals.ensures;
       },
       t.2,
     )

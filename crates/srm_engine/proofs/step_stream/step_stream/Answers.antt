@@ -15,7 +15,7 @@ finish_cells-requires g c =
 pub into_totals-requires : goal.into_totals-requires
 into_totals-requires g c =
     let t = c.in-Ok.ensures.last c.requires.boxes.0 c.requires.boxes.1 in
-    (c.in-Ok.ran.scenario.now, packets_of t.0.trace, t.3.counted)
+    (c.in-Ok.ran.session.scenario.now, packets_of t.0.trace, t.3.counted)
 
 pub returns-clause-stream : goal.returns-clause-stream
 returns-clause-stream g c = λ seed h.
@@ -35,7 +35,7 @@ returns-in-Ok-finish_cells-clause-stream g c = λ seed h.
         last = t.1;
         trace_is = refl;
         exits_are = exits_are _ _ t.0 c.in-Ok-finish_cells.exits.items t.3.seen.cells c.in-Ok-finish_cells.ensures;
-        totals_are = run_totals c.in-Ok.ran c.args.scenario.now c.args.net.now seed t.0 c.into_totals.result c.in-Ok.ensures.given
+        totals_are = run_totals c.in-Ok.ran _ seed t.0 c.into_totals.result c.in-Ok.ensures.session
             t.3.counted c.into_totals.ensures;
       },
       t.2,

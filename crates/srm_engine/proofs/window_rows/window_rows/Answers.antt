@@ -1,6 +1,7 @@
-use Rattle.std.proofs.Common.{refl}
+use Rattle.std.proofs.Common.{◌∙◌, refl, sym, ap}
+use Rattle.srm_cell.specs.Setting.{Setting}
+use Rattle.srm_cell.specs.Crossings.{crossings}
 use Rattle.srm_model.specs.World.{exits_of}
-use Rattle.srm_engine.proofs.WindowLemmas.{totals_from}
 use Rattle.srm_engine.proofs.window_rows.window_rows.Goals as goal
 
 pub returns-in-Err-clause-undone : goal.returns-in-Err-clause-undone
@@ -16,8 +17,7 @@ returns-in-Ok-clause-totals g c = λ seed h.
         last = t.1;
         trace_is = refl;
         exits_are = refl;
-        totals_are = totals_from c.in-Ok.ran c.args.start.scenario.now c.args.start.net.now seed t.0 c.into_totals.result
-            c.in-Ok.ensures.given (c.into_totals.ensures seed t.3.0 t.0 t.3.1);
+        totals_are = c.into_totals.ensures t.3.0 t.3.2.0 t.0 t.3.2.1 ∙ ap (λ (s : Setting). crossings s.traffic t.0.trace) (sym t.3.1);
       },
       t.2,
     )

@@ -1,10 +1,15 @@
 use Rattle.std.proofs.Common.{ℕ, List}
-use Rattle.srm_program.proofs.RunRefusals.{windows_refused}
+use Rattle.srm_program.proofs.RunRefusals.{failures_after, stands_after, windows_refused}
 use Rattle.srm_program.proofs.hand_rows.in_windows.Goals as goal
 
-pub returns-in-Err-clause-rows : goal.returns-in-Err-clause-rows
-returns-in-Err-clause-rows g c = λ seed h.
+pub returns-in-Err : goal.returns-in-Err
+returns-in-Err g c = record {
+  device = c.in-Err.ensures.device;
+  stands = rw c.lab_fault.ensures (stands_after (List ℕ) (List ℕ) c.in-Err.fault _ c.in-Err.ensures.stands);
+  failures = rw c.lab_fault.ensures (failures_after (List ℕ) (List ℕ) c.in-Err.fault _ _ c.in-Err.ensures.failures);
+  rows = λ seed h.
     rw c.lab_fault.ensures
-    (windows_refused g.S.RowSink.took g.S.RowSink.part c.args.asked.now.scenario.now c.args.asked.now.net.now seed
-    c.args.asked.now.options c.args.sink.now c.in-Err.fault c.window_rows.new.sink (List ℕ) c.requires.engine
-    c.in-Err.ensures.asked c.in-Err.ensures.left (c.in-Err.ensures.refused seed h) (c.in-Err.ensures.totals seed h))
+    (windows_refused g.S.RowSink.took g.S.RowSink.part c.args.asked.task.session.scenario.now c.args.asked.task.session.net.now seed
+    c.args.asked.task.options c.args.sink.now c.in-Err.fault c.window_rows.new.sink (List ℕ) c.requires.engine
+    c.in-Err.ensures.asked c.in-Err.ensures.left (c.in-Err.ensures.refused seed h) (c.in-Err.ensures.totals seed h));
+}

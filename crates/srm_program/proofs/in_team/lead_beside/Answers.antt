@@ -5,18 +5,19 @@ pub join_mut-answer-requires-after_bounds : goal.join_mut-answer-requires-after_
 join_mut-answer-requires-after_bounds g c κs within = (
   search,
   (
-    c.args.waiting,
-    refl,
-    c.requires.ready,
-    c.requires.serves,
-    c.requires.run,
-    c.requires.open,
-    c.requires.failures,
+    (
+      c.args.waiting,
+      refl,
+      c.requires.may,
+      c.requires.opening,
+      c.requires.count,
+    ),
+    search,
   ),
 )
 
 pub returns : goal.returns
 returns g c =
     let told = c.join_mut-answer.ensures.1.met.1 c.args.waiting refl in
-    let same : c.join_mut-answer.new.g.3.now ≡ c.sink-1.given.0 = search rules in
+    let same : c.join_mut-answer.new.g.4.now ≡ c.outlet-1.given.0 = search rules in
     rw same at told

@@ -5,18 +5,16 @@ pub join_mut-answer-requires-after_bounds : goal.join_mut-answer-requires-after_
 join_mut-answer-requires-after_bounds g c κs within = (
   search,
   (
-    (
-      (c.args.listing, c.args.members),
-      refl,
-      c.requires.run,
-      c.requires.count,
-    ),
-    search,
+    c.args.waiting,
+    refl,
+    c.requires.opening,
+    c.requires.crew,
+    c.requires.count,
   ),
 )
 
 pub returns : goal.returns
 returns g c =
-    let told = c.join_mut-answer.ensures.1.met.1 (c.args.listing, c.args.members) refl in
+    let told = c.join_mut-answer.ensures.1.met.1 c.args.waiting refl in
     let same : c.join_mut-answer.new.g.4.now ≡ c.outlet-1.given.0 = search rules in
     rw same at told

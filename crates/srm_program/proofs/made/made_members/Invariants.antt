@@ -5,4 +5,4 @@ use Rattle.srm_program.proofs.made.made_members.Given as goal
 
 -- the members so far hold their opening records
 abbrev pub invariant-loop-m : goal.invariant-loop-m
-invariant-loop-m l = map record_made l.all.items ≡ records_from l.scenario l.net l.seed 0 l.m
+invariant-loop-m l = map record_made l.all.items ≡ records_from l.session.scenario.now l.session.net.now l.seed 0 l.m

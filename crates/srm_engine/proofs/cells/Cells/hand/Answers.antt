@@ -12,7 +12,7 @@ returns g c = λ ps p h k.
     ∙ ap Some (sym (rw c.from.ensures at c.index_mut-cell.ensures.value)) in
     let is = h.cells.each c.args.member c.index_mut-cell.result.now p at k in
     let now = c.in-Ok.ensures.ok c.args.member p is in
-    rw c.from.ensures (set_seen (λ b. (goal.Member-dyn g (b.vtable, b.value)).plain b.value) c.args.self.now.cells.items
+    rw c.from.ensures (set_seen g.M.Participant.plain c.args.self.now.cells.items
     c.args.self.now.times c.set.new.self ps c.args.member c.accept.new.self c.next_time-next.result
     (hear_at c.args.packet.now (Some c.args.at) p)
     h within c.requires.time now (c.next_time-next.ensures c.args.member _ now) c.set.ensures)

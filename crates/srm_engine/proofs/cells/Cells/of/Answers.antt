@@ -6,6 +6,6 @@ pub returns : goal.returns
 returns g c = λ ps h. record {
   cells = h;
   times = subst (λ (ts : List (Option ℕ)). AreTimes ts ps) (sym c.in_ok-times.ensures)
-      (c.in_ok-next_times.ensures.1 ps (subst (λ cs. AreCellsInOrder (λ b. (goal.Member-dyn g (b.vtable, b.value)).plain b.value) cs ps)
+      (c.in_ok-next_times.ensures.1 ps (subst (λ cs. AreCellsInOrder g.M.Participant.plain cs ps)
       (sym c.as_slice.ensures.value) h));
 }

@@ -7,5 +7,6 @@ pub returns-in-Least : goal.returns-in-Least
 returns-in-Least c = (
   rw c.in-Least.is tt,
   (c.widest.ensures.some, c.widest.ensures.width),
-  λ seed. rw c.in-Least.is (ap (width_rule (setting_of c.args.scenario.now c.args.net.now seed)) (sym (c.widest.ensures.least seed))),
+  λ seed. rw c.in-Least.is (ap (width_rule (setting_of c.args.session.scenario.now c.args.session.net.now seed)) (sym
+      (c.widest.ensures.least seed))),
 )

@@ -14,10 +14,10 @@ use Rattle.srm_net.proofs.Lists.{below_get}
 
 pub loop-member-init : goal.loop-member-init
 loop-member-init g c = (
-  (refl, refl),
+  refl,
   refl,
   λ ps h.
-      subst (λ (qs : List PlainCell). ShowCells (λ b. (goal.Member-dyn g (b.vtable, b.value)).plain b.value) c.args.self.now.cells qs)
+      subst (λ (qs : List PlainCell). ShowCells g.M.Participant.plain c.args.self.now.cells qs)
       (sym (none_heard (traffic_in c.args.self.now) c.args.packet.now 0 0 ps (le_refl 0))) h,
 )
 
@@ -60,7 +60,7 @@ loop-member-preserved g c =
     let p = c.args.packet.now in
     let m = c.loop-member.member in
     let flight : arrival_of t p m ≡ c.arrival.result =
-    sym (λ k. arrival_of (traffic_of (i.0.0 k).now (i.0.1 k).now) p m) ∙ sym c.arrival.ensures in
+    sym (ap (λ at. arrival_of (traffic_of at.scenario.now at.net.now) p m) i.0) ∙ sym c.arrival.ensures in
     elim c.match-arrival.branch [
       | in-Some+in_ok-hand w ↦ rw w.self-is (
         i.0,
@@ -71,7 +71,7 @@ loop-member-preserved g c =
             let within : m < length ps = omega arith in
             let q = below_get ps m within in
             let heard = heard_below t p m 0 ps in
-            subst (λ (qs : List PlainCell). ShowCells (λ b. (goal.Member-dyn g (b.vtable, b.value)).plain b.value) w.hand.new.self qs)
+            subst (λ (qs : List PlainCell). ShowCells g.M.Participant.plain w.hand.new.self qs)
             (ap (slice_set heard m) (sym (hears_at t p m w.in-Some.at q.0 (flight ∙ w.in-Some.is))) ∙ heard_next t p m ps q.0 q.1)
             (w.in_ok-hand.ensures heard q.0 (i.2 ps h) (get_next t p m ps ∙ q.1)),
       )
@@ -84,7 +84,7 @@ loop-member-preserved g c =
             let within : m < length ps = omega arith in
             let q = below_get ps m within in
             let heard = heard_below t p m 0 ps in
-            subst (λ (qs : List PlainCell). ShowCells (λ b. (goal.Member-dyn g (b.vtable, b.value)).plain b.value) c.loop-member.self.cells
+            subst (λ (qs : List PlainCell). ShowCells g.M.Participant.plain c.loop-member.self.cells
             qs)
             (sym (set_same heard m q.0 (get_next t p m ps ∙ q.1)) ∙ ap (slice_set heard m)
             (sym (hears_not t p m q.0 (flight ∙ w.in_default.is))) ∙ heard_next t p m ps q.0 q.1)
@@ -97,5 +97,5 @@ returns-clause-heard g c = λ ps h.
     let old = h.cells.as_many in
     let members = c.requires.may.members in
     let all : c.loop-member.member ≡ length ps = omega arith in
-    subst (λ n. ShowCells (λ b. (goal.Member-dyn g (b.vtable, b.value)).plain b.value) c.loop-member.self.cells
+    subst (λ n. ShowCells g.M.Participant.plain c.loop-member.self.cells
     (heard_below (traffic_in c.args.self.now) c.args.packet.now n 0 ps)) all (c.loop-member.invariant.2 ps h)

@@ -9,10 +9,11 @@ use Rattle.srm_engine.proofs.engine.Engine.open.Goals as goal
 
 pub returns-clause-opened : goal.returns-clause-opened
 returns-clause-opened g c = λ seed h.
-    let s = setting_of c.args.scenario.now c.args.net.now seed in
+    let s = setting_of c.args.session.scenario.now c.args.session.net.now seed in
     record {
-      seen = subst (λ (qs : List PlainCell). ShowCells (λ b. (goal.Member-dyn g (b.vtable, b.value)).plain b.value) c.in_ok-cells.cells qs)
-          (opening_is s) (c.in_ok-cells.ensures _ (c.in_ok-open_cells.ensures.opened c.args.net.now seed h));
-      counted = subst (λ (ps : List Packet). Tallies c.args.scenario.now c.args.net.now ps c.in_ok-tally.tally) (nothing_sent s)
-          (c.in_ok-tally.ensures c.args.scenario.now c.args.net.now (sym (ap length c.links.ensures.links)));
+      seen = subst (λ (qs : List PlainCell). ShowCells g.M.Participant.plain c.in_ok-cells.cells qs)
+          (opening_is s) (c.in_ok-cells.ensures _ (c.in_ok-open_cells.ensures.opened c.args.session.net.now seed h));
+      counted = subst (λ (ps : List Packet). Tallies c.args.session.scenario.now c.args.session.net.now ps c.in_ok-tally.tally)
+          (nothing_sent s)
+          (c.in_ok-tally.ensures c.args.session.scenario.now c.args.session.net.now (sym (ap length c.links.ensures.links)));
     }

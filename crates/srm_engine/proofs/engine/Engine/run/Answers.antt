@@ -1,8 +1,9 @@
-use Rattle.std.proofs.Common.{◌≡◌, ◌∙◌, List, sym, subst}
+use Rattle.std.proofs.Common.{◌≡◌, ◌∙◌, List, inl, inr, refl, sym, subst, ap}
 use Rattle.srm_member.specs.declared.row.Row.{Row}
-use Rattle.srm_cell.specs.Setting.{Setting, setting_of}
+use Rattle.srm_cell.specs.Setting.{Setting}
 use Rattle.srm_model.specs.World.{opening, IsReached, IsLast}
-use Rattle.srm_engine.specs.Engines.{setting_in}
+use Rattle.srm_engine.specs.Engines.{Shows, setting_in}
+use Rattle.srm_engine.specs.Starts.{setting_on}
 use Rattle.srm_engine.specs.Faults.{step_refused}
 use Rattle.srm_engine.specs.RowRuns.{UndoneAfter}
 use Rattle.srm_interfaces.specs.Sinks.{most_rows}
@@ -13,7 +14,7 @@ use Rattle.srm_engine.proofs.engine.Engine.run.Goals as goal
 
 pub returns-in-Err-clause-last : goal.returns-in-Err-clause-last
 returns-in-Err-clause-last g c = λ seed h.
-    let s = setting_of c.args.start.scenario.now c.args.start.net.now seed in (
+    let s = setting_on c.args.session seed in (
       opening s,
       opening_reached s,
       subst (λ (l : List Row). g.S.RowSink.part c.args.sink.now l c.args.sink.now) (sym (opening_trace s))
@@ -22,52 +23,43 @@ returns-in-Err-clause-last g c = λ seed h.
 
 pub returns-in-Err-clause-undone : goal.returns-in-Err-clause-undone
 returns-in-Err-clause-undone g c = λ seed h.
-    let s = setting_of c.args.start.scenario.now c.args.start.net.now seed in
+    let s = setting_on c.args.session seed in
     uncalled g.S.RowSink.took g.S.RowSink.part g.S.RowSink.stage (MayLackSteps s) s c.args.sink.now _
 
 pub returns-in-Err-stream-clause-last : goal.returns-in-Err-stream-clause-last
 returns-in-Err-stream-clause-last g c = λ seed h.
-    let given = c.in-Ok.ensures.given in
-    let here : setting_in c.in-Ok.engine seed ≡ setting_of c.args.start.scenario.now c.args.start.net.now seed =
-    λ k. setting_of (given.0 k) (given.1 k) seed in
+    let here = ap (λ at. setting_on at seed) c.in-Ok.ensures.session in
+    let opened = subst (λ x. Shows g.M.Participant.plain c.in-Ok.engine (opening x)) (sym here) (c.in-Ok.ensures.opened seed h) in
     let t = halted_front g.S.RowSink.took g.S.RowSink.part g.met.S.RowSink.part_none g.met.S.RowSink.part_more
     (MayStop most_rows (setting_in c.in-Ok.engine seed)) (setting_in c.in-Ok.engine seed) c.args.sink.now c.in-Err-stream.halt
     c.stream.new.sink
-    (c.in-Err-stream.ensures.rows seed (c.in-Ok.ensures.opened seed h)) in
+    (c.in-Err-stream.ensures.rows seed opened) in
     (t.0, subst (λ (x : Setting). IsReached x t.0) here t.1, t.2)
 
 pub returns-in-Err-stream-clause-refused : goal.returns-in-Err-stream-clause-refused
 returns-in-Err-stream-clause-refused g c = λ seed h.
-    let given = c.in-Ok.ensures.given in
-    let here : setting_in c.in-Ok.engine seed ≡ setting_of c.args.start.scenario.now c.args.start.net.now seed =
-    λ k. setting_of (given.0 k) (given.1 k) seed in
+    let here = ap (λ at. setting_on at seed) c.in-Ok.ensures.session in
+    let opened = subst (λ x. Shows g.M.Participant.plain c.in-Ok.engine (opening x)) (sym here) (c.in-Ok.ensures.opened seed h) in
     rw c.into-in-Err-stream.ensures
     (subst (λ (x : Setting). MeetsRefusal g.S.RowSink.took g.S.RowSink.part x c.args.sink.now
     (stream_fault_of step_refused c.in-Err-stream.halt) c.stream.new.sink) here
     (halts_refuse g.S.RowSink.took g.S.RowSink.part (setting_in c.in-Ok.engine seed) c.args.sink.now
-    c.in-Err-stream.halt c.stream.new.sink (c.in-Err-stream.ensures.rows seed (c.in-Ok.ensures.opened seed h))))
+    c.in-Err-stream.halt c.stream.new.sink (c.in-Err-stream.ensures.rows seed opened)))
 
 pub returns-in-Err-stream-clause-undone : goal.returns-in-Err-stream-clause-undone
 returns-in-Err-stream-clause-undone g c = λ seed h.
-    let given = c.in-Ok.ensures.given in
-    let here : setting_in c.in-Ok.engine seed ≡ setting_of c.args.start.scenario.now c.args.start.net.now seed =
-    λ k. setting_of (given.0 k) (given.1 k) seed in
+    let here = ap (λ at. setting_on at seed) c.in-Ok.ensures.session in
+    let opened = subst (λ x. Shows g.M.Participant.plain c.in-Ok.engine (opening x)) (sym here) (c.in-Ok.ensures.opened seed h) in
     rw c.into-in-Err-stream.ensures
     (subst (λ (x : Setting). UndoneAfter g.S.RowSink.stage g.S.RowSink.took g.S.RowSink.part (MayLackSteps x) x
     c.args.sink.now (stream_fault_of step_refused c.in-Err-stream.halt) c.stream.new.sink) here
     (steps_undone g.S.RowSink.took g.S.RowSink.part g.S.RowSink.stage (Unit {0}) (setting_in c.in-Ok.engine seed)
-    c.args.sink.now c.in-Err-stream.halt c.stream.new.sink (c.in-Err-stream.ensures.rows seed (c.in-Ok.ensures.opened seed h))
+    c.args.sink.now c.in-Err-stream.halt c.stream.new.sink (c.in-Err-stream.ensures.rows seed opened)
     c.in-Err-stream.ensures.stage))
-
-pub returns-clause-given : goal.returns-clause-given
-returns-clause-given g c =
-    let same = c.in_default.ensures.same in
-    ((λ k. (same.0 k).now) ∙ c.in-Ok.ensures.given.0, (λ k. (same.1 k).now) ∙ c.in-Ok.ensures.given.1)
 
 pub returns-clause-last : goal.returns-clause-last
 returns-clause-last g c = λ seed h.
-    let given = c.in-Ok.ensures.given in
-    let here : setting_in c.in-Ok.engine seed ≡ setting_of c.args.start.scenario.now c.args.start.net.now seed =
-    λ k. setting_of (given.0 k) (given.1 k) seed in
-    let t = c.in_default.ensures.rows seed (c.in-Ok.ensures.opened seed h) in
+    let here = ap (λ at. setting_on at seed) c.in-Ok.ensures.session in
+    let opened = subst (λ x. Shows g.M.Participant.plain c.in-Ok.engine (opening x)) (sym here) (c.in-Ok.ensures.opened seed h) in
+    let t = c.in_default.ensures.rows seed opened in
     (t.0, subst (λ (x : Setting). IsLast x t.0) here t.1, t.2, t.3)

@@ -35,7 +35,7 @@ returns-in_default-clause-step g c = (
 pub returns-then-time-until-clause-step : goal.returns-then-time-until-clause-step
 returns-then-time-until-clause-step g c = (
   λ seed w h.
-      let late : c.args.self.now.scenario.now.until ≤ c.in-Some.time =
+      let late : c.args.self.now.session.scenario.now.until ≤ c.in-Some.time =
       (let le = c.if-time-until.true in let u = c.until-until.ensures.until in omega arith) in (
         is_late (setting_in c.args.self.now seed) w c.args.self.now.cells.times h.seen.times c.in-Some.time c.in-Some.member
             c.in-Some.ensures late,
@@ -47,7 +47,7 @@ returns-then-time-until-clause-step g c = (
 pub step-requires-clause-cell : goal.step-requires-clause-cell
 step-requires-clause-cell g c =
     let k = c.requires.known in
-    let early : c.in-Some.time < c.args.self.now.scenario.now.until =
+    let early : c.in-Some.time < c.args.self.now.session.scenario.now.until =
     (let lt = c.if-time-until.false in let u = c.until-until.ensures.until in omega arith) in
     let p = cell_there (setting_in c.args.self.now k.0) k.1 c.args.self.now.cells.times k.3.seen.times c.in-Some.time c.in-Some.member
     c.in-Some.ensures early in
@@ -58,7 +58,7 @@ step-requires-clause-cell g c =
 pub step-requires-clause-time : goal.step-requires-clause-time
 step-requires-clause-time g c =
     let k = c.requires.known in
-    let early : c.in-Some.time < c.args.self.now.scenario.now.until =
+    let early : c.in-Some.time < c.args.self.now.session.scenario.now.until =
     (let lt = c.if-time-until.false in let u = c.until-until.ensures.until in omega arith) in
     let p = cell_there (setting_in c.args.self.now k.0) k.1 c.args.self.now.cells.times k.3.seen.times c.in-Some.time c.in-Some.member
     c.in-Some.ensures early in
@@ -71,7 +71,7 @@ returns-in-Ok-false-clause-step g c =
     let put = rw c.in-Ok-false.field-0-test at c.in-Ok-false.ensures in (
       λ seed w h.
           let s = setting_in c.args.self.now seed in
-          let early : c.in-Some.time < c.args.self.now.scenario.now.until =
+          let early : c.in-Some.time < c.args.self.now.session.scenario.now.until =
           (let lt = c.if-time-until.false in let u = c.until-until.ensures.until in omega arith) in
           let p = cell_there s w c.args.self.now.cells.times h.seen.times c.in-Some.time c.in-Some.member c.in-Some.ensures early in
           let t = put.0 w.cells p.0 h.seen p.1 in (
@@ -87,9 +87,10 @@ pub unwrap-requires : goal.unwrap-requires
 unwrap-requires g c = rw c.of.ensures (of_a_step c.in-Err.fault (λ spent.
     let k = c.requires.known in
     let s = setting_in c.args.self.now k.0 in
-    let fit : IsFit s = subst (λ (n : Network). IsFit (setting_of c.args.self.now.scenario.now n k.0)) (sym c.requires.network)
-    (settings_are_fit c.args.self.now.scenario.now k.0 c.until-until.ensures.accepted) in
-    let early : c.in-Some.time < c.args.self.now.scenario.now.until =
+    let fit : IsFit s = subst (λ (n : Network). IsFit (setting_of c.args.self.now.session.scenario.now n k.0)) (sym
+    c.args.self.now.session.network)
+    (settings_are_fit c.args.self.now.session.scenario.now k.0 c.until-until.ensures.accepted) in
+    let early : c.in-Some.time < c.args.self.now.session.scenario.now.until =
     (let lt = c.if-time-until.false in let u = c.until-until.ensures.until in omega arith) in
     let p = cell_there s k.1 c.args.self.now.cells.times k.3.seen.times c.in-Some.time c.in-Some.member c.in-Some.ensures early in
     let told = rw spent at c.in-Err.ensures in
@@ -102,22 +103,23 @@ unwrap-requires g c = rw c.of.ensures (of_a_step c.in-Err.fault (λ spent.
 pub returns-in-Err-clause-step : goal.returns-in-Err-clause-step
 returns-in-Err-clause-step g c = λ seed w h.
     let s = setting_in c.args.self.now seed in
-    let early : c.in-Some.time < c.args.self.now.scenario.now.until =
+    let early : c.in-Some.time < c.args.self.now.session.scenario.now.until =
     (let lt = c.if-time-until.false in let u = c.until-until.ensures.until in omega arith) in
     let p = cell_there s w c.args.self.now.cells.times h.seen.times c.in-Some.time c.in-Some.member c.in-Some.ensures early in
-    refused (λ b. (goal.Member-dyn g (b.vtable, b.value)).plain b.value) s w c.in-Some.member w.cells
+    refused g.M.Participant.plain s w c.in-Some.member w.cells
     (own_step c.until-until.result c.in-Some.member p.0) c.in-Err.fault c.unwrap.result c.step.new.self.cells.items
     c.step.new.self.times (sym c.of.ensures ∙ c.unwrap.ensures) (c.in-Err.ensures w.cells p.0 h.seen p.1)
     (step_by s w c.args.self.now.cells.times h.seen.times c.in-Some.time c.in-Some.member c.in-Some.ensures early p.0 p.1
     ∙ ap (λ u. after_step s w c.in-Some.member (own_step u c.in-Some.member p.0)) (sym c.until-until.ensures.until))
 
-pub send-requires-clause-may : goal.send-requires-clause-may
-send-requires-clause-may g c =
+pub send-requires : goal.send-requires
+send-requires g c =
     let k = c.requires.known in
     let s = setting_in c.args.self.now k.0 in
-    let fit : IsFit s = subst (λ (n : Network). IsFit (setting_of c.args.self.now.scenario.now n k.0)) (sym c.requires.network)
-    (settings_are_fit c.args.self.now.scenario.now k.0 c.until-until.ensures.accepted) in
-    let early : c.in-Some.time < c.args.self.now.scenario.now.until =
+    let fit : IsFit s = subst (λ (n : Network). IsFit (setting_of c.args.self.now.session.scenario.now n k.0)) (sym
+    c.args.self.now.session.network)
+    (settings_are_fit c.args.self.now.session.scenario.now k.0 c.until-until.ensures.accepted) in
+    let early : c.in-Some.time < c.args.self.now.session.scenario.now.until =
     (let lt = c.if-time-until.false in let u = c.until-until.ensures.until in omega arith) in
     let p = cell_there s k.1 c.args.self.now.cells.times k.3.seen.times c.in-Some.time c.in-Some.member c.in-Some.ensures early in
     let put = rw c.in-Ok-true.field-0-test at c.in-Ok-true.ensures in
@@ -131,15 +133,17 @@ send-requires-clause-may g c =
     let done : step_at (Some e) ≡ Done t.0 =
     sym (own_is s k.1 c.args.self.now.cells.times k.3.seen.times c.in-Some.time c.in-Some.member c.in-Some.ensures early p.0 p.1)
     ∙ ap (λ u. own_step u c.in-Some.member p.0) (sym c.until-until.ensures.until) ∙ t.1 in
-    let may = may_send s fit k.1 k.2 e t.0 least done c.until-until.ensures.accepted.few_ticks k.4 in (
-      slice_set k.1.cells c.in-Some.member t.0.cell,
-      packets_of k.1.trace,
-      t.3,
-      k.3.counted,
-      subst (λ (r : Row). MaySend s.traffic.members (slice_set k.1.cells c.in-Some.member t.0.cell) (packets_of k.1.trace) r.sent)
-          (t.2 ∙ same)
-          (subst (λ m. MaySend s.traffic.members (slice_set k.1.cells m t.0.cell) (packets_of k.1.trace) t.0.row.sent) of may),
-    )
+    let may = may_send s fit k.1 k.2 e t.0 least done c.until-until.ensures.accepted.few_ticks k.4 in record {
+      may = (
+        slice_set k.1.cells c.in-Some.member t.0.cell,
+        packets_of k.1.trace,
+        t.3,
+        k.3.counted,
+        subst (λ (r : Row). MaySend s.traffic.members (slice_set k.1.cells c.in-Some.member t.0.cell) (packets_of k.1.trace) r.sent)
+            (t.2 ∙ same)
+            (subst (λ m. MaySend s.traffic.members (slice_set k.1.cells m t.0.cell) (packets_of k.1.trace) t.0.row.sent) of may),
+      );
+    }
 
 pub returns-clause-step : goal.returns-clause-step
 returns-clause-step g c =
@@ -150,7 +154,7 @@ returns-clause-step g c =
       put.0,
       λ seed w h.
           let s = setting_in c.args.self.now seed in
-          let early : c.in-Some.time < c.args.self.now.scenario.now.until =
+          let early : c.in-Some.time < c.args.self.now.session.scenario.now.until =
           (let lt = c.if-time-until.false in let u = c.until-until.ensures.until in omega arith) in
           let p = cell_there s w c.args.self.now.cells.times h.seen.times c.in-Some.time c.in-Some.member c.in-Some.ensures early in
           let t = put.1 w.cells p.0 h.seen p.1 in
@@ -169,7 +173,7 @@ returns-clause-step g c =
                 ∙ ap (after_step s w c.in-Some.member) t.1 ∙ after_done s w c.in-Some.member t.0,
             ap (λ (r : Row). w.trace ++ r ∷ []) t.2,
             record {
-              seen = subst (λ (qs : List PlainCell). AreSeen (λ b. (goal.Member-dyn g (b.vtable, b.value)).plain b.value)
+              seen = subst (λ (qs : List PlainCell). AreSeen g.M.Participant.plain
                   c.send.new.self.cells.cells.items c.send.new.self.cells.times qs) (sym cells) sent.0;
               counted = subst (HasCounted c.send.new.self) (ap (λ (r : Row). and_sent r.sent (packets_of w.trace)) (sym (t.2 ∙ same))
                   ∙ sym (packets_more w.trace t.0.row)) sent.1;
@@ -184,7 +188,7 @@ returns-in_err-send-clause-step g c =
     let put = rw c.in-Ok-true.field-0-test at c.in-Ok-true.ensures in
     rw (told_err.1, told_err.2) (λ seed w h.
     let s = setting_in c.args.self.now seed in
-    let early : c.in-Some.time < c.args.self.now.scenario.now.until =
+    let early : c.in-Some.time < c.args.self.now.session.scenario.now.until =
     (let lt = c.if-time-until.false in let u = c.until-until.ensures.until in omega arith) in
     let p = cell_there s w c.args.self.now.cells.times h.seen.times c.in-Some.time c.in-Some.member c.in-Some.ensures early in
     let t = put.1 w.cells p.0 h.seen p.1 in

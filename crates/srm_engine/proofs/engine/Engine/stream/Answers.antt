@@ -1,8 +1,9 @@
-use Rattle.std.proofs.Common.{◌≡◌, ◌<◌, List, Ok, inr, refl, sym, ◌∙◌, ap, subst, add-zero, length, length-append, arith}
+use Rattle.std.proofs.Common.{◌≡◌, ◌<◌, ◌≤◌, List, [], Ok, inr, refl, sym, ◌∙◌, ap, subst, add-zero, length, length-append, arith}
 use Rattle.srm_member.specs.declared.row.Row.{Row}
 use Rattle.srm_cell.specs.Setting.{Setting, setting_of}
 use Rattle.srm_model.specs.World.{opening, IsReached}
 use Rattle.srm_engine.specs.Engines.{setting_in}
+use Rattle.srm_engine.specs.Starts.{setting_on}
 use Rattle.srm_interfaces.specs.Sinks.{most_rows}
 use Rattle.srm_engine.specs.Streams.{TellsSteps, MayStop}
 use Rattle.srm_engine.proofs.Stepping.{opening_reached, opening_trace}
@@ -19,7 +20,7 @@ returns-in-Err-clause-rows g c = λ seed h.
 
 pub loop-left-init : goal.loop-left-init
 loop-left-init g c = record {
-  same = (refl, refl);
+  same = refl;
   device = c.in_default.ensures.same;
   live = c.in_default.ensures.stage;
   unfailed = c.in_default.ensures.failures ∙ add-zero _;
@@ -35,21 +36,21 @@ loop-left-init g c = record {
       );
 }
 
-pub steps-requires-clause-known : goal.steps-requires-clause-known
-steps-requires-clause-known g c =
+pub steps-requires : goal.steps-requires
+steps-requires g c =
     let seed = c.requires.opened.0 in
     let is = c.loop-left.invariant.same in
     let i = c.loop-left.invariant.rows seed c.requires.opened.1 in
-    let back : setting_in c.loop-left.self seed ≡ setting_in c.args.self.now seed = λ t. setting_of (is.0 t).now (is.1 t).now seed in
+    let back : setting_in c.loop-left.self seed ≡ setting_in c.args.self.now seed = ap (λ at. setting_on at seed) is in
     let room = i.4 in
-    (seed, i.0, subst (λ (s : Setting). IsReached s i.0) (sym back) i.1, i.3, omega arith)
+    record { known = (seed, i.0, subst (λ (s : Setting). IsReached s i.0) (sym back) i.1, i.3, omega arith) }
 
 pub returns-in-Err-steps-clause-rows : goal.returns-in-Err-steps-clause-rows
 returns-in-Err-steps-clause-rows g c = λ seed h.
     let s = setting_in c.args.self.now seed in
     let is = c.loop-left.invariant.same in
     let i = c.loop-left.invariant.rows seed h in
-    let back : setting_in c.loop-left.self seed ≡ s = λ t. setting_of (is.0 t).now (is.1 t).now seed in
+    let back : setting_in c.loop-left.self seed ≡ s = ap (λ at. setting_on at seed) is in
     let t = c.in-Err-steps.ensures.steps seed i.0 (subst (λ (x : Setting). IsReached x i.0) (sym back) i.1) i.3 in (
       i.0,
       i.1,
@@ -62,7 +63,7 @@ returns-in-Err-rows-clause-rows g c = λ seed h.
     let s = setting_in c.args.self.now seed in
     let is = c.loop-left.invariant.same in
     let i = c.loop-left.invariant.rows seed h in
-    let back : setting_in c.loop-left.self seed ≡ s = λ t. setting_of (is.0 t).now (is.1 t).now seed in
+    let back : setting_in c.loop-left.self seed ≡ s = ap (λ at. setting_on at seed) is in
     let t = c.in-Ok.ensures.steps seed i.0 (subst (λ (x : Setting). IsReached x i.0) (sym back) i.1) i.3 in (
       t.0,
       subst (λ (x : Setting). IsReached x t.0) back t.1,
@@ -76,8 +77,8 @@ returns-then-is_last-clause-rows g c = λ seed h.
     let s = setting_in c.args.self.now seed in
     let is = c.loop-left.invariant.same in
     let i = c.loop-left.invariant.rows seed h in
-    let back : setting_in c.loop-left.self seed ≡ s = λ t. setting_of (is.0 t).now (is.1 t).now seed in
-    let t = subst (λ (x : Setting). TellsSteps (λ b. (goal.Member-dyn g (b.vtable, b.value)).plain b.value) x 32 i.0
+    let back : setting_in c.loop-left.self seed ≡ s = ap (λ at. setting_on at seed) is in
+    let t = subst (λ (x : Setting). TellsSteps g.M.Participant.plain x 32 i.0
     (Ok c.in-Ok.rows) c.steps.new.self) back
     (c.in-Ok.ensures.steps seed i.0 (subst (λ (x : Setting). IsReached x i.0) (sym back) i.1) i.3) in
     let short : length c.in-Ok.rows.items < 32 = omega arith in (
@@ -92,8 +93,8 @@ returns-then-is_last-clause-rows g c = λ seed h.
 pub loop-left-preserved : goal.loop-left-preserved
 loop-left-preserved g c =
     let is = c.loop-left.invariant.same in
-    let same = c.steps.ensures.same in record {
-      same = (same.0 ∙ is.0, same.1 ∙ is.1);
+    let same = c.steps.ensures.session in record {
+      same = same ∙ is;
       device = g.met.S.RowSink.same_more c.args.sink.now c.loop-left.sink c.rows.new.self c.loop-left.invariant.device
           c.in_default-rows.ensures.same;
       live = c.in_default-rows.ensures.stage;
@@ -101,8 +102,8 @@ loop-left-preserved g c =
       rows = λ seed h.
           let s = setting_in c.args.self.now seed in
           let i = c.loop-left.invariant.rows seed h in
-          let back : setting_in c.loop-left.self seed ≡ s = λ t. setting_of (is.0 t).now (is.1 t).now seed in
-          let t = subst (λ (x : Setting). TellsSteps (λ b. (goal.Member-dyn g (b.vtable, b.value)).plain b.value) x 32 i.0
+          let back : setting_in c.loop-left.self seed ≡ s = ap (λ at. setting_on at seed) is in
+          let t = subst (λ (x : Setting). TellsSteps g.M.Participant.plain x 32 i.0
           (Ok c.in-Ok.rows) c.steps.new.self) back
           (c.in-Ok.ensures.steps seed i.0 (subst (λ (x : Setting). IsReached x i.0) (sym back) i.1) i.3) in
           let room = i.4 in

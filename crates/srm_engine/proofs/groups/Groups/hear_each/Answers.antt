@@ -4,13 +4,14 @@ use Rattle.std.proofs.Math.Seq.{split_at, take-suc}
 use Rattle.std.proofs.lemmas.List.{take_all, map-append}
 use Rattle.std.specs.Global.{Vec}
 use Rattle.srm_member.specs.declared.row.Row.{Row}
-use Rattle.srm_cell.specs.Setting.{setting_of, traffic_of}
+use Rattle.srm_cell.specs.Setting.{traffic_of}
 use Rattle.srm_cell.specs.Cells.{PlainCell}
 use Rattle.srm_cell.specs.Crossings.{joined}
 use Rattle.srm_cell.proofs.RowPackets.{joined-append}
 use Rattle.srm_model.specs.Hearing.{IsUnheard}
 use Rattle.srm_model.specs.WindowRuns.{each_hears}
 use Rattle.srm_model.proofs.WindowRows.{packets_are_heard_in_turn, length-each_hears}
+use Rattle.srm_engine.specs.Starts.{setting_on}
 use Rattle.srm_engine.specs.Groups.{AreKept}
 use Rattle.srm_engine.proofs.HeardRows.{hears_both}
 use Rattle.srm_engine.proofs.groups.Groups.hear_each.Goals as goal
@@ -27,16 +28,16 @@ loop-rows-init g c = (
   refl,
   λ seed ps h.
       subst (λ (qs : List PlainCell). AreKept g.M.Participant.plain
-      (setting_of c.args.scenario.now c.args.net.now seed) c.args.self.now qs)
-      (sym (packets_are_heard_in_turn (setting_of c.args.scenario.now c.args.net.now 0) ps).0) h,
+      (setting_on c.args.session seed) c.args.self.now qs)
+      (sym (packets_are_heard_in_turn (setting_on c.args.session 0) ps).0) h,
 )
 
 pub hear-requires-clause-may : goal.hear-requires-clause-may
 hear-requires-clause-may g c =
     let n = c.requires.may.1 in
     let seed = c.requires.may.0 in
-    let s = setting_of c.args.scenario.now c.args.net.now seed in
-    let t = traffic_of c.args.scenario.now c.args.net.now in
+    let s = setting_on c.args.session seed in
+    let t = traffic_of c.args.session.scenario.now c.args.session.net.now in
     let all = c.args.lists.now in
     let i = c.loop-rows.rows-index in
     let done = rows_in (take i all) in
@@ -63,7 +64,7 @@ pub loop-rows-preserved : goal.loop-rows-preserved
 loop-rows-preserved g c = (
   c.in_ok-hear.ensures.cut ∙ c.loop-rows.invariant.0,
   λ seed ps h.
-      let t = traffic_of c.args.scenario.now c.args.net.now in
+      let t = traffic_of c.args.session.scenario.now c.args.session.net.now in
       let all = c.args.lists.now in
       let i = c.loop-rows.rows-index in
       let done = rows_in (take i all) in
@@ -74,7 +75,7 @@ loop-rows-preserved g c = (
       let next : rows_in (take (i + 1) all) ≡ done ++ c.rows-item.result.items = ap rows_in more
       ∙ in_both (take i all) (c.rows-item.result ∷ []) ∙ ap (λ l. done ++ l) (append-nil c.rows-item.result.items) in
       subst (λ (qs : List PlainCell). AreKept g.M.Participant.plain
-      (setting_of c.args.scenario.now c.args.net.now seed) c.hear.new.self qs)
+      (setting_on c.args.session seed) c.hear.new.self qs)
       (ap (λ l. each_hears t 0 l cs) c.as_slice.ensures.value ∙ sym (hears_both t 0 done c.rows-item.result.items ps)
       ∙ ap (λ rs. each_hears t 0 rs ps) (sym next))
       (c.in_ok-hear.ensures.heard seed cs (c.loop-rows.invariant.1 seed ps h)),
@@ -82,6 +83,6 @@ loop-rows-preserved g c = (
 
 pub returns-clause-heard : goal.returns-clause-heard
 returns-clause-heard g c = λ seed ps h.
-    subst (λ vs. AreKept g.M.Participant.plain (setting_of c.args.scenario.now c.args.net.now seed)
-    c.loop-rows.self (each_hears (traffic_of c.args.scenario.now c.args.net.now) 0 (rows_in vs) ps))
+    subst (λ vs. AreKept g.M.Participant.plain (setting_on c.args.session seed)
+    c.loop-rows.self (each_hears (traffic_of c.args.session.scenario.now c.args.session.net.now) 0 (rows_in vs) ps))
     (take_all c.loop-rows.rows-index c.args.lists.now c.loop-rows-test.false) (c.loop-rows.invariant.1 seed ps h)

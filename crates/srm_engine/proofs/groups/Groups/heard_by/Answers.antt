@@ -4,13 +4,14 @@ use Rattle.std.specs.Global.{Vec}
 use Rattle.srm_net.specs.declared.packet.Packet.{Packet}
 use Rattle.srm_member.specs.declared.row.Row.{Row}
 use Rattle.srm_cell.specs.declared.sent.Sent.{Sent}
-use Rattle.srm_cell.specs.Setting.{setting_of, traffic_of}
+use Rattle.srm_cell.specs.Setting.{traffic_of}
 use Rattle.srm_cell.specs.Crossings.{joined, packets_of}
 use Rattle.srm_cell.specs.Hearing.{IsSent, packets_in}
 use Rattle.srm_interfaces.specs.Hearers.{GroupsMayHear, GroupsHear}
 use Rattle.srm_interfaces.proofs.InPieces.{all_each}
 use Rattle.srm_model.specs.WindowRuns.{each_hears}
 use Rattle.srm_model.proofs.WindowRows.{length-each_hears}
+use Rattle.srm_engine.specs.Starts.{setting_on}
 use Rattle.srm_engine.specs.Groups.{AreCuts, AreGrouped, sizes, all_in}
 use Rattle.srm_engine.specs.SentRows.{MayBeSent}
 use Rattle.srm_engine.proofs.HeardRows.{may_be_sent, rows_that_send, groups_may, groups_long, groups_heard}
@@ -31,23 +32,26 @@ hear_each-requires-clause-may g c =
     let rows = joined (map (λ (v : Vec Row). v.items) c.args.lists.now) in
     (c.requires.may.0, (n.0, n.1, n.2, n.3 rows (IsPermutation-refl (packets_of rows))))
 
-pub sent_in-requires-clause-sent : goal.sent_in-requires-clause-sent
-sent_in-requires-clause-sent g c =
+pub sent_in-requires : goal.sent_in-requires
+sent_in-requires g c =
     let n = c.requires.may.1 in
-    let s = setting_of c.args.scenario.now c.args.net.now c.requires.may.0 in
+    let s = setting_on c.args.session c.requires.may.0 in
     let rows = joined (map (λ (v : Vec Row). v.items) c.args.lists.now) in
-    all_each (λ (r : Row). MayBeSent c.args.scenario.now r.sent) c.args.lists.now
-    (may_be_sent s c.args.scenario.now rows n.0 (n.3 rows (IsPermutation-refl (packets_of rows))) refl c.requires.until)
+    record {
+      sent = all_each (λ (r : Row). MayBeSent c.args.session.scenario.now r.sent) c.args.lists.now
+          (may_be_sent s c.args.session.scenario.now rows n.0 (n.3 rows (IsPermutation-refl (packets_of rows))) refl c.requires.until);
+    }
 
 pub hear-requires-clause-sent : goal.hear-requires-clause-sent
 hear-requires-clause-sent g c =
-    All-permutation (λ (x : Sent). IsSent c.args.scenario.now c.args.net.now x) c.in_ok-listed.listed.items c.in_ok-sent.sent.items
+    All-permutation (λ (x : Sent). IsSent c.args.session.scenario.now c.args.session.net.now x) c.in_ok-listed.listed.items
+    c.in_ok-sent.sent.items
     c.in_ok-sent.ensures c.in_ok-listed.ensures.sent
 
 pub hear-requires-clause-groups : goal.hear-requires-clause-groups
 hear-requires-clause-groups g c =
     let n = c.requires.may.1 in
-    let s = setting_of c.args.scenario.now c.args.net.now c.requires.may.0 in
+    let s = setting_on c.args.session c.requires.may.0 in
     let others = in_order c.args.lists.now c.in_ok-listed.listed.items c.in_ok-sent.sent.items c.in_ok-listed.ensures.packets
     c.in_ok-sent.ensures in
     subst (λ ps. GroupsMayHear g.M.Participant.plain s.traffic ps c.args.self.groups.items) others.2
@@ -59,7 +63,7 @@ soonest_of_each-requires-clause-cut g c = c.requires.may.1.1.cut.0
 pub soonest_of_each-requires-clause-cuts : goal.soonest_of_each-requires-clause-cuts
 soonest_of_each-requires-clause-cuts g c =
     let n = c.requires.may.1 in
-    let t = traffic_of c.args.scenario.now c.args.net.now in
+    let t = traffic_of c.args.session.scenario.now c.args.session.net.now in
     subst (λ l. AreCuts c.args.self.cut (sizes l)) (sym c.as_slice.ensures.value)
     (subst (AreCuts c.args.self.cut)
     (groups_long g.M.Participant.plain t (packets_in c.in_ok-sent.sent.items) c.args.self.groups.items c.in_ok-groups.groups.items
@@ -68,7 +72,7 @@ soonest_of_each-requires-clause-cuts g c =
 pub soonest_of_each-requires-clause-members : goal.soonest_of_each-requires-clause-members
 soonest_of_each-requires-clause-members g c =
     let n = c.requires.may.1 in
-    let s = setting_of c.args.scenario.now c.args.net.now c.requires.may.0 in
+    let s = setting_on c.args.session c.requires.may.0 in
     let others = in_order c.args.lists.now c.in_ok-listed.listed.items c.in_ok-sent.sent.items c.in_ok-listed.ensures.packets
     c.in_ok-sent.ensures in
     let heard = subst (λ (ps : List Packet). GroupsHear g.M.Participant.plain s.traffic ps c.args.self.groups.items
@@ -88,7 +92,7 @@ returns-then-not-are_enough-clause-heard g c = λ seed.
 
 pub returns-clause-heard : goal.returns-clause-heard
 returns-clause-heard g c = λ seed.
-    let s = setting_of c.args.scenario.now c.args.net.now seed in
+    let s = setting_on c.args.session seed in
     let gs = c.args.self.groups.items in
     let hs = c.in_ok-groups.groups.items in
     let others = in_order c.args.lists.now c.in_ok-listed.listed.items c.in_ok-sent.sent.items c.in_ok-listed.ensures.packets

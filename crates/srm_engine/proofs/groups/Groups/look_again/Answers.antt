@@ -3,7 +3,7 @@ use Rattle.std.proofs.Common.{take, drop, append-nil}
 use Rattle.std.proofs.lemmas.List.{take_all}
 use Rattle.std.proofs.lemmas.Option.{slice_get-get_or, same_Some}
 use Rattle.srm_scenario.proofs.Members.{few_members}
-use Rattle.srm_cell.specs.Setting.{setting_of}
+use Rattle.srm_engine.specs.Starts.{setting_on}
 use Rattle.srm_engine.specs.declared.soonest.Soonest.{Soonest}
 use Rattle.srm_model.specs.WindowRuns.{cells_in}
 use Rattle.srm_engine.specs.Groups.{AreCuts, AreGrouped, all_in, sizes}
@@ -39,7 +39,7 @@ overflow_mul-index g c =
     let at = group_within c.args.self.cut c.as_slice-all.result.now c.loop-index.index c.index-all-index.result may.cut.0 cuts
     c.loop-index-test.true in
     let within = at.within in
-    let few = few_members c.args.scenario.now c.until-until.ensures.accepted in
+    let few = few_members c.args.session.scenario.now c.until-until.ensures.accepted in
     let members = may.members in
     let all = ap (λ l. length (all_in l)) same in
     omega arith
@@ -60,7 +60,7 @@ soonest_in-requires-clause-members g c =
     omega arith
 
 pub soonest_in-requires-clause-few : goal.soonest_in-requires-clause-few
-soonest_in-requires-clause-few g c = let few = few_members c.args.scenario.now c.until-until.ensures.accepted in omega arith
+soonest_in-requires-clause-few g c = let few = few_members c.args.session.scenario.now c.until-until.ensures.accepted in omega arith
 
 pub loop-index-preserved : goal.loop-index-preserved
 loop-index-preserved g c =
@@ -78,7 +78,7 @@ loop-index-preserved g c =
     elim c.if-kept-index.branch [
       | then-kept-index w ↦ rw w.kept-is (
           λ seed ps results alone h soon.
-          let s = setting_of c.args.scenario.now c.args.net.now seed in
+          let s = setting_on c.args.session seed in
           let qs = cells_in results in
           let y = w.soonest_in.result in
           let new = looked_at g.M.Participant.plain c.args.self.cut gs qs may.cut.0 h s k group
@@ -90,7 +90,7 @@ loop-index-preserved g c =
           )
       | else-kept-index w ↦ rw w.kept-is (
           λ seed ps results alone h soon.
-          let s = setting_of c.args.scenario.now c.args.net.now seed in
+          let s = setting_on c.args.session seed in
           let qs = cells_in results in
           let none : Soonest = record { time = 0; promise = 0 } in
           let at : slice_get old k ≡ Some (get_or old k none) = slice_get-get_or old k none within in
@@ -106,7 +106,7 @@ loop-index-preserved g c =
 
 pub returns-clause-soon : goal.returns-clause-soon
 returns-clause-soon g c = λ seed ps results alone h soon.
-    let s = setting_of c.args.scenario.now c.args.net.now seed in
+    let s = setting_on c.args.session seed in
     let may = c.requires.may in
     let same = c.as_slice-all.ensures.value in
     let grouped = subst (λ l. AreGrouped g.M.Participant.plain c.args.self.cut l (cells_in results))

@@ -1,6 +1,6 @@
 use Rattle.std.proofs.Common.{◌≡◌, ◌∙◌, ◌<◌, ℕ, List, Err, sym, ◌++◌, ◌∷◌, [], add-zero, arith, ap, subst, refl}
-use Rattle.srm_net.specs.Network.{Network}
-use Rattle.srm_scenario.specs.Plain.{PlainScenario}
+use Rattle.srm_scenario.specs.declared.session.Session.{Session}
+use Rattle.srm_engine.specs.Starts.{setting_on}
 use Rattle.srm_member.specs.declared.row.Row.{Row}
 use Rattle.srm_cell.specs.Setting.{setting_of}
 use Rattle.srm_model.specs.World.{opening, IsReached, IsLast}
@@ -53,17 +53,17 @@ loop-begin-init g c = record {
 
 pub window-requires-clause-serves : goal.window-requires-clause-serves
 window-requires-clause-serves g c =
-    subst (λ (k : PlainScenario × Network × ℕ × Ends). g.C.Crew.serves c.loop-begin.crew k.0 k.1)
+    subst (λ (k : Session × ℕ × Ends). g.C.Crew.serves c.loop-begin.crew k.0.scenario.now k.0.net.now)
     (sym c.loop-begin.invariant.frame) c.loop-begin.invariant.serves
 
 pub returns-in-Err-window-clause-serves : goal.returns-in-Err-window-clause-serves
 returns-in-Err-window-clause-serves g c =
-    subst (λ (k : PlainScenario × Network × ℕ × Ends). g.C.Crew.serves c.window.new.crew k.0 k.1)
+    subst (λ (k : Session × ℕ × Ends). g.C.Crew.serves c.window.new.crew k.0.scenario.now k.0.net.now)
     c.loop-begin.invariant.frame c.in-Err-window.ensures.serves
 
 pub window-requires-clause-early : goal.window-requires-clause-early
 window-requires-clause-early g c =
-    let same = ap (λ (k : PlainScenario × Network × ℕ × Ends). k.0.until) c.loop-begin.invariant.frame in
+    let same = ap (λ (k : Session × ℕ × Ends). k.0.scenario.now.until) c.loop-begin.invariant.frame in
     let until = c.until-until.ensures.until in
     let early : c.loop-begin.begin < c.until-until.result = c.loop-begin-test.true in
     omega (arith, same)
@@ -74,10 +74,10 @@ returns-in-Err-window-clause-windows g c = λ seed h.
     let i = v.windows seed h in
     let x = c.in-Err-window.fault in (
       i.1,
-      subst (λ (k : PlainScenario × Network × ℕ × Ends). IsReached (setting_of k.0 k.1 seed) i.1) v.frame
+      subst (λ (k : Session × ℕ × Ends). IsReached (setting_on k.0 seed) i.1) v.frame
           (reached g.M.Participant.plain c.loop-begin.engine v.stands seed i.0 i.1 i.2),
       i.3,
-      subst (λ (k : PlainScenario × Network × ℕ × Ends). MayCome (setting_of k.0 k.1 seed) (ends_rule (setting_of k.0 k.1 seed) k.3) k.2
+      subst (λ (k : Session × ℕ × Ends). MayCome (setting_on k.0 seed) (ends_rule (setting_on k.0 seed) k.2) k.1
           i.1 x) v.frame (i.0, i.2.windows, c.in-Err-window.ensures.window seed i.0 i.1 i.2),
     )
 
@@ -100,13 +100,13 @@ returns-in-Err-hand_lists-clause-windows g c = λ seed h.
     let i = v.windows seed h in
     let e = c.loop-begin.engine in
     let both = c.in-Ok.ensures.window seed i.0 i.1 i.2 in
-    let same = ap (λ (k : PlainScenario × Network × ℕ × Ends). k.0.until) v.frame in
+    let same = ap (λ (k : Session × ℕ × Ends). k.0.scenario.now.until) v.frame in
     let until = c.until-until.ensures.until in
     let test : c.loop-begin.begin < c.until-until.result = c.loop-begin-test.true in
     let pending = next g.M.Participant.plain e v.stands seed i.0 i.1 i.2 c.loop-begin.begin v.next (omega (arith, same)) in
     let x = c.in-Err-hand_lists.halt in
-    subst (λ (k : PlainScenario × Network × ℕ × Ends). TellsHalt g.S.RowSink.took g.S.RowSink.part
-    (MayCome (setting_of k.0 k.1 seed) (ends_rule (setting_of k.0 k.1 seed) k.3) k.2) (setting_of k.0 k.1 seed)
+    subst (λ (k : Session × ℕ × Ends). TellsHalt g.S.RowSink.took g.S.RowSink.part
+    (MayCome (setting_on k.0 seed) (ends_rule (setting_on k.0 seed) k.2) k.1) (setting_on k.0 seed)
     c.args.sink.now x c.hand_lists.new.sink) v.frame
     (halted g.S.RowSink.took g.S.RowSink.part g.met.S.RowSink.part_more (setting_by e seed)
     (MayCome (setting_by e seed) (rule_by e seed) e.groups.cut) (lists_in c.in-Ok.ran.1) c.args.sink.now c.loop-begin.sink
@@ -114,7 +114,7 @@ returns-in-Err-hand_lists-clause-windows g c = λ seed h.
     (λ rows merge.
     let u = both.0 rows merge in (
       u.0,
-      subst (λ (k : PlainScenario × Network × ℕ × Ends). IsReached (setting_of k.0 k.1 seed) u.0) c.in-Ok.ensures.frame
+      subst (λ (k : Session × ℕ × Ends). IsReached (setting_on k.0 seed) u.0) c.in-Ok.ensures.frame
           (reached g.M.Participant.plain c.in-Ok.ran.0 c.in-Ok.ensures.stands seed (i.0 ++ i.1 ∷ []) u.0 u.1),
       u.2,
     ))
@@ -129,7 +129,7 @@ loop-begin-smaller g c =
 pub loop-begin-preserved : goal.loop-begin-preserved
 loop-begin-preserved g c = record {
   ready = c.in-Ok.ensures.ready;
-  serves = subst (λ (k : PlainScenario × Network × ℕ × Ends). g.C.Crew.serves c.window.new.crew k.0 k.1)
+  serves = subst (λ (k : Session × ℕ × Ends). g.C.Crew.serves c.window.new.crew k.0.scenario.now k.0.net.now)
       c.loop-begin.invariant.frame c.in-Ok.ensures.serves;
   stands = c.in-Ok.ensures.stands;
   frame = c.in-Ok.ensures.frame ∙ c.loop-begin.invariant.frame;
@@ -152,8 +152,8 @@ loop-begin-preserved g c = record {
         told.1,
         subst (λ (l : List Row). g.S.RowSink.took c.args.sink.now l c.hand_lists.new.sink) (sym told.2)
             (g.met.S.RowSink.took_more c.args.sink.now c.loop-begin.sink c.hand_lists.new.sink i.1.trace given.0 i.3 given.2),
-        subst (λ (k : PlainScenario × Network × ℕ × Ends). g.C.Crew.handed c.args.crew.now
-            (window_jobs (ends_rule (setting_of k.0 k.1 seed) k.3) k.2 (i.0 ++ i.1 ∷ [])) c.window.new.crew) (sym c.in-Ok.ensures.frame)
+        subst (λ (k : Session × ℕ × Ends). g.C.Crew.handed c.args.crew.now
+            (window_jobs (ends_rule (setting_on k.0 seed) k.2) k.1 (i.0 ++ i.1 ∷ [])) c.window.new.crew) (sym c.in-Ok.ensures.frame)
             calls,
       );
 }
@@ -162,7 +162,7 @@ pub returns-clause-windows : goal.returns-clause-windows
 returns-clause-windows g c = λ seed h.
     let v = c.loop-begin.invariant in
     let i = v.windows seed h in
-    let same = ap (λ (k : PlainScenario × Network × ℕ × Ends). k.0.until) v.frame in
+    let same = ap (λ (k : Session × ℕ × Ends). k.0.scenario.now.until) v.frame in
     let until = c.until-until.ensures.until in
     let no = c.loop-begin-test.false in
     let last = is_last g.M.Participant.plain c.loop-begin.engine v.stands seed i.0 i.1 i.2
@@ -170,10 +170,10 @@ returns-clause-windows g c = λ seed h.
       i.0,
       i.1,
       i.2,
-      subst (λ (k : PlainScenario × Network × ℕ × Ends). IsLast (setting_of k.0 k.1 seed) i.1) v.frame last,
+      subst (λ (k : Session × ℕ × Ends). IsLast (setting_on k.0 seed) i.1) v.frame last,
       i.3,
-      subst (λ (k : PlainScenario × Network × ℕ × Ends). g.C.Crew.handed c.args.crew.now
-          (window_jobs (ends_rule (setting_of k.0 k.1 seed) k.3) k.2 i.0) c.loop-begin.crew) v.frame i.4,
+      subst (λ (k : Session × ℕ × Ends). g.C.Crew.handed c.args.crew.now
+          (window_jobs (ends_rule (setting_on k.0 seed) k.2) k.1 i.0) c.loop-begin.crew) v.frame i.4,
     )
 
 pub returns-in-Err-hand_lists-clause-device : goal.returns-in-Err-hand_lists-clause-device

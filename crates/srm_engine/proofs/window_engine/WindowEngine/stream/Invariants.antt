@@ -9,7 +9,7 @@ use Rattle.srm_engine.proofs.window_engine.WindowEngine.stream.Given as goal
 abbrev pub invariant-loop-begin : goal.invariant-loop-begin
 invariant-loop-begin g l = record {
   ready : g.C.Crew.ready l.crew;
-  serves : g.C.Crew.serves l.crew l.fn.self.scenario.now l.fn.self.net.now;
+  serves : g.C.Crew.serves l.crew l.fn.self.session.scenario.now l.fn.self.session.net.now;
   stands : IsUnderWay g.M.Participant.plain l.engine;
   frame : frame_of l.engine ≡ frame_of l.fn.self;
   next : BeginsNext g.M.Participant.plain l.engine l.begin;

@@ -47,8 +47,8 @@ returns-in-Err-clause-window g c = λ seed begins w comes.
     map_refused g.M.Participant.plain c.args.self seed c.end-end.result w c.in_ok-jobs.jobs.items j c.in-Err.fault
     c.unwrap.result (sym c.of.ensures ∙ c.unwrap.ensures) told
 
-pub look_again-groups-requires-clause-may : goal.look_again-groups-requires-clause-may
-look_again-groups-requires-clause-may g c =
+pub look_again-groups-requires : goal.look_again-groups-requires
+look_again-groups-requires g c =
     let k = c.requires.stands in
     let ran = ran_now g.M.Participant.plain c.args.self c.requires.stands c.end-end.result
     c.end-end.ensures c.in_ok-jobs.jobs.items c.in_ok-jobs.ensures c.in-Ok.done c.in-Ok.ensures.done in
@@ -56,12 +56,14 @@ look_again-groups-requires-clause-may g c =
     let all = ap (λ l. length (all_in l)) same in
     let cuts = subst (λ l. AreCuts c.args.self.groups.cut (sizes l)) (sym same) ran.grouped.cuts in
     record {
-      cut = k.comes.kept.cut;
-      cuts = cuts;
-      members = (let cells = ran.grouped.cells.as_many in let members = ran.members in omega (arith, all));
-      many = as_many_kept (setting_by c.args.self k.seed) c.args.self.groups.cut c.in_ok-groups.groups.items
-          c.args.self.groups.soon.items k.world.cells k.comes.kept.cut.0 cuts (all ∙ ran.grouped.cells.as_many ∙ ran.as_many)
-          k.comes.kept.soon;
+      may = record {
+        cut = k.comes.kept.cut;
+        cuts = cuts;
+        members = (let cells = ran.grouped.cells.as_many in let members = ran.members in omega (arith, all));
+        many = as_many_kept (setting_by c.args.self k.seed) c.args.self.groups.cut c.in_ok-groups.groups.items
+            c.args.self.groups.soon.items k.world.cells k.comes.kept.cut.0 cuts (all ∙ ran.grouped.cells.as_many ∙ ran.as_many)
+            k.comes.kept.soon;
+      };
     }
 
 pub heard_by-requires-clause-until : goal.heard_by-requires-clause-until
@@ -157,7 +159,6 @@ returns-clause-stands g c =
     let told = (returns-clause-window g c k.seed k.begins k.world k.comes).0 (ordered row_cmp (joined lists))
     (some_merge lists) in record {
       accepted = k.accepted;
-      network = k.network;
       links = k.links;
       ends = k.ends;
       seed = k.seed;

@@ -1,0 +1,56 @@
+-- What is asked of a run, and what comes of it.
+use Rattle.std.specs.Prelude.{◌≡◌, ℕ, List, Result}
+use Rattle.srm_net.specs.Network.{Network}
+use Rattle.srm_scenario.specs.Plain.{PlainScenario}
+use Rattle.srm_scenario.specs.declared.session.Session.{Session}
+use Rattle.srm_member.specs.Record.{Record}
+use Rattle.srm_interfaces.specs.declared.crew.Crew as crew
+use Rattle.srm_interfaces.specs.declared.sink.RowSink as sink
+use Rattle.srm_report.specs.declared.outlet.Outlet as outlet
+use Rattle.srm_options.specs.declared.options.Show.{Show}
+use Rattle.srm_report.specs.Listings.{Form, text_in}
+use Rattle.srm_engine.specs.Openings.{HoldOpeningRecords}
+use Rattle.srm_program.specs.declared.task.Task.{Task}
+use Rattle.srm_program.specs.declared.fault.LabFault.{LabFault}
+use Rattle.srm_program.specs.Reports.{failures_after_run, most_gathered, TellsListing, TellsTable}
+use Rattle.srm_program.specs.Runs.{MayBreakOff, StandsAfter, TellsRefusedFor, TellsRows, TellsRunFor}
+
+-- this holds of a task's scenario on its network, for each seed whose opening records these are
+abbrev pub ForEachSeed : Task → List Record → (PlainScenario → Network → ℕ → Type 0) → Type 0
+ForEachSeed task rs holds =
+    (seed : ℕ) → HoldOpeningRecords task.session.scenario.now task.session.net.now seed rs
+    → holds task.session.scenario.now task.session.net.now seed
+
+-- a crew may lead the runs of a session
+pub record MayLead {C M : Type 0} (c : crew.Ghosts C M) (by : C) (of : Session) : Type 0 where
+  pub ready : c.ready by
+  pub serves : c.serves by of.scenario.now of.net.now
+
+-- what comes of a task, of members with these records, whose rows are handed to a sink: how it stands, and what it took
+pub record HandsOn {S : Type 0} (s : sink.Ghosts S) (task : Task) (rs : List Record) (old : S)
+    (r : Result (List ℕ) LabFault) (new : S) : Type 0 where
+  pub device : s.same old new
+  pub stands : StandsAfter r (s.stage new)
+  pub failures : s.failures new ≡ failures_after_run r (s.failures old)
+  pub rows : ForEachSeed task rs (λ p net seed. TellsRows s.took s.part p net seed task.options old r new)
+
+module _ {O T : Type 0} (o : outlet.Ghosts O) where
+  -- what comes of a table that is written at the end: how often its outlet failed, what it took, and the refusals
+  pub record Tabled (show : Show) (task : Task) (rs : List Record) (old : O) (r : Result T LabFault) (new : O)
+      : Type 0 where
+    pub failures : o.failures new ≡ failures_after_run r (o.failures old)
+    pub table : ForEachSeed task rs (λ p net seed. TellsTable p net seed show (o.taken old) (o.taken new) r)
+    pub refused : ForEachSeed task rs (λ p net seed. TellsRefusedFor p net seed task.options r)
+
+  -- what comes of a table that lists rows: how often its outlet failed, what it took, and the refusals
+  pub record IsListed (form : Form) (task : Task) (rs : List Record) (old : O) (r : Result T LabFault) (new : O)
+      : Type 0 where
+    pub failures : o.failures new ≡ failures_after_run r (o.failures old)
+    pub table : ForEachSeed task rs (λ p net seed. TellsListing (text_in form) most_gathered
+        (MayBreakOff p net seed task.options) p net seed (o.taken old) (o.taken new) r)
+    pub refused : ForEachSeed task rs (λ p net seed. TellsRefusedFor p net seed task.options r)
+
+  -- what comes of a report: how often its outlet failed, and what it took
+  pub record Reports (task : Task) (rs : List Record) (old : O) (r : Result T LabFault) (new : O) : Type 0 where
+    pub failures : o.failures new ≡ failures_after_run r (o.failures old)
+    pub report : ForEachSeed task rs (λ p net seed. TellsRunFor p net seed task.options (o.taken old) (o.taken new) r)
