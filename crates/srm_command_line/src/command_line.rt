@@ -168,7 +168,14 @@ const SHOW_LINE: OptionLine = OptionLine {
     default: Some("trace"),
     about: "The table: a row for each event, member, loss, lost operation, link or adapted timer",
     reader: Reader::Text,
-    words: &["trace", "members", "losses", "operations", "links", "timers"],
+    words: &[
+        "trace",
+        "members",
+        "losses",
+        "operations",
+        "links",
+        "timers",
+    ],
 };
 
 /// An option that takes nothing.

@@ -117,8 +117,9 @@ rows_are_lines Losses p net rows totals =
 rows_are_lines Operations p net rows totals =
     let d = decimal_is_plain in
     let t = time_is_plain in
-    mapped_lines _ (λ n. (d _, (d _, (d _, (d _, (d _, (d _, (t _, (t _, (d _, (d _,
-        (last_is_plain _, (last_delay_is_plain net n.source _, tt))))))))))))) _
+    let l = last_is_plain in
+    let w = last_delay_is_plain net in
+    mapped_lines _ (λ n. (d _, (d _, (d _, (d _, (d _, (d _, (t _, (t _, (d _, (d _, (l _, (w _ _, tt))))))))))))) _
 rows_are_lines Links p net rows totals =
     let d = decimal_is_plain in
     mapped_lines _ (λ l. (d _, (d _, (d _, (d _, (d _, (d _, tt))))))) _
