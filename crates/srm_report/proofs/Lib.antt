@@ -3,6 +3,7 @@ pub mod ByMemberLemmas
 pub mod Compare
 pub mod CountLemmas
 pub mod CourseLemmas
+mod CutLemmas
 pub mod LineLemmas
 pub mod LinkLemmas
 pub mod ListingLemmas
@@ -12,3 +13,4 @@ pub mod PieceLemmas
 pub mod SeedLemmas
 pub mod SinkLemmas
 pub mod TableLemmas
+mod TurnLemmas
