@@ -1,10 +1,9 @@
 -- What is kept of each member's rows goes on.
-use Rattle.std.proofs.Common.{◌≡◌, ◌∙◌, ℕ, zero, suc, List, [], ◌∷◌, ◌++◌, filter, ◌==◌, sym, subst}
+use Rattle.std.proofs.Common.{ℕ, zero, suc, List, [], ◌∷◌, ◌++◌, ◌==◌, sym, subst}
 use Rattle.std.proofs.lemmas.List.Elements.{filter-append}
 use Rattle.srm_member.specs.declared.row.Row.{Row}
 use Rattle.srm_member.specs.ByMember.{rows_of_member}
 use Rattle.srm_model.specs.Laws.{by_member}
-use Rattle.srm_model.specs.WindowRuns.{rows_in}
 use Rattle.srm_model.proofs.StandAlike.{results_by_member}
 use Rattle.srm_interfaces.specs.Watches.{KeepEach}
 use Rattle.srm_engine.specs.KeptMembers.{KeepMembers, KeptGoesOn, KeptOfWindow}

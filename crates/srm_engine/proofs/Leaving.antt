@@ -1,5 +1,5 @@
 -- What is left of what a crew that keeps rows did.
-use Rattle.std.proofs.Common.{◌≡◌, ◌∙◌, ◌⊎◌, inl, inr, ℕ, List, [], ◌∷◌, ◌++◌, All, refl, sym, subst, ap, length, append_assoc, append-nil}
+use Rattle.std.proofs.Common.{◌≡◌, ◌⊎◌, inl, inr, List, [], ◌∷◌, ◌++◌, All, sym, subst, length, append_assoc, append-nil}
 use Rattle.std.specs.List.{AllZip}
 use Rattle.std.proofs.lemmas.List.Elements.{All-head, All-tail}
 use Rattle.srm_net.specs.Network.{Network}
@@ -9,7 +9,6 @@ use Rattle.srm_member.specs.declared.row.Row.{Row}
 use Rattle.srm_cell.specs.declared.job.Done as job
 use Rattle.srm_cell.specs.Jobs.{IsDone, MayAdvance, PlainJob}
 use Rattle.srm_cell.specs.Setting.{Traffic}
-use Rattle.srm_cell.specs.Totalled.{IsSentBelow}
 use Rattle.srm_interfaces.specs.Crews.{AreJobs}
 use Rattle.srm_interfaces.specs.declared.watched.WatchedJob.{WatchedJob}
 use Rattle.srm_interfaces.specs.declared.watched.WatchedDone.{WatchedDone}

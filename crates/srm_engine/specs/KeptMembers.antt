@@ -1,5 +1,5 @@
 -- What is kept of each member's rows, from window to window.
-use Rattle.std.specs.Prelude.{◌≡◌, ◌≤◌, ℕ, suc, List, [], ◌∷◌, ◌++◌}
+use Rattle.std.specs.Prelude.{◌≤◌, ℕ, suc, List, [], ◌∷◌, ◌++◌}
 use Rattle.srm_member.specs.declared.row.Row.{Row}
 use Rattle.srm_member.specs.ByMember.{rows_of_member}
 use Rattle.srm_cell.specs.Setting.{Setting, IsFit}

@@ -7,7 +7,7 @@ use Rattle.srm_cell.specs.Setting.{traffic_of}
 use Rattle.srm_interfaces.specs.declared.watched.WatchedJob.{WatchedJob}
 use Rattle.srm_interfaces.specs.Crews.{AreJobs}
 use Rattle.srm_interfaces.specs.Watches.{jobs_in, job_in}
-use Rattle.srm_engine.specs.ByRows.{LeftEach, MayLeave}
+use Rattle.srm_engine.specs.ByRows.{LeftEach}
 use Rattle.srm_engine.proofs.Leaving.{left_of_jobs, may_leave, some_jobs}
 use Rattle.srm_engine.proofs.by_rows.ByRowsWatchCrew.map.Goals as goal
 
