@@ -12,7 +12,7 @@ use Rattle.srm_cell.specs.Jobs.{PlainJob, Advances}
 use Rattle.srm_interfaces.specs.declared.watched.WatchedJob.{WatchedJob}
 use Rattle.srm_interfaces.specs.declared.watched.WatchedDone.{WatchedDone}
 use Rattle.srm_interfaces.specs.Crews.{AreJobs, AdvanceEach}
-use Rattle.srm_interfaces.specs.Watches.{AreDone, WatchEach, Watches, job_in, jobs_in}
+use Rattle.srm_interfaces.specs.Watches.{AreDone, WatchEach, job_in, jobs_in}
 use Rattle.srm_crew.specs.Watched.{AdvanceOne}
 use Rattle.srm_crew.proofs.JobsSoFar.{SoFar, so_far_none, first_of, so_far_more, so_far_all, so_far_fault}
 
