@@ -4,6 +4,7 @@ pub mod Compare
 pub mod CountLemmas
 pub mod CourseLemmas
 pub mod EntryLemmas
+mod CutLemmas
 pub mod LineLemmas
 pub mod LinkLemmas
 pub mod ListingLemmas
@@ -16,3 +17,4 @@ pub mod SendingLemmas
 pub mod SinkLemmas
 pub mod TableLemmas
 pub mod TallyLemmas
+mod TurnLemmas

@@ -1,6 +1,7 @@
 pub mod Counted
 pub mod Courses
 pub mod Devices
+pub mod KeptLines
 pub mod Lines
 pub mod Links
 pub mod ListingSinks
