@@ -27,8 +27,9 @@ is_out outages l t = list_any (λ o. (o.link == l) && (nat_le o.from t && nat_lt
 abbrev pub some_ends_after : List OutageSpec → ℕ → Bool
 some_ends_after outages t = list_any (λ o. nat_lt t o.to) outages
 
--- whether some link is listed for packet p, or an outage ends or a loss goes on after tick `sent`, at which the packet is
--- sent: any other packet goes everywhere
+-- whether some link is listed for packet p, or an outage ends or a loss goes on after tick `sent`, at which the packet
+-- is sent: any other packet goes everywhere
 abbrev pub may_drop : DropRules → PacketId → ℕ → Bool
 may_drop rules p sent =
-    is_listed_somewhere rules.listed p || (some_ends_after rules.outages sent || some_goes_on_after rules.losses sent)
+    is_listed_somewhere rules.listed p
+    || (some_ends_after rules.outages sent || some_goes_on_after rules.losses sent)

@@ -1,6 +1,6 @@
 -- What holds of every network, and of the orders.
-use Rattle.std.specs.Prelude.{◌≡◌, ◌≢◌, ◌↔◌, ℕ, ◌/◌, ◌<◌, ◌≤◌, true, false, not, All, Contains, List, [], ◌∷◌, ◌++◌, length, Some}
-use Rattle.std.specs.Prelude.{None}
+use Rattle.std.specs.Prelude.{◌≡◌, ◌≢◌, ◌↔◌, ℕ, ◌/◌, ◌<◌, ◌≤◌, true, false, not, All, Contains, List, [], ◌∷◌, ◌++◌}
+use Rattle.std.specs.Prelude.{length, Option, Some, None}
 use Rattle.std.specs.List.{list_any}
 use Rattle.std.specs.declared.cmp.Ordering.{Ordering}
 use Rattle.std.specs.declared.cmp.Ordering.TheVariants.{Equal}
@@ -142,8 +142,8 @@ SameOutagesOut =
 abbrev pub listed_alone : List DropSpec → ℕ → DropRules
 listed_alone drops seed = record { listed = drops; outages = []; losses = []; seed = seed }
 
--- without outages and losses a packet reaches a member exactly where no link of the way is listed for it, whenever it is
--- sent
+-- without outages and losses a packet reaches a member exactly where no link of the way is listed for it, whenever it
+-- is sent
 abbrev pub ListedAloneReaches : Type 0
 ListedAloneReaches =
     (w : Network) (drops : List DropSpec) (seed : ℕ) (p : PacketId) (sent m : ℕ)
@@ -165,19 +165,22 @@ with_more outages losses rules = record {
   seed = rules.seed;
 }
 
--- a loss with a rate of 1,000,000 is an outage: the drop of every packet that comes to its link then
+-- a loss of a link with a rate of 1,000,000, from a tick on up to below another
+abbrev pub sure_loss : ℕ → ℕ → ℕ → Option ℕ → LossSpec
+sure_loss l stream from to = record { link = l; rate = 1000000; stream = stream; from = from; to = to }
+
+-- it is an outage: the drop of every packet that comes to its link then
 abbrev pub SureLossIsOutage : Type 0
 SureLossIsOutage =
     (rules : DropRules) (l stream from to : ℕ) (p : PacketId) (s : Stop)
-    → takes_out (with_more [] (record { link = l; rate = 1000000; stream = stream; from = from; to = Some to } ∷ []) rules) p s
+    → takes_out (with_more [] (sure_loss l stream from (Some to) ∷ []) rules) p s
     ≡ takes_out (with_more (record { link = l; from = from; to = to } ∷ []) [] rules) p s
 
 -- one that is on from the start and does not end is the drop of every packet at its link
 abbrev pub SureLossDropsAll : Type 0
 SureLossDropsAll =
     (rules : DropRules) (l stream : ℕ) (p : PacketId) (t : ℕ)
-    → takes_out (with_more [] (record { link = l; rate = 1000000; stream = stream; from = 0; to = None } ∷ []) rules) p (stop l t)
-    ≡ true
+    → takes_out (with_more [] (sure_loss l stream 0 None ∷ []) rules) p (stop l t) ≡ true
 
 -- without losses the seed decides nothing
 abbrev pub SeedDecidesLossesAlone : Type 0

@@ -1,5 +1,6 @@
 -- The losses of links, and the words that decide which packets they take.
-use Rattle.std.specs.Prelude.{ℕ, ◌+◌, ◌*◌, ◌/◌, ◌%◌, ◌^◌, Bool, true, ◌&&◌, ◌==◌, List, Option, Some, None, nat_le, nat_lt, bit_xor}
+use Rattle.std.specs.Prelude.{ℕ, ◌+◌, ◌*◌, ◌/◌, ◌%◌, ◌^◌, Bool, true, ◌&&◌, ◌==◌, List, Option, Some, None, nat_le}
+use Rattle.std.specs.Prelude.{nat_lt, bit_xor}
 use Rattle.std.specs.List.{list_any}
 use Rattle.srm_net.specs.declared.link.LossSpec.{LossSpec}
 use Rattle.srm_net.specs.declared.packet.PacketId.{PacketId}
@@ -17,8 +18,9 @@ mix z =
 -- the word of 32 bits that decides, for a seed and a stream, what becomes of packet p at link l
 unfoldable pub loss_word : ℕ → ℕ → ℕ → PacketId → ℕ
 loss_word seed stream l p =
-    mix (bit_xor (mix (bit_xor (mix (bit_xor (mix ((seed + 0x9e3779b97f4a7c15) % 2 ^ 64)) stream)) (l * 65536 + p.sender))) p.count)
-    / 2 ^ 32
+    mix (bit_xor
+    (mix (bit_xor (mix (bit_xor (mix ((seed + 0x9e3779b97f4a7c15) % 2 ^ 64)) stream)) (l * 65536 + p.sender)))
+    p.count) / 2 ^ 32
 
 -- so many of the words take a packet, at a rate in millionths
 abbrev pub words_taking : ℕ → ℕ

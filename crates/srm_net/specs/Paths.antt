@@ -126,7 +126,8 @@ stops links u t (l ∷ ls) =
 abbrev pub member_stops : Network → ℕ → ℕ → ℕ → List Stop
 member_stops w a sent b = stops w.links (host w a) sent (member_route w a b)
 
--- whether the link of a stop takes packet p out there: it is listed for the packet, out at that tick, or loses the packet
+-- whether the link of a stop takes packet p out there: it is listed for the packet, out at that tick, or loses the
+-- packet
 abbrev pub takes_out : DropRules → PacketId → Stop → Bool
 takes_out rules p s =
     is_listed rules.listed p s.link

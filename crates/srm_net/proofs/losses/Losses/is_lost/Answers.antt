@@ -15,7 +15,8 @@ pub index-requires : goal.index-requires
 index-requires c =
     let xs = c.self.inside.list.items in
     let inv = c.loop-next.invariant in
-    let k = last_there xs c.args.link inv.0 (c.loop-next.next - 1) (there xs c.args.link inv.0 c.loop-next.next inv.2 c.loop-next-test.true) in
+    let k = last_there xs c.args.link inv.0 (c.loop-next.next - 1)
+    (there xs c.args.link inv.0 c.loop-next.next inv.2 c.loop-next-test.true) in
     let lt : c.loop-next.next - 1 < inv.0 = k.below in
     let few : inv.0 ≤ length xs = inv.1 in
     omega (arith, c.self.inside.list.ok.0)
@@ -38,7 +39,8 @@ pub index-next-requires : goal.index-next-requires
 index-next-requires c =
     let xs = c.self.inside.list.items in
     let inv = c.loop-next.invariant in
-    let k = last_there xs c.args.link inv.0 (c.loop-next.next - 1) (there xs c.args.link inv.0 c.loop-next.next inv.2 c.loop-next-test.true) in
+    let k = last_there xs c.args.link inv.0 (c.loop-next.next - 1)
+    (there xs c.args.link inv.0 c.loop-next.next inv.2 c.loop-next-test.true) in
     let lt : c.loop-next.next - 1 < inv.0 = k.below in
     let few : inv.0 ≤ length xs = inv.1 in
     omega (arith, c.self.inside.earlier.ok.0, c.self.invariant.long)
