@@ -133,9 +133,11 @@ def test_figure_of_a_metric_is_accepted(tmp_path):
 
 def test_each_configuration_of_the_repository_is_accepted():
     import figures
+    import kinds
     import yaml
     for name in ("config.yaml", "small.yaml", "adaptive.yaml", "adaptive-ns2.yaml", "sparse.yaml"):
-        check_config(yaml.safe_load((ROOT / "experiments" / name).read_text()), figures.NEEDS)
+        check_config(yaml.safe_load((ROOT / "experiments" / name).read_text()), kinds.NEEDS)
+    assert set(kinds.NEEDS) == set(figures.DRAWS)
 
 
 def test_table_of_an_experiment(tmp_path):
