@@ -7,6 +7,7 @@ import re
 import stat
 import subprocess
 import sys
+import tarfile
 import tomllib
 from dataclasses import replace
 from pathlib import Path
@@ -278,6 +279,7 @@ def test_tables_say_what_they_are_of(program, srm_lab, tmp_path):
     text = given.text().removeprefix("# of no matter\n")
     assert runs.losses.attrs == {
         "table": "losses", "seeds": [4, 7], "program": version, "package": __version__, "options": [],
+        "program_sha256": hashlib.sha256(program.read_bytes()).hexdigest(),
         "scenario": hashlib.sha256(text.encode()).hexdigest()}
     assert runs.summary("delay", by="member").attrs["scenario"] == given.digest()
     runs.save(tmp_path)
@@ -286,7 +288,18 @@ def test_tables_say_what_they_are_of(program, srm_lab, tmp_path):
 
 def test_version_is_that_of_the_package():
     project = tomllib.loads((ROOT / "python/pyproject.toml").read_text())["project"]
-    assert __version__ == project["version"]
+    assert __version__.split("+")[0] == project["version"]
+
+
+def test_packed_package_knows_its_commit():
+    if not (ROOT / ".git").exists():
+        pytest.skip("this is no repository of git")
+    name = "python/src/srm_lab/__init__.py"
+    archive = subprocess.run(["git", "archive", "HEAD", name], cwd=ROOT, capture_output=True, check=True).stdout
+    with tarfile.open(fileobj=io.BytesIO(archive)) as packed:
+        text = packed.extractfile(name).read().decode()
+    commit = subprocess.run(["git", "log", "-1", "--format=%h"], cwd=ROOT, capture_output=True, text=True, check=True).stdout
+    assert f'COMMIT = "{commit.strip()}"' in text
 
 
 def test_tables_as_parquet(program, tmp_path):

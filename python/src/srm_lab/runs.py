@@ -237,8 +237,8 @@ def run(given: Scenario, seeds: int | Iterable[int] = 1, tables: str | Iterable[
 
 def origin(table: str, seeds: tuple[int, ...], asked: Asked) -> dict[str, Any]:
     """What every table of runs says of itself."""
-    return {"table": table, "seeds": list(seeds), "program": version_of(asked.program), "package": __version__,
-            "options": list(asked.options)}
+    return {"table": table, "seeds": list(seeds), "program": version_of(asked.program),
+            "program_sha256": asked.digest, "package": __version__, "options": list(asked.options)}
 
 
 def seeds_of(given: int | Iterable[int]) -> tuple[int, ...]:
