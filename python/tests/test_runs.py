@@ -297,7 +297,9 @@ def test_packed_package_knows_its_commit():
     name = "python/src/srm_lab/__init__.py"
     archive = subprocess.run(["git", "archive", "HEAD", name], cwd=ROOT, capture_output=True, check=True).stdout
     with tarfile.open(fileobj=io.BytesIO(archive)) as packed:
-        text = packed.extractfile(name).read().decode()
+        file = packed.extractfile(name)
+        assert file is not None
+        text = file.read().decode()
     commit = subprocess.run(["git", "log", "-1", "--format=%h"], cwd=ROOT, capture_output=True, text=True, check=True).stdout
     assert f'COMMIT = "{commit.strip()}"' in text
 
