@@ -1,8 +1,9 @@
 """Figures from the tables of experiments.
 
-usage: figures.py WORDS SVG PNG TABLE...
+usage: figures.py FIGURES RESULTS
 
-WORDS is the figure's part of a configuration, as JSON: `draw` names a function of DRAWS, which takes the other words.
+FIGURES is that part of a configuration, as JSON: `draw` names a function of DRAWS, which takes the figure's other words.
+One process draws all of them, since loading what draws takes longer than a figure. RESULTS has the tables.
 A point is the mean over seeds of the means of each seed, with a 95 per cent interval (Student's t) over the seeds; a
 band is from the lower to the upper quartile of all losses.
 """
@@ -29,8 +30,8 @@ from matplotlib.path import Path  # noqa: E402
 from matplotlib.text import Annotation  # noqa: E402
 from matplotlib.ticker import FixedLocator, FuncFormatter, NullLocator  # noqa: E402
 from matplotlib.transforms import Bbox  # noqa: E402
+from recoveries import read  # noqa: E402
 from srm_lab.statistics import interval  # noqa: E402
-from srm_lab.experiment import Needs  # noqa: E402
 
 BLUE, ORANGE, GREEN, PURPLE, GREY = "#0072b2", "#d55e00", "#009e73", "#cc79a7", "#666666"
 COLOURS = (BLUE, ORANGE, GREEN, PURPLE, "#e69f00", "#56b4e9", "#000000")
@@ -46,21 +47,6 @@ LABELS = {
     "ratio": "delay of the last member\n(round trips to the source)", "last_delay": "delay of the last member (ticks)",
     "least_delay": "least delay of a member (ticks)", "greatest_delay": "greatest delay of a member (ticks)",
 }
-
-
-def read(path: str) -> pandas.DataFrame:
-    """A table of an experiment, without the operations that somebody lacked to the end, and those without a delay.
-
-    How many these are, and how many losses ended with a leave, is in `attrs`, and goes into the figure.
-    """
-    table = pandas.read_csv(path)
-    wanted = (table["open"] == 0) & table["last_delay"].notna()
-    kept = table[wanted].copy()
-    kept["ratio"] = kept["last_delay"] / kept["last_round_trip"]
-    kept.attrs = {"rows": len(table), "open": int((table["open"] > 0).sum()),
-                  "gone": int(((table["open"] == 0) & table["last_delay"].isna()).sum()),
-                  "left": int(table["left"].sum())}
-    return kept
 
 
 def left_out(tables: Sequence[pandas.DataFrame]) -> str:
@@ -415,24 +401,22 @@ def both_timers(axes: Axes, table: pandas.DataFrame, measure: str) -> float:
 DRAWS = {draw.__name__: draw for draw in (
     over_session_size, lines, requests_in_a_star, chain_of_sure_timers, requests_against_delay, over_rounds,
     adapted_over_size, over_spacing)}
-NEEDS = {
-    "over_session_size": Needs(2), "lines": Needs(4), "requests_in_a_star": Needs(2, ("size", "c1", "c2")),
-    "chain_of_sure_timers": Needs(1, ("drop_link", "delay", "c1", "d1")),
-    "requests_against_delay": Needs(2, ("size", "drop_link", "c1", "c2")),
-    "over_rounds": Needs(2, ("adaptive", "rounds")), "adapted_over_size": Needs(2, ("adaptive", "rounds", "members")),
-    "over_spacing": Needs(2, ("size", "adaptive", "rounds", "every")),
-}
 
 
-def main(words: str, svg: str, png: str, *paths: str) -> None:
+def draw(asked: dict[str, Any], svg: str, png: str, *paths: str) -> None:
     """Draws one figure."""
-    asked = json.loads(words)
-    tables = [read(path) for path in paths]
-    figure = DRAWS[asked["draw"]](tables, asked)
+    figure = DRAWS[asked["draw"]]([read(path) for path in paths], asked)
     figure.tight_layout()
     figure.savefig(svg, metadata={"Date": None}, bbox_inches="tight")
     figure.savefig(png, dpi=150, metadata={"Software": None}, bbox_inches="tight")
     plot.close(figure)
+
+
+def main(config: str, results: str) -> None:
+    """Draws all figures of a configuration."""
+    for name, asked in json.loads(config).items():
+        picture = f"{results}/figures/{name}"
+        draw(asked, f"{picture}.svg", f"{picture}.png", *(f"{results}/tables/{one}.csv" for one in asked["of"]))
 
 
 if __name__ == "__main__":

@@ -16,7 +16,7 @@ from typing import Any
 
 import pandas
 import yaml
-from figures import read
+from recoveries import read
 from srm_lab.statistics import interval
 from srm_lab.experiment import Experiment, experiments_of
 

@@ -12,7 +12,7 @@ from pathlib import Path
 
 import pandas
 from adaptive_figures import BLOCK, MEASURES, block_means, with_rounds
-from figures import read
+from recoveries import read
 
 SHOWN = (1, 21, 81)  # the first round of each block that is told
 

@@ -53,7 +53,7 @@ REPORT = && realpath "$$results/report.html"
 experiments: $(SRM_LAB) ## makes the sweeps of experiments/config.yaml or CONFIG=.., their figures and report; keeps what is there
 	$(SNAKEMAKE) --cores $(JOBS) $(REPORT)
 
-# up to fifty runs in a job; the directory has to be one that all nodes share
+# the directory has to be one that all nodes share
 experiments-slurm: CORES ?= 4
 experiments-slurm: $(SRM_LAB) ## the same by Slurm: make experiments-slurm JOBS=2 CORES=2 SBATCH="--partition=short --time=30"
 	$(SNAKEMAKE) --jobs $(JOBS) --cores $(CORES) --latency-wait 60 \

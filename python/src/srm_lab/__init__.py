@@ -17,6 +17,8 @@ if TYPE_CHECKING:
     from .sweeps import sweep
 
 __version__ = "0.2.0"
+COMMIT = "$Format:%h$"  # `git archive`, by which all is packed, puts the commit's number here
+__version__ += "" if COMMIT.startswith("$") else f"+{COMMIT}"
 __all__ = ["Delays", "History", "RefusedError", "Runs", "Scenario", "ScenarioError", "Tree", "__version__", "difference",
            "interval", "load_scenario", "paired", "read_scenario", "run", "save", "scenario", "summarise", "sweep"]
 LATER = {"Runs": "runs", "run": "runs", "sweep": "sweeps", "save": "frames",

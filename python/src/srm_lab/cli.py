@@ -276,11 +276,11 @@ def parser() -> argparse.ArgumentParser:
     return whole
 
 
-def text_of(words: Sequence[str]) -> str:
-    """The scenario file of the words of a command line, which it names."""
+def scenario_of(words: Sequence[str]) -> Scenario:
+    """The scenario of the words of a command line, which its file names."""
     scenario = build(parser().parse_args(words))
     command = shlex.join(words).encode("unicode_escape").decode()  # one line, whatever the words have
-    return replace(scenario, comments=(f"made by: srm-scenarios {command}",)).text()
+    return replace(scenario, comments=(f"made by: srm-scenarios {command}",))
 
 
 def main(words: Sequence[str] | None = None) -> int:
@@ -289,7 +289,7 @@ def main(words: Sequence[str] | None = None) -> int:
     if words[:1] == ["page"]:
         return page_command.main(words[1:])
     try:
-        sys.stdout.write(text_of(words))
+        sys.stdout.write(scenario_of(words).text())
     except ScenarioError as fault:
         sys.stderr.write(f"srm-scenarios: {fault}\n")
         return 1

@@ -7,8 +7,7 @@ from typing import Any, NamedTuple
 from .cli import build, parser
 from .errors import ScenarioError, perhaps
 from .limits import MOST_SEED, within
-from .measures import OperationsTable
-from .one_run import function_of
+from .metrics import function_of
 
 OWN = ("kind", "losses", "seeds", "metrics", "agent", "path")
 AGENTS = ("srm_lab", "ns2")
@@ -17,7 +16,8 @@ FIGURE = ("draw", "of", "x", "y", "by", "over")
 LISTED = ("join", "leave", "outage", "drop_packet")
 FLAGS = ("adaptive", "any_packet", "no_session")
 NAME = ("source", "page", "number")
-COLUMNS = tuple(column for column in OperationsTable.columns if column not in NAME)
+# what the recovery of an operation took, with the least and greatest delays of those that recovered, and of the last one
+COLUMNS = ("losers", "left", "open", "requests", "repairs", "least_delay", "greatest_delay", "last_delay", "last_round_trip")
 
 
 class Needs(NamedTuple):
@@ -69,9 +69,10 @@ class Experiment:
         """The columns of its table that a figure may draw."""
         return [*(key for key in self.config if key != "seeds"), *COLUMNS, "ratio", *self.metrics]
 
-    def runs(self) -> list[tuple[str, int]]:
-        """Each (point's name, seed), in order."""
-        return [(label, seed) for label in self.points for seed in self.seeds]
+    @property
+    def parts(self) -> list[list[int]]:
+        """The seeds of each job of a point: all in one process, and of ns-2, whose runs take seconds, one."""
+        return [self.seeds] if self.agent == AGENTS[0] else [[seed] for seed in self.seeds]
 
     def words(self, label: str, seed: int) -> list[str]:
         """The words of `srm-scenarios` for a point and a seed."""

@@ -69,9 +69,10 @@ def bernoulli(given: "Scenario", rate: float, link: int | None, rng: random.Rand
     nodes = [member.node for member in given.members]
     for sender, member in enumerate(given.members):
         used = sorted(links_in_use(given.tree, member.node, nodes)) if member.role == "sender" else []
+        counts = range(packets(sender)) if used else ()
         for one in used:
             if link in (None, one):
-                drops += [Drop(one, sender, count) for count in range(packets(sender)) if rng.random() < rate]
+                drops += [Drop(one, sender, count) for count in counts if rng.random() < rate]
     return drops
 
 

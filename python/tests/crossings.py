@@ -2,9 +2,9 @@
 from collections import Counter
 from functools import cache
 
-from .follower import Packet
-from .losses import links_in_use
-from .scenario import Scenario
+from srm_lab.follower import Packet
+from srm_lab.losses import links_in_use
+from srm_lab.scenario import Scenario
 
 
 class Crossings:
