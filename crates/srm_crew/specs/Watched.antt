@@ -13,8 +13,8 @@ use Rattle.srm_interfaces.specs.declared.watched.WatchedDone.{WatchedDone}
 use Rattle.srm_interfaces.specs.Watches.{Watches, job_in}
 
 module _ {M K : Type 0} where
-  -- what advancing one watched job tells: what is left of what is done of it; or why not, as without a watch, but that memory may
-  -- run out for the watch too
+  -- what advancing one watched job tells: what is left of what is done of it; or why not, as without a watch, but
+  -- that memory may run out for the watch too
   abbrev pub AdvanceOne : (M → Record) → (K → List Row → Type 0) → PlainScenario → Network → WatchedJob M K
       → Result (WatchedDone M K) CellFault → Type 0
   AdvanceOne f keeps k net j (Ok e) =

@@ -14,8 +14,8 @@ module _ {K : Type 0} (keeps : K → List Row → Type 0) where
   KeepMembers m [] trace = Unit {0}
   KeepMembers m (k ∷ ks) trace = keeps k (rows_of_member m trace) × KeepMembers (suc m) ks trace
 
-  -- so it goes on over a window: what kept each member's rows so far, and takes in those of its own run, keeps its rows of
-  -- the longer trace. No row is sorted
+  -- so it goes on over a window: what kept each member's rows so far, and takes in those of its own run, keeps its
+  -- rows of the longer trace. No row is sorted
   abbrev pub KeptGoesOn : Type 0
   KeptGoesOn =
       (s : Setting) (w : World) (till : ℕ) → IsFit s → IsReached s w → till ≤ s.traffic.until → IsSafe s till w

@@ -28,7 +28,8 @@ KeepEach keeps old more new = ⊥
 
 module _ {M : Type 0} where
   -- this is done of the jobs, of all jobs that they may be seen as
-  pub record AreDone (f : M → Record) (k : PlainScenario) (net : Network) (js : List (Job M)) (ds : List (job.Done M)) : Type 0 where
+  pub record AreDone
+      (f : M → Record) (k : PlainScenario) (net : Network) (js : List (Job M)) (ds : List (job.Done M)) : Type 0 where
     pub are : (ps : List PlainJob) → AreJobs f js ps → AllZip (λ p d. IsDone f (traffic_of k net) p d) ps ds
 
 module _ {M K : Type 0} where
@@ -43,7 +44,8 @@ module _ {M K : Type 0} where
   abbrev pub HaveKept : WatchedJob M K → Type 0
   HaveKept j = length j.kept.items ≡ length j.cells.items
 
-  -- this is what is left of what is done of a job: of the rows what is kept of them, where this was kept before, and their packets
+  -- this is what is left of what is done of a job: of the rows what is kept of them, where this was kept before, and
+  -- their packets
   pub record Watches (keeps : K → List Row → Type 0) (k : PlainScenario) (net : Network) (old : List K)
       (d : job.Done M) (e : WatchedDone M K) : Type 0 where
     pub place : e.place ≡ d.place
@@ -57,7 +59,8 @@ module _ {M K : Type 0} where
   abbrev pub WatchEach : (K → List Row → Type 0) → PlainScenario → Network → List (WatchedJob M K)
       → List (job.Done M) → List (WatchedDone M K) → Type 0
   WatchEach keeps k net [] [] [] = Unit {0}
-  WatchEach keeps k net (j ∷ js) (d ∷ ds) (e ∷ es) = Watches keeps k net j.kept.items d e × WatchEach keeps k net js ds es
+  WatchEach keeps k net (j ∷ js) (d ∷ ds) (e ∷ es) =
+      Watches keeps k net j.kept.items d e × WatchEach keeps k net js ds es
   WatchEach keeps k net js ds es = ⊥
 
   -- what advancing watched jobs tells: what is left of what is done of them; or why not, as without a watch
@@ -67,11 +70,13 @@ module _ {M K : Type 0} where
       (ds : List (job.Done M)) × AreDone f k net (jobs_in js) ds × WatchEach keeps k net js ds w.items
   AdvanceWatched f keeps k net js (Err e) = AdvanceEach f k net (jobs_in js) (Err e)
 
-  -- what a crew's call tells: what is left of what is done of the jobs, and a seat grown by the crossings of all their rows; or
-  -- why not, as a crew that keeps the rows
-  abbrev pub MapsWatched : (M → Record) → (K → List Row → Type 0) → PlainScenario → Network → SeatView → List (WatchedJob M K)
+  -- what a crew's call tells: what is left of what is done of the jobs, and a seat grown by the crossings of all
+  -- their rows; or why not, as a crew that keeps the rows
+  abbrev pub MapsWatched : (M → Record) → (K → List Row → Type 0) → PlainScenario → Network → SeatView
+      → List (WatchedJob M K)
       → Result (Vec (WatchedDone M K) × SeatView) CrewFault → Type 0
   MapsWatched f keeps k net seat js (Ok w) =
       (ds : List (job.Done M)) × AreDone f k net (jobs_in js) ds
-      × HasGrown (counted_in (crossings (traffic_of k net) (rows_of ds))) seat w.1 × WatchEach keeps k net js ds w.0.items
+      × HasGrown (counted_in (crossings (traffic_of k net) (rows_of ds))) seat w.1
+      × WatchEach keeps k net js ds w.0.items
   MapsWatched f keeps k net seat js (Err e) = Maps f k net seat (jobs_in js) (Err e)

@@ -60,7 +60,8 @@ timers_all (r ∷ rows) =
 
 pub shown_by_rows : (show : Show) (p : PlainScenario) (net : Network) (rows : List Row) (totals : List ℕ)
     → shown show p net rows totals ≡ table_lines (columns_shown show) (rows_shown show p net rows totals)
-unfolding table_lines trace_of_rows trace_header trace_line members_table losses_table operations_table links_table timers_table timers_header
+unfolding table_lines trace_of_rows trace_header trace_line members_table losses_table operations_table links_table timers_table
+    timers_header
 shown_by_rows Trace p net rows totals = ap (λ l. trace_header ++ l) (lines_mapped trace_fields rows)
 shown_by_rows Members p net rows totals = refl
 shown_by_rows Losses p net rows totals = refl

@@ -187,7 +187,8 @@ module _ (rows : List Row) (r : Row) (front : List Name) (n : Name) (es : List (
 
   not_among : list_any (eq_by_cmp loss_cmp k) (losses_in (rows ++ q0 ∷ [])) ≡ false
   not_among =
-      sym (any_ordered loss_cmp loss_total (eq_by_cmp loss_cmp k) (losses_in (rows ++ q0 ∷ []))) ∙ ap (list_any (eq_by_cmp loss_cmp k)) (sym was.losses)
+      sym (any_ordered loss_cmp loss_total (eq_by_cmp loss_cmp k) (losses_in (rows ++ q0 ∷ [])))
+          ∙ ap (list_any (eq_by_cmp loss_cmp k)) (sym was.losses)
       ∙ sym (is_some-find loss_cmp k es) ∙ ap is_some none
 
   lost_now : course_of (rows ++ q1 ∷ []) k ≡ Some (record { detected = r.key.time; recovered = None })
@@ -298,7 +299,8 @@ module _ (rows : List Row) (r : Row) (es : List (Loss × Course)) (was : TellLos
     put_now : TellLosses (rows ++ r ∷ []) (put loss_cmp k2 mended es)
     put_now = record {
       sorted = is_sorted-put loss_cmp loss_total k2 mended es was.sorted;
-      losses = keys_same loss_cmp loss_total k2 mended es was.sorted _ (was.courses k2 ∙ before_fix) ∙ was.losses ∙ ap (ordered loss_cmp) losses_stay;
+      losses = keys_same loss_cmp loss_total k2 mended es was.sorted _ (was.courses k2 ∙ before_fix) ∙ was.losses
+          ∙ ap (ordered loss_cmp) losses_stay;
       courses = λ j. find-put loss_cmp loss_total j k2 mended es ∙ elim (losses_apart j k2) [
         | inl e ↦ subst (λ x. cond (eq_by_cmp loss_cmp x k2) (Some mended) (find loss_cmp x es) ≡ course_of (rows ++ r ∷ []) x) (sym e)
             (ap (λ b. cond b (Some mended) (find loss_cmp k2 es)) (loss_is k2) ∙ sym after)

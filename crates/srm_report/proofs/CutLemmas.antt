@@ -1,5 +1,6 @@
 -- Lines of a text, read at a place, and one more put behind them.
-use Rattle.std.proofs.Common.{◌≡◌, ◌≢◌, refl, ◌∙◌, ℕ, zero, suc, List, [], ◌∷◌, ◌++◌, ◌<◌, ◌≤◌, ◌-◌, ◌+◌, take, drop, length, sym, subst, ap}
+use Rattle.std.proofs.Common.{◌≡◌, ◌≢◌, refl, ◌∙◌, ℕ, zero, suc, List, [], ◌∷◌, ◌++◌, ◌<◌, ◌≤◌, ◌-◌, ◌+◌, take, drop, length, sym}
+use Rattle.std.proofs.Common.{subst, ap}
 use Rattle.std.proofs.Common.{arith}
 use Rattle.std.proofs.Math.Seq.{drop-append_seam, take-length}
 use Rattle.std.proofs.lemmas.List.{drop-append-le, take-append-le, length-drop}
@@ -32,7 +33,8 @@ start_is start [] i e lt = absurd (omega arith)
 start_is start (x ∷ es) zero e lt = refl
 start_is start (x ∷ es) (suc i) e lt = start_is x.end es i e (omega arith)
 
-pub start_before : (start : ℕ) (es : List LineEnd) (i : ℕ) (e : LineEnd) → i ≢ 0 → i ≤ length es → (get_or es (i - 1) e).end ≡ start_at start i es
+pub start_before : (start : ℕ) (es : List LineEnd) (i : ℕ) (e : LineEnd) → i ≢ 0 → i ≤ length es
+    → (get_or es (i - 1) e).end ≡ start_at start i es
 start_before start es zero e ne le = absurd (ne refl)
 start_before start es (suc i) e ne le =
     let one : suc i - 1 ≡ i = omega arith in

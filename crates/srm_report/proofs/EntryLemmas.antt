@@ -72,7 +72,8 @@ module _ {K V : Type 0} (cmp : K → K → Ordering) (total : IsTotalOrder cmp) 
 -- ---- order
 
 module _ {K : Type 0} (cmp : K → K → Ordering) (total : IsTotalOrder cmp) where
-  pub ordered_push : (xs : List K) (x : K) → list_any (eq_by_cmp cmp x) xs ≡ false → ordered cmp (xs ++ x ∷ []) ≡ place cmp x (ordered cmp xs)
+  pub ordered_push : (xs : List K) (x : K) → list_any (eq_by_cmp cmp x) xs ≡ false
+      → ordered cmp (xs ++ x ∷ []) ≡ place cmp x (ordered cmp xs)
   ordered_push [] x h = refl
   ordered_push (y ∷ ys) x h =
       ap (place cmp y) (ordered_push ys x (second_false (eq_by_cmp cmp x y) _ h))

@@ -98,7 +98,8 @@ sent_none rows r es was none m =
 
 module _ (rows : List Row) (r : Row) (es : List (Name × Sending)) (was : TellSent rows es) (n : Name) (v : Sending) where
   -- the row sends for this name alone
-  sent_one : (a b : Bool) → ((m : Name) → sends_for is_ask m r ≡ (a && is_name m n)) → ((m : Name) → sends_for is_answer m r ≡ (b && is_name m n))
+  sent_one : (a b : Bool) → ((m : Name) → sends_for is_ask m r ≡ (a && is_name m n)) → ((m : Name)
+      → sends_for is_answer m r ≡ (b && is_name m n))
       → v ≡ after a b r.key.time (sending_in es n) → TellSent (rows ++ r ∷ []) (put name_cmp n v es)
   sent_one a b asks answers is m = by (is_name m n) refl
     where
@@ -125,7 +126,8 @@ module _ (rows : List Row) (r : Row) (es : List (Name × Sending)) (was : TellSe
       by false e =
           ap (λ o. unwrap_or o (sending_of [] m)) (put_find ∙ ap (λ t. cond t (Some v) (find name_cmp m es)) e)
           ∙ was m
-          ∙ sym (told ∙ (λ i. after ((ap (λ t. a && t) e ∙ neither a) i) ((ap (λ t. b && t) e ∙ neither b) i) r.key.time (sending_of rows m)))
+          ∙ sym (told ∙ (λ i. after ((ap (λ t. a && t) e ∙ neither a) i) ((ap (λ t. b && t) e
+              ∙ neither b) i) r.key.time (sending_of rows m)))
 
 -- a request was sent
 pub sent_request : (rows : List Row) (r : Row) (es : List (Name × Sending)) → TellSent rows es → (n : Name) → r.cause ≡ Ask → r.told ≡ Sent
@@ -136,7 +138,8 @@ sent_request rows r es was n cause sent about =
     (λ m i. is_answer (cause i) && (is_sent (sent i) && is_about m (about i))) refl
 
 -- a repair was sent
-pub sent_repair : (rows : List Row) (r : Row) (es : List (Name × Sending)) → TellSent rows es → (n : Name) → r.cause ≡ Answer → r.told ≡ Sent
+pub sent_repair : (rows : List Row) (r : Row) (es : List (Name × Sending)) → TellSent rows es → (n : Name) → r.cause ≡ Answer
+    → r.told ≡ Sent
     → r.about ≡ Named n → TellSent (rows ++ r ∷ []) (put name_cmp n (repaired (sending_in es n)) es)
 sent_repair rows r es was n cause sent about =
     sent_one rows r es was n (repaired (sending_in es n)) false true

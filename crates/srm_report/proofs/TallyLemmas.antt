@@ -76,7 +76,8 @@ names_grown : (ns : List Name) (n : Name) (v : Tally) (ts : List (Name × Tally)
     → map (λ e. e.0) ts ≡ ordered name_cmp (each_once ns)
     → map (λ e. e.0) (put name_cmp n v ts) ≡ ordered name_cmp (each_once (ns ++ n ∷ []))
 names_grown ns n v ts sorted was =
-    by (find name_cmp n ts) refl ∙ ap (ordered name_cmp) (sym (fold_push (λ known k. cond (list_any (is_name k) known) known (known ++ k ∷ [])) [] ns n))
+    by (find name_cmp n ts) refl
+        ∙ ap (ordered name_cmp) (sym (fold_push (λ known k. cond (list_any (is_name k) known) known (known ++ k ∷ [])) [] ns n))
   where
     known : List Name
     known = each_once ns
@@ -115,7 +116,8 @@ module _ (rows : List Row) (left : List Bool) (gone : TellLeft rows left) where
       among : (n : Name) (b : Bool) → is_name n k.name ≡ b → named n (ks ++ k ∷ []) ≡ named n ks ++ cond b (k ∷ []) []
       among n b h = filter-append (λ (q : Loss). is_name n q.name) ks (k ∷ []) ∙ ap (λ b. named n ks ++ cond b (k ∷ []) []) h
 
-      counts : (n : Name) (b : Bool) → is_name n k.name ≡ b → tally_in (put name_cmp k.name after all) n ≡ tally_of rows (named n (ks ++ k ∷ []))
+      counts : (n : Name) (b : Bool) → is_name n k.name ≡ b
+          → tally_in (put name_cmp k.name after all) n ≡ tally_of rows (named n (ks ++ k ∷ []))
       counts n true h =
           let same : n ≡ k.name = same_names n k.name h in
           there n true h ∙ is
@@ -128,7 +130,8 @@ module _ (rows : List Row) (left : List Bool) (gone : TellLeft rows left) where
 module _ (rows : List Row) (left : List Bool) (gone : TellLeft rows left) (es : List (Loss × Course)) (tell : TellLosses rows es) where
   pub one_tally_more : (i : ℕ) (d : Loss × Course) (all new : List (Name × Tally)) (after : Tally) → i < length es
       → new ≡ put name_cmp (get_or es i d).0.name after all
-      → after ≡ tallied (tally_in all (get_or es i d).0.name) (get_or es i d).0 (get_or es i d).1 (get_or left (get_or es i d).0.member false)
+      → after ≡ tallied (tally_in all (get_or es i d).0.name) (get_or es i d).0 (get_or es i d).1 (get_or left
+          (get_or es i d).0.member false)
       → AreTallies rows (keys (take i es)) all → AreTallies rows (keys (take (i + 1) es)) new
   one_tally_more i d all new after lt grown is was =
       let e = get_or es i d in
@@ -153,7 +156,8 @@ module _ (rows : List Row) (members : ℕ) (n : Name) where
   AllAmong [] = Unit {0}
   AllAmong (k ∷ ks) = ((k.member < members) × (k.name.source < members)) × AllAmong ks
 
-  later_within : (last next : Option Recovery) → options.IfSome last Within → options.IfSome next Within → options.IfSome (later last next) Within
+  later_within : (last next : Option Recovery) → options.IfSome last Within → options.IfSome next Within
+      → options.IfSome (later last next) Within
   later_within last None h k = h
   later_within None (Some next) h k = k
   later_within (Some last) (Some next) h k = by (nat_lt last.recovered next.recovered)
@@ -201,7 +205,8 @@ module _ (rows : List Row) (members : ℕ) (n : Name) where
 
 -- ---- the table
 
-pub table_is : (net : Network) (rows : List Row) (ts : List (Name × Tally)) (sent : List (Name × Sending)) → AreTallies rows (all_losses rows) ts
+pub table_is : (net : Network) (rows : List Row) (ts : List (Name × Tally)) (sent : List (Name × Sending))
+    → AreTallies rows (all_losses rows) ts
     → TellSent rows sent
     → table_lines operation_columns (map (λ n. operation_fields net n (tally_in ts n) (sending_in sent n)) (map (λ e. e.0) ts))
     ≡ operations_table net rows

@@ -1,12 +1,16 @@
 -- The turns of all members' lines, in order, are those of the rows.
-use Rattle.std.proofs.Common.{◌≡◌, ◌∙◌, ℕ, zero, suc, ◌+◌, ◌*◌, ◌^◌, ◌<◌, ◌≤◌, Bool, true, false, cond, List, [], ◌∷◌, ◌++◌, map, length, refl, ◌⊎◌, inl, inr}
-use Rattle.std.proofs.Common.{◌==◌, ◌%◌, eqb-true, eq-eqb, take, get_or, slice_set, append-nil, append_assoc, length-append, ap, sym, subst, All, IsSorted, IsPermutation, Ordering, Less, Equal, Greater, is_lt, true≢false, lt-ltb, arith}
+use Rattle.std.proofs.Common.{◌≡◌, ◌∙◌, ℕ, zero, suc, ◌+◌, ◌*◌, ◌^◌, ◌<◌, ◌≤◌, Bool, true, false, cond, List, [], ◌∷◌, ◌++◌, map}
+use Rattle.std.proofs.Common.{length, refl, ◌⊎◌, inl, inr}
+use Rattle.std.proofs.Common.{◌==◌, ◌%◌, eqb-true, eq-eqb, take, get_or, slice_set, append-nil, append_assoc, length-append, ap}
+use Rattle.std.proofs.Common.{sym, subst, All, IsSorted, IsPermutation, Ordering, Less, Equal, Greater, is_lt, true≢false, lt-ltb}
+use Rattle.std.proofs.Common.{arith}
 use Rattle.std.specs.Ordering.{is_eq, ordering_reverse, ordering_then, nat_cmp}
 use Rattle.std.specs.Cmp.{IsTotalOrder, nat_cmp_total}
 use Rattle.std.specs.List.{Contains}
 use Rattle.std.proofs.lemmas.List.{map-append, length-map}
 use Rattle.std.proofs.lemmas.Grind.{flat_map-append, get_or-set_at}
-use Rattle.std.proofs.lemmas.List.Sorted.{sum_by-IsPermutation, IsPermutation-refl, IsPermutation-sym, IsPermutation-trans, IsPermutation-cons}
+use Rattle.std.proofs.lemmas.List.Sorted.{sum_by-IsPermutation, IsPermutation-refl, IsPermutation-sym, IsPermutation-trans}
+use Rattle.std.proofs.lemmas.List.Sorted.{IsPermutation-cons}
 use Rattle.std.proofs.lemmas.List.Sorted.{IsPermutation-middle, IsPermutation-map}
 use Rattle.std.proofs.lemmas.List.Elements.{All-head, All-tail, All-contains, Contains-append_right, filter-append}
 use Rattle.std.proofs.lemmas.List.{get_or-set_other}
@@ -85,7 +89,8 @@ not_less : (x y : ℕ) → y ≤ x → is_lt (nat_cmp x y) ≡ false
 not_less x y h = grind arith
 
 -- rows in order of their keys have turns in order
-turn_rises : (n : ℕ) → n ≤ 2 ^ 16 → (q r : Row) → HasTurn n q → HasTurn n r → is_lt (row_cmp r q) ≡ false → is_lt (nat_cmp (turn_of r) (turn_of q)) ≡ false
+turn_rises : (n : ℕ) → n ≤ 2 ^ 16 → (q r : Row) → HasTurn n q → HasTurn n r → is_lt (row_cmp r q) ≡ false
+    → is_lt (nat_cmp (turn_of r) (turn_of q)) ≡ false
 turn_rises n few q r a b h =
     let x = turn_is q.key.member q.key.time a.time in
     let y = turn_is r.key.member r.key.time b.time in
@@ -147,7 +152,8 @@ sorted_turns f rows lists turns sorted are rise is perm in_order =
     let alike = listed_alike n rows (members_in n rows are.turns) in
     let moved : IsPermutation (map turn_of rows) sorted =
     IsPermutation-trans _ _ _
-    (IsPermutation-sym _ _ (IsPermutation-map turn_of (joined (by_member 0 n rows)) rows (alike_permutes (joined (by_member 0 n rows)) rows alike)))
+    (IsPermutation-sym _ _ (IsPermutation-map turn_of (joined (by_member 0 n rows)) rows (alike_permutes (joined
+        (by_member 0 n rows)) rows alike)))
     (subst (λ l. IsPermutation l sorted) listed perm) in
     one_sorted nat_cmp nat_cmp_total number_ties sorted (map turn_of rows) in_order
     (turns_rise n are.few rows are.turns (rows_rise rows rise)) moved
@@ -263,8 +269,10 @@ turns_push m (l ∷ ls) (suc i) own lt e =
     let one : suc i + 1 ≡ suc (i + 1) = omega arith in
     ap (λ n. turns_from m (take n (l ∷ ls))) one
     ∙ ap (λ x. map (λ (y : ℕ × List ℕ). turn_at m y.0) l ++ x) (turns_push (suc m) ls i own (omega arith) e)
-    ∙ sym (append_assoc (map (λ (y : ℕ × List ℕ). turn_at m y.0) l) (turns_from (suc m) (take i ls)) (map (λ (x : ℕ × List ℕ). turn_at (suc m + i) x.0) own))
-    ∙ ap (λ n. (map (λ (y : ℕ × List ℕ). turn_at m y.0) l ++ turns_from (suc m) (take i ls)) ++ map (λ (x : ℕ × List ℕ). turn_at n x.0) own) same
+    ∙ sym (append_assoc (map (λ (y : ℕ × List ℕ). turn_at m y.0) l) (turns_from (suc m) (take i ls)) (map (λ
+        (x : ℕ × List ℕ). turn_at (suc m + i) x.0) own))
+    ∙ ap (λ n. (map (λ (y : ℕ × List ℕ). turn_at m y.0) l ++ turns_from (suc m) (take i ls))
+        ++ map (λ (x : ℕ × List ℕ). turn_at n x.0) own) same
 
 pub any_default : {A : Type 0} (xs : List A) (i : ℕ) (d e : A) → i < length xs → get_or xs i d ≡ get_or xs i e
 any_default [] i d e lt = absurd (omega arith)
@@ -278,7 +286,8 @@ pub put_counts : (f : Form) (rows : List Row) (lists : List (List (ℕ × List �
     → (j : ℕ) → j < length lists → get_or (slice_set next m (x + 1)) j 0 ≡ length (rows_of_member j (take (i + 1) rows))
 put_counts f rows lists i m n next x within is so_far j lt =
     elim (m == j) as (λ b. (m == j) ≡ b → cond b (length (rows_of_member j (take i rows)) + 1) (length (rows_of_member j (take i rows)))
-    ≡ length (rows_of_member j (take (i + 1) rows)) → get_or (slice_set next m (x + 1)) j 0 ≡ length (rows_of_member j (take (i + 1) rows))) [
+    ≡ length (rows_of_member j (take (i + 1) rows))
+        → get_or (slice_set next m (x + 1)) j 0 ≡ length (rows_of_member j (take (i + 1) rows))) [
       | true ↦ λ e h.
           let same : j ≡ m = sym (eqb-true m j e) in
           get_or-set_at next m j (x + 1) 0 same within

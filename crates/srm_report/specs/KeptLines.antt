@@ -1,5 +1,6 @@
 -- Lines of rows, kept member by member.
-use Rattle.std.specs.Prelude.{ℕ, zero, suc, ◌+◌, ◌*◌, ◌^◌, ◌<◌, List, [], ◌∷◌, ◌++◌, ◌≡◌, ◌≤◌, ◌-◌, take, drop, map, length, All, nat_lt, cond}
+use Rattle.std.specs.Prelude.{ℕ, zero, suc, ◌+◌, ◌*◌, ◌^◌, ◌<◌, List, [], ◌∷◌, ◌++◌, ◌≡◌, ◌≤◌, ◌-◌, take, drop}
+use Rattle.std.specs.Prelude.{map, length, All, nat_lt, cond}
 use Rattle.srm_member.specs.declared.row.Row.{Row}
 use Rattle.srm_model.specs.Laws.{by_member}
 use Rattle.srm_report.specs.Listings.{Form}

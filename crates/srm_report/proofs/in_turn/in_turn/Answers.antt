@@ -2,7 +2,10 @@ use Rattle.std.proofs.Common.{◌≡◌, ◌∙◌, ◌<◌, ◌+◌, ◌%◌, �
 use Rattle.std.proofs.lemmas.List.{length-set}
 use Rattle.srm_member.specs.ByMember.{rows_of_member}
 use Rattle.srm_report.proofs.TurnLemmas.{next_turn, put_counts, any_default}
-use Rattle.srm_report.proofs.in_turn.in_turn.Goals.{then-member-lists+then-member-len+then-index-len+in_ok-extend_from_slice, then-member-lists+then-member-len+else-index-len, else-member-lists, else-member-lists-via-then-member-lists+else-member-len, else-member-lists-via-else-member-lists}
+use Rattle.srm_report.proofs.in_turn.in_turn.Goals.{then-member-lists+then-member-len+then-index-len+in_ok-extend_from_slice}
+use Rattle.srm_report.proofs.in_turn.in_turn.Goals.{then-member-lists+then-member-len+else-index-len, else-member-lists}
+use Rattle.srm_report.proofs.in_turn.in_turn.Goals.{else-member-lists-via-then-member-lists+else-member-len}
+use Rattle.srm_report.proofs.in_turn.in_turn.Goals.{else-member-lists-via-else-member-lists}
 use Rattle.srm_report.proofs.in_turn.in_turn.Goals as goal
 
 pub loop-turn-preserved : goal.loop-turn-preserved

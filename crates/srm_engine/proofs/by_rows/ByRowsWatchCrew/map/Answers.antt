@@ -11,7 +11,8 @@ use Rattle.srm_engine.specs.ByRows.{LeftEach}
 use Rattle.srm_engine.proofs.Leaving.{left_of_jobs, may_leave, some_jobs}
 use Rattle.srm_engine.proofs.by_rows.ByRowsWatchCrew.map.Goals as goal
 
-places_in : {M K : Type 0} (js : List (WatchedJob M K)) → map (λ (j : Job M). j.place) (jobs_in js) ≡ map (λ (j : WatchedJob M K). j.place) js
+places_in : {M K : Type 0} (js : List (WatchedJob M K))
+    → map (λ (j : Job M). j.place) (jobs_in js) ≡ map (λ (j : WatchedJob M K). j.place) js
 places_in [] = refl
 places_in (j ∷ js) = ap (λ l. j.place ∷ l) (places_in js)
 
