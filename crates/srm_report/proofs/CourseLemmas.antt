@@ -188,7 +188,7 @@ module _ (rows : List Row) (r : Row) (front : List Name) (n : Name) (es : List (
   not_among : list_any (eq_by_cmp loss_cmp k) (losses_in (rows ++ q0 ∷ [])) ≡ false
   not_among =
       sym (any_ordered loss_cmp loss_total (eq_by_cmp loss_cmp k) (losses_in (rows ++ q0 ∷ [])))
-          ∙ ap (list_any (eq_by_cmp loss_cmp k)) (sym was.losses)
+      ∙ ap (list_any (eq_by_cmp loss_cmp k)) (sym was.losses)
       ∙ sym (is_some-find loss_cmp k es) ∙ ap is_some none
 
   lost_now : course_of (rows ++ q1 ∷ []) k ≡ Some (record { detected = r.key.time; recovered = None })

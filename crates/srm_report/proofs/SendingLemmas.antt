@@ -127,7 +127,7 @@ module _ (rows : List Row) (r : Row) (es : List (Name × Sending)) (was : TellSe
           ap (λ o. unwrap_or o (sending_of [] m)) (put_find ∙ ap (λ t. cond t (Some v) (find name_cmp m es)) e)
           ∙ was m
           ∙ sym (told ∙ (λ i. after ((ap (λ t. a && t) e ∙ neither a) i) ((ap (λ t. b && t) e
-              ∙ neither b) i) r.key.time (sending_of rows m)))
+          ∙ neither b) i) r.key.time (sending_of rows m)))
 
 -- a request was sent
 pub sent_request : (rows : List Row) (r : Row) (es : List (Name × Sending)) → TellSent rows es → (n : Name) → r.cause ≡ Ask → r.told ≡ Sent

@@ -77,7 +77,7 @@ names_grown : (ns : List Name) (n : Name) (v : Tally) (ts : List (Name × Tally)
     → map (λ e. e.0) (put name_cmp n v ts) ≡ ordered name_cmp (each_once (ns ++ n ∷ []))
 names_grown ns n v ts sorted was =
     by (find name_cmp n ts) refl
-        ∙ ap (ordered name_cmp) (sym (fold_push (λ known k. cond (list_any (is_name k) known) known (known ++ k ∷ [])) [] ns n))
+    ∙ ap (ordered name_cmp) (sym (fold_push (λ known k. cond (list_any (is_name k) known) known (known ++ k ∷ [])) [] ns n))
   where
     known : List Name
     known = each_once ns
@@ -131,7 +131,7 @@ module _ (rows : List Row) (left : List Bool) (gone : TellLeft rows left) (es : 
   pub one_tally_more : (i : ℕ) (d : Loss × Course) (all new : List (Name × Tally)) (after : Tally) → i < length es
       → new ≡ put name_cmp (get_or es i d).0.name after all
       → after ≡ tallied (tally_in all (get_or es i d).0.name) (get_or es i d).0 (get_or es i d).1 (get_or left
-          (get_or es i d).0.member false)
+      (get_or es i d).0.member false)
       → AreTallies rows (keys (take i es)) all → AreTallies rows (keys (take (i + 1) es)) new
   one_tally_more i d all new after lt grown is was =
       let e = get_or es i d in

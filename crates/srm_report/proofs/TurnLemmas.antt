@@ -153,7 +153,7 @@ sorted_turns f rows lists turns sorted are rise is perm in_order =
     let moved : IsPermutation (map turn_of rows) sorted =
     IsPermutation-trans _ _ _
     (IsPermutation-sym _ _ (IsPermutation-map turn_of (joined (by_member 0 n rows)) rows (alike_permutes (joined
-        (by_member 0 n rows)) rows alike)))
+    (by_member 0 n rows)) rows alike)))
     (subst (λ l. IsPermutation l sorted) listed perm) in
     one_sorted nat_cmp nat_cmp_total number_ties sorted (map turn_of rows) in_order
     (turns_rise n are.few rows are.turns (rows_rise rows rise)) moved
@@ -270,9 +270,9 @@ turns_push m (l ∷ ls) (suc i) own lt e =
     ap (λ n. turns_from m (take n (l ∷ ls))) one
     ∙ ap (λ x. map (λ (y : ℕ × List ℕ). turn_at m y.0) l ++ x) (turns_push (suc m) ls i own (omega arith) e)
     ∙ sym (append_assoc (map (λ (y : ℕ × List ℕ). turn_at m y.0) l) (turns_from (suc m) (take i ls)) (map (λ
-        (x : ℕ × List ℕ). turn_at (suc m + i) x.0) own))
+    (x : ℕ × List ℕ). turn_at (suc m + i) x.0) own))
     ∙ ap (λ n. (map (λ (y : ℕ × List ℕ). turn_at m y.0) l ++ turns_from (suc m) (take i ls))
-        ++ map (λ (x : ℕ × List ℕ). turn_at n x.0) own) same
+    ++ map (λ (x : ℕ × List ℕ). turn_at n x.0) own) same
 
 pub any_default : {A : Type 0} (xs : List A) (i : ℕ) (d e : A) → i < length xs → get_or xs i d ≡ get_or xs i e
 any_default [] i d e lt = absurd (omega arith)
@@ -287,7 +287,7 @@ pub put_counts : (f : Form) (rows : List Row) (lists : List (List (ℕ × List �
 put_counts f rows lists i m n next x within is so_far j lt =
     elim (m == j) as (λ b. (m == j) ≡ b → cond b (length (rows_of_member j (take i rows)) + 1) (length (rows_of_member j (take i rows)))
     ≡ length (rows_of_member j (take (i + 1) rows))
-        → get_or (slice_set next m (x + 1)) j 0 ≡ length (rows_of_member j (take (i + 1) rows))) [
+    → get_or (slice_set next m (x + 1)) j 0 ≡ length (rows_of_member j (take (i + 1) rows))) [
       | true ↦ λ e h.
           let same : j ≡ m = sym (eqb-true m j e) in
           get_or-set_at next m j (x + 1) 0 same within

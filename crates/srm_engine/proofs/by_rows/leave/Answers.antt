@@ -17,7 +17,7 @@ loop-own-init g c =
       tt,
       rw (first, second, c.new-left.ensures.items)
           (left_none keeps c.args.scenario.now c.args.net.now (map (λ
-              (v : Vec _). v.items) c.args.kept.items) c.args.all.items c.requires.may),
+          (v : Vec _). v.items) c.args.kept.items) c.args.all.items c.requires.may),
     )
 
 pub of-requires-clause-many : goal.of-requires-clause-many

@@ -18,7 +18,7 @@ of-requires-clause-sent c =
     (subst (IsSentBelow (length c.args.scenario.now.members)) c.in-Some.is
     (subst (λ (r : Row). IsSentBelow (length c.args.scenario.now.members) r.sent) (sym c.row-item.is)
     (All-get_or (λ (r : Row). IsSentBelow
-        (length c.args.scenario.now.members) r.sent) c.args.rows.now c.loop-row.row-index c.row-item.result
+    (length c.args.scenario.now.members) r.sent) c.args.rows.now c.loop-row.row-index c.row-item.result
     c.loop-row-test.true c.requires.sent))).1
 
 pub of-requires-clause-sender : goal.of-requires-clause-sender
@@ -26,7 +26,7 @@ of-requires-clause-sender c =
     (subst (IsSentBelow (length c.args.scenario.now.members)) c.in-Some.is
     (subst (λ (r : Row). IsSentBelow (length c.args.scenario.now.members) r.sent) (sym c.row-item.is)
     (All-get_or (λ (r : Row). IsSentBelow
-        (length c.args.scenario.now.members) r.sent) c.args.rows.now c.loop-row.row-index c.row-item.result
+    (length c.args.scenario.now.members) r.sent) c.args.rows.now c.loop-row.row-index c.row-item.result
     c.loop-row-test.true c.requires.sent))).0
 
 pub loop-row-preserved : goal.loop-row-preserved

@@ -27,7 +27,7 @@ loop-own-preserved g c =
     let own : get_or old i d ≡ get_or kept i d = cc in
     let rest : drop (i + 1) kept ≡ drop (i + 1) old = cc in
     let seen : c.as_slice.result.now ≡ rows = c.as_slice.ensures ∙ c.index-lists-index.is
-        ∙ ap (λ n. get_or lists n c.index-lists-index.result) at in
+    ∙ ap (λ n. get_or lists n c.index-lists-index.result) at in
     let more : (whole : List Row) → keeps (get_or old i d) whole → keeps after (whole ++ rows) =
     λ whole k. subst (λ rs. keeps after (whole ++ rs)) seen (c.in_ok-add.ensures whole (subst (λ x. keeps x whole) own k)) in (
       ap (λ n. n + 1) at,

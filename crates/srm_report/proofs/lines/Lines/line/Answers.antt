@@ -20,7 +20,7 @@ slice_bounds-result-count c =
     let lt : c.args.index < length ends = omega arith in
     let b = line_bounds 0 (length text) ends c.args.index c.index.result.now c.self.invariant lt in
     let start : c.start_of-start.result ≡ start_at 0 c.args.index ends = c.start_of-start.ensures
-        ∙ ap (start_at 0 c.args.index) c.as_slice.ensures.value in
+    ∙ ap (start_at 0 c.args.index) c.as_slice.ensures.value in
     let end : c.index.result.now.end ≡ (get_or ends c.args.index c.index.result.now).end = ap (λ x. x.end) c.index.ensures in
     let low = b.0 in
     omega arith
@@ -52,8 +52,8 @@ returns c d =
     let asked = c.requires in
     let lt : c.args.index < length ends = omega arith in
     let start : c.start_of-start.result ≡ start_at 0 c.args.index ends = c.start_of-start.ensures
-        ∙ ap (start_at 0 c.args.index) c.as_slice.ensures.value in
+    ∙ ap (start_at 0 c.args.index) c.as_slice.ensures.value in
     let end : c.index.result.now.end ≡ (get_or ends c.args.index c.index.result.now).end = ap (λ x. x.end) c.index.ensures in
     (λ i. take (end i - start i) (drop (start i) (c.deref.ensures.value i)))
     ∙ sym (ap (λ x. x.1) (ap (λ l. get_or l c.args.index d) (sym c.self.view_is)
-        ∙ line_at 0 text ends c.args.index d c.index.result.now lt))
+    ∙ line_at 0 text ends c.args.index d c.index.result.now lt))

@@ -16,4 +16,4 @@ returns c d =
     let lt : c.args.index < length ends = omega arith in
     ap (λ x. x.time) c.index.ensures
     ∙ sym (ap (λ x. x.0) (ap (λ l. get_or l c.args.index d) (sym c.self.view_is)
-        ∙ line_at 0 text ends c.args.index d c.index.result.now lt))
+    ∙ line_at 0 text ends c.args.index d c.index.result.now lt))
