@@ -14,7 +14,9 @@ if TYPE_CHECKING:
 
 NAMES = "names of nodes: "
 ROUTES = "routes of links: "
-IN_LINE = 20  # numbers of an array of a network by parents
+# arrays of a network by parents, and how many of their numbers stand in a line
+ARRAYS = ("parent", "delays", "backs")
+IN_LINE = 20
 
 
 def table_of(given: "Scenario") -> dict[str, Any]:
@@ -67,21 +69,16 @@ def text_of(given: "Scenario") -> str:
 
 
 def _toml(table: dict[str, Any]) -> str:
-    """A table as TOML: each plain key is a line, and so is each element of a part; arrays of numbers have several."""
-    lists = {key: value for key, value in table.items() if isinstance(value, list)}
-    plain = {key: value for key, value in table.items() if key not in lists}
-    return "".join([*(f"{one}\n" for one in _pairs(plain)),
-                    *(f"{key} = [{_lines(several) if key in PARTS else _numbers(several)}]\n" for key, several in lists.items())])
+    """A table as TOML; long arrays of numbers stand between the other keys of the top table and the elements."""
+    import tomli_w  # here, so that scenarios can be read, and traces followed, with no package at all
 
-
-def _pairs(table: dict[str, Any]) -> list[str]:
-    """Keys and values, which are numbers, words, or short lists of numbers."""
-    return [f'{key} = "{value}"' if isinstance(value, str) else f"{key} = {value}" for key, value in table.items()]
-
-
-def _lines(elements: list[dict[str, Any]]) -> str:
-    """The elements of a part, each in its line."""
-    return "\n" + "".join(f"    {{ {', '.join(_pairs(one))} }},\n" for one in elements)
+    arrays = {name: table[name] for name in ARRAYS if name in table}
+    if not arrays:
+        return str(tomli_w.dumps(table))
+    top = {key: value for key, value in table.items() if not isinstance(value, list)}
+    parts = {key: value for key, value in table.items() if key not in top and key not in arrays}
+    rows = (f"{name} = [{_numbers(numbers)}]\n" for name, numbers in arrays.items())
+    return f"{tomli_w.dumps(top)}{''.join(rows)}{tomli_w.dumps(parts)}"
 
 
 def _numbers(numbers: list[int]) -> str:
