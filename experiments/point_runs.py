@@ -1,10 +1,8 @@
 """Runs of one point of a sweep: the program is run once for each table of a scenario and its seeds.
 
-usage: point_runs.py EXPERIMENT POINT PROGRAM FOLDER PART
-
-EXPERIMENT is the experiment's configuration as JSON, POINT the name of one of its points, and PART the number of the runs'
-part, of which FOLDER then has the tables: `part-N.losses.csv`, `part-N.operations.csv` and perhaps `part-N.metrics.csv`.
-What is there and still holds is not made again. A refusal is told on standard error, with status 1.
+A job is the experiment's configuration as JSON, the name of one of its points, the program, a folder, and the number of
+the runs' part, of which the folder then has the tables: `part-N.losses.csv`, `part-N.operations.csv` and perhaps
+`part-N.metrics.csv`. What is there and still holds is not made again. A refusal is told on standard error, with status 1.
 """
 import hashlib
 import json
@@ -72,6 +70,7 @@ def lines_of_metrics(experiment: Experiment, given: dict[int, Scenario], program
 
 
 def main(config: str, point: str, program: str, folder: str, part: str) -> int:
+    """Does a job, and gives its status."""
     Path(folder).mkdir(parents=True, exist_ok=True)
     experiment = Experiment(point, json.loads(config))
     try:
@@ -80,7 +79,3 @@ def main(config: str, point: str, program: str, folder: str, part: str) -> int:
         sys.stderr.write(f"seeds {', '.join(map(str, experiment.parts[int(part)]))}: {fault}\n")
         return 1
     return 0
-
-
-if __name__ == "__main__":
-    sys.exit(main(*sys.argv[1:]))

@@ -47,10 +47,9 @@ def sweep(tmp_path):
 
     def run(refuse, **change):
         config.write_text(json.dumps({**CONFIG, "program": str(program), "results": str(tmp_path / "results"), **change}))
-        return subprocess.run(
-            ["snakemake", "--snakefile", HERE / "Snakefile", "--configfile", config, "--cores", "2", "--keep-going",
-             "--nolock", "--rerun-incomplete", "--show-failed-logs"],
-            cwd=HERE, env={**os.environ, "REFUSE": refuse}, capture_output=True, text=True, check=False)
+        return subprocess.run(["make", "-s", f"--directory={HERE.parent}", "experiments", f"CONFIG={config}",
+                               f"SRM_LAB={program}", "JOBS=2"], env={**os.environ, "REFUSE": refuse},
+                              capture_output=True, text=True, check=False)
 
     return run
 

@@ -1,10 +1,8 @@
 """The experiments and figures of a configuration: what they ask for, and whether that can be done."""
-import argparse
 from collections.abc import Collection, Iterable, Mapping
 from itertools import product
 from typing import Any, NamedTuple
 
-from .cli import build, parser
 from .errors import ScenarioError, perhaps
 from .limits import MOST_SEED, within
 from .metrics import function_of
@@ -89,6 +87,8 @@ class Experiment:
 
     def check(self) -> None:
         """Refuses a key that is no option of the generators, and a point that is no scenario."""
+        from .cli import build, options_of, parser  # a table is put together without these
+
         for kind in sorted({str(point["kind"]) for point in self.points.values()}):
             known = options_of(kind)
             for key in self.config:
@@ -126,14 +126,6 @@ def option(key: str, value: Any) -> list[str]:
     if key in LISTED:
         return [word for one in str(value).split() for word in (name, one)]
     return [name, str(value)]
-
-
-def options_of(kind: str) -> set[str]:
-    """The keys that are options of the generator of a kind of network."""
-    kinds = next(action for action in parser()._actions if isinstance(action, argparse._SubParsersAction))
-    if kind not in kinds.choices:
-        raise ScenarioError(f"there is no kind {kind!r}: there are {', '.join(kinds.choices)}")
-    return {action.dest for action in kinds.choices[kind]._actions} - {"help", "seed", "path"}
 
 
 def safe(value: Any) -> str:

@@ -1,12 +1,6 @@
-"""One table for an experiment: a row for each lost operation of each run.
-
-usage: python3 -m srm_lab.gather EXPERIMENT RUNS TABLE
-
-EXPERIMENT is the experiment's configuration as JSON, RUNS the folder of its runs, and TABLE the file that is written.
-"""
+"""One table for an experiment: a row for each lost operation of each run."""
 import csv
 import json
-import sys
 from collections.abc import Callable, Iterator
 from pathlib import Path
 from typing import TextIO
@@ -71,11 +65,7 @@ def operation(row: Row, delays: dict[tuple[str, ...], list[float]]) -> dict[str,
 
 
 def main(config: str, runs: str, table: str) -> None:
-    """Writes the table of the command line."""
+    """Writes a table to a file: of an experiment's configuration as JSON, and the folder of its runs."""
     with open(table, "w", newline="", encoding="utf-8") as out:
         write_table(Experiment("", json.loads(config)), lambda label, part, name: Path(runs, label, f"part-{part}.{name}.csv"),
                     out)
-
-
-if __name__ == "__main__":
-    main(*sys.argv[1:])

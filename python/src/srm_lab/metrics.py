@@ -2,10 +2,12 @@
 import importlib.util
 from collections.abc import Callable, Mapping
 from pathlib import Path
-from typing import Any
+from typing import TYPE_CHECKING, Any
 
 from .errors import ScenarioError
-from .scenario import Scenario
+
+if TYPE_CHECKING:
+    from .scenario import Scenario
 
 TABLES = ("losses", "operations", "members", "links", "timers")
 
@@ -26,7 +28,7 @@ def function_of(text: str) -> Callable[..., Any]:
     return getattr(module, name)
 
 
-def metrics_of(given: Scenario, seed: int, program: str, metrics: Mapping[str, str]) -> list[Any]:
+def metrics_of(given: "Scenario", seed: int, program: str, metrics: Mapping[str, str]) -> list[Any]:
     """Of a run the number that each FILE.py:FUNCTION gives for its tables."""
     from .runs import run  # where there are no metrics, pandas is not loaded
 

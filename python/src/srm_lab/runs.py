@@ -212,13 +212,14 @@ def run(given: Scenario, seeds: int | Iterable[int] = 1, tables: str | Iterable[
         progress: bool | None = None, options: Iterable[str] = ()) -> Runs:
     """Runs a scenario with each seed, and gives the tables of all runs; `seeds=5` are 0 to 4.
 
-    Of each table the program makes all runs of neighbouring seeds in one process, on `workers` processors (by default on
-    all); `timers` alone are put together from the trace of each run. A bar shows the progress where standard error is a
-    terminal, or where `progress` says so. A table is kept in the folder `cache` (by default the user's, srm_lab in
-    XDG_CACHE_HOME), and read from there where scenario, seeds and program are the same; with None nothing is kept. The
-    program is `program`, or SRM_LAB of the environment, or the one of the package's wheel, or srm_lab on the path;
-    `options` are more words of its command line that leave the tables as they are, such as `--engine` and `window`: with
-    them each seed is a process. What a table is of stands in its `attrs`.
+    Of each table the program makes all runs of neighbouring seeds in one process, on `workers` processors (by default
+    on all); `timers` alone are put together from the trace of each run. A bar counts the runs where standard error is a
+    terminal, or where `progress` says so; it moves as scenarios end, and not from seed to seed of one. A table is kept
+    in the folder `cache` (by default the user's, srm_lab in XDG_CACHE_HOME), and read from there where scenario, seeds
+    and program are the same; with None nothing is kept. The program is `program`, or SRM_LAB of the environment, or the
+    one of the package's wheel, or srm_lab on the path; `options` are more words of its command line that leave the
+    tables as they are, such as `--engine` and `window`: with them each seed is a process. What a table is of stands in
+    its `attrs`.
 
     Raises RefusedError with the program's line where it refuses a run, and ScenarioError or TypeError with a sentence
     where something else was asked for.

@@ -104,7 +104,7 @@ class Scenario:
         given = any(getattr(self, name) is not None for name in LIMITS) or self.backoff != 2
         return given or max(self.c1, self.c2, self.d1, self.d2) > VERSIONS[2].constant
 
-    @property
+    @cached_property
     def least_version(self) -> int:
         """The first version of the format that has room for this scenario."""
         for version, limits in VERSIONS.items():

@@ -5,7 +5,6 @@ import subprocess
 import tempfile
 from collections.abc import Iterable, Iterator, Sequence
 from contextlib import contextmanager
-from importlib.metadata import PackageNotFoundError, distribution
 from pathlib import Path
 from typing import IO
 
@@ -26,6 +25,8 @@ def find_program(program: str | Path | None = None) -> Path:
 
 def _of_the_wheel() -> Path | None:
     """The program that was installed with this package, and not with another of its name."""
+    from importlib.metadata import PackageNotFoundError, distribution  # takes as long to load as most else
+
     try:
         installed = distribution("srm_lab")
     except PackageNotFoundError:
