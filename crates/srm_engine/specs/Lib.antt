@@ -17,3 +17,5 @@ pub mod Streams
 pub mod RowRuns
 pub mod WindowStreams
 pub mod WindowEngines
+pub mod KeptMembers
+pub mod ByRows

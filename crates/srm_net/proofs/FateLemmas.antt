@@ -1,22 +1,27 @@
 -- What becomes of packets that are not dropped, and which links are on members' ways.
-use Rattle.std.proofs.Common.{◌≡◌, ℕ, ◌+◌, ◌==◌, ◌<◌, ◌≤◌, Bool, true, false, cond, not, ◌&&◌, ◌||◌, List, [], ◌∷◌, length, Some, refl, sym}
+use Rattle.std.proofs.Common.{◌≡◌, ℕ, ◌+◌, ◌==◌, ◌<◌, ◌≤◌, Bool, true, false, cond, not, ◌&&◌, ◌||◌, List, [], ◌∷◌, length, Option, Some}
+use Rattle.std.proofs.Common.{None, refl, sym}
 use Rattle.std.proofs.Common.{ap, ◌∙◌, arith, slice_get, nat_lt, nat_le}
 use Rattle.std.specs.List.{list_any}
 use Rattle.std.proofs.lemmas.Bool.{or_parts, or_from}
 use Rattle.srm_net.specs.declared.link.LinkSpec.{LinkSpec}
 use Rattle.srm_net.specs.declared.link.DropSpec.{DropSpec}
 use Rattle.srm_net.specs.declared.link.OutageSpec.{OutageSpec}
+use Rattle.srm_net.specs.declared.link.LossSpec.{LossSpec}
 use Rattle.srm_net.specs.declared.packet.PacketId.{PacketId}
 use Rattle.srm_net.specs.Network.{Network, IsNetwork}
 use Rattle.srm_net.specs.Paths.{is_in, host, delay_of, end_of, member_route, is_listed, Stop, stop, stops, takes_out}
 use Rattle.srm_net.specs.Paths.{crossed_on, dropped_on, reaches, crosses, drops_at}
 use Rattle.srm_net.specs.DropRules.{DropRules, is_out, some_ends_after, may_drop}
+use Rattle.srm_net.specs.Listed.{is_listed_somewhere}
+use Rattle.srm_net.specs.Losses.{is_before_end, takes, is_lost, some_goes_on_after, loss_word, words_taking}
 use Rattle.srm_net.specs.Tables.{some_beyond}
 use Rattle.srm_net.specs.Fates.{is_on_way}
-use Rattle.srm_net.specs.Laws.{UnlistedReachesAll, UnlistedCrossesItsWays, UnlistedIsNowhereDropped, WithoutOutagesReaches}
-use Rattle.srm_net.specs.Laws.{WithoutOutagesAtAnyTime}
+use Rattle.srm_net.specs.Laws.{UnlistedReachesAll, UnlistedCrossesItsWays, UnlistedIsNowhereDropped}
+use Rattle.srm_net.specs.Laws.{listed_alone, ListedAloneReaches, ListedAloneAtAnyTime}
 use Rattle.srm_net.proofs.Lists.{below_get}
 use Rattle.srm_net.proofs.DropLemmas.{nowhere_listed}
+use Rattle.srm_net.proofs.LossLemmas.{or_none}
 use Rattle.srm_net.proofs.PathLaws.{on_route, some_same, none_below}
 
 -- ---- a packet that is not dropped
@@ -32,10 +37,37 @@ none_out (o ∷ os) sent l t h k =
     let p = or_parts (nat_lt sent o.to) (some_ends_after os sent) h in
     or_from ((o.link == l) && (nat_le o.from t && nat_lt t o.to)) (is_out os l t) (off_later o sent l t p.0 k) (none_out os sent l t p.1 k)
 
+-- a loss that does not go on after a tick is not on at it or later
+ended : (to : Option ℕ) (sent t : ℕ) → is_before_end to sent ≡ false → sent ≤ t → is_before_end to t ≡ false
+ended None sent t h k = h
+ended (Some to) sent t h k = grind arith
+
+idle : (a b c d : Bool) → c ≡ false → (a && ((b && c) && d)) ≡ false
+idle true true c d h = ap (λ c. c && d) h
+idle true false c d h = refl
+idle false b c d h = refl
+
+none_lost : (os : List LossSpec) (seed : ℕ) (p : PacketId) (sent l t : ℕ) → some_goes_on_after os sent ≡ false → sent ≤ t
+    → is_lost os seed p l t ≡ false
+none_lost [] seed p sent l t h k = refl
+none_lost (o ∷ os) seed p sent l t h k =
+    let q = or_parts (is_before_end o.to sent) (some_goes_on_after os sent) h in
+    or_from ((o.link == l) && takes seed p t o) (is_lost os seed p l t)
+    (idle (o.link == l) (nat_le o.from t) (is_before_end o.to t) (nat_lt (loss_word seed o.stream o.link p) (words_taking o.rate))
+    (ended o.to sent t q.0 k))
+    (none_lost os seed p sent l t q.1 k)
+
 -- nothing takes it out at its sending or later
 pub spared : (rules : DropRules) (p : PacketId) (sent : ℕ) → may_drop rules p sent ≡ false → (s : Stop) → sent ≤ s.at → takes_out rules p s
     ≡ false
-spared rules p sent h s k = grind (arith, nowhere_listed, none_out)
+spared rules p sent h s k =
+    let q = or_parts (is_listed_somewhere rules.listed p)
+    (some_ends_after rules.outages sent || some_goes_on_after rules.losses sent) h in
+    let r = or_parts (some_ends_after rules.outages sent) (some_goes_on_after rules.losses sent) q.1 in
+    or_from (is_listed rules.listed p s.link) (is_out rules.outages s.link s.at || is_lost rules.losses rules.seed p s.link s.at)
+    (nowhere_listed rules.listed p s.link q.0)
+    (or_from (is_out rules.outages s.link s.at) (is_lost rules.losses rules.seed p s.link s.at)
+    (none_out rules.outages sent s.link s.at r.0 k) (none_lost rules.losses rules.seed p sent s.link s.at r.1 k))
 
 module _ (f : Stop → Bool) (sent : ℕ) (h : (s : Stop) → sent ≤ s.at → f s ≡ false) (links : List LinkSpec) where
   pub none_stops : (u t : ℕ) (ls : List ℕ) → sent ≤ t → list_any f (stops links u t ls) ≡ false
@@ -68,15 +100,11 @@ pub unlisted_is_nowhere_dropped : UnlistedIsNowhereDropped
 unfolding drops_at
 unlisted_is_nowhere_dropped w rules p sent h l = grind (arith, none_below, dropped_never, spared)
 
--- ---- without outages
+-- ---- without outages and losses
 
-or_none : (b : Bool) → (b || false) ≡ b
-or_none true = refl
-or_none false = refl
-
-module _ (drops : List DropSpec) (p : PacketId) (links : List LinkSpec) where
+module _ (drops : List DropSpec) (seed : ℕ) (p : PacketId) (links : List LinkSpec) where
   abbrev lists_alone : DropRules
-  lists_alone = record { listed = drops; outages = [] }
+  lists_alone = listed_alone drops seed
 
   any_listed : (u t : ℕ) (ls : List ℕ) → list_any (takes_out lists_alone p) (stops links u t ls) ≡ list_any (is_listed drops p) ls
   any_listed u t [] = refl
@@ -97,13 +125,13 @@ module _ (drops : List DropSpec) (p : PacketId) (links : List LinkSpec) where
       let d = delay_of u (slice_get links k) in
       ap (λ b. cond (is_listed drops p k || false) (k == l) b) (dropped_any_time (end_of u (slice_get links k)) (s + d) (t + d) ks l)
 
-pub without_outages_reaches : WithoutOutagesReaches
+pub listed_alone_reaches : ListedAloneReaches
 unfolding reaches
-without_outages_reaches w drops p sent m = ap not (any_listed drops p w.links (host w p.sender) sent (member_route w p.sender m))
+listed_alone_reaches w drops seed p sent m = ap not (any_listed drops seed p w.links (host w p.sender) sent (member_route w p.sender m))
 
-pub without_outages_at_any_time : WithoutOutagesAtAnyTime
+pub listed_alone_at_any_time : ListedAloneAtAnyTime
 unfolding crosses drops_at
-without_outages_at_any_time w drops p sent later l = grind (arith, crossed_any_time, dropped_any_time)
+listed_alone_at_any_time w drops seed p sent later l = grind (arith, crossed_any_time, dropped_any_time)
 
 -- ---- a link on members' ways
 

@@ -18,7 +18,9 @@ pub mod LeastLemmas
 pub mod LawProofs
 pub mod Parents
 pub mod FateLemmas
+pub mod SureLosses
 pub mod OutageLemmas
+pub mod LossLemmas
 pub mod OnePaths
 pub mod SpreadLemmas
 pub mod Rootings

@@ -19,9 +19,14 @@ abbrev pub ordered_once : {A : Type 0} → (A → A → Ordering) → List A →
 ordered_once cmp [] = []
 ordered_once cmp (x ∷ xs) = with_once cmp x (ordered_once cmp xs)
 
--- the entries of a set of drops, in order, and the outages
+-- the entries of a set of drops, in order, the outages, and the losses with their seed
 abbrev pub rules_of : Inside → DropRules
-rules_of s = record { listed = ordered_once drop_cmp s.entries.keys; outages = s.outages }
+rules_of s = record {
+  listed = ordered_once drop_cmp s.entries.keys;
+  outages = s.outages;
+  losses = s.losses;
+  seed = s.seed;
+}
 
 -- whether the packet is in the list
 abbrev pub has_packet : List PacketId → PacketId → Bool

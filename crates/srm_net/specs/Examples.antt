@@ -1,5 +1,5 @@
 -- Small networks, packets and outages.
-use Rattle.std.specs.Prelude.{ℕ, [], ◌∷◌}
+use Rattle.std.specs.Prelude.{ℕ, [], ◌∷◌, Option}
 use Rattle.srm_net.specs.Network.{Network}
 use Rattle.srm_net.specs.DropRules.{DropRules}
 use Rattle.srm_net.specs.declared.link.LinkSpec.{LinkSpec}
@@ -45,7 +45,21 @@ turned_chain = record { nodes = 3; links = uneven_link 1 0 ∷ uneven_link 1 2 �
 
 -- no listed drop, and one outage of link 1
 abbrev pub outage_of_link_1 : ℕ → ℕ → DropRules
-outage_of_link_1 from to = record { listed = []; outages = record { link = 1; from = from; to = to } ∷ [] }
+outage_of_link_1 from to = record {
+  listed = [];
+  outages = record { link = 1; from = from; to = to } ∷ [];
+  losses = [];
+  seed = 0;
+}
+
+-- one loss of link 1 at this rate, of stream 54 and seed 42
+abbrev pub loss_of_link_1 : ℕ → ℕ → Option ℕ → DropRules
+loss_of_link_1 rate from to = record {
+  listed = [];
+  outages = [];
+  losses = record { link = 1; rate = rate; stream = 54; from = from; to = to } ∷ [];
+  seed = 42;
+}
 
 -- member 0's packet of this count
 abbrev pub packet_of_member_0 : ℕ → PacketId

@@ -1,18 +1,20 @@
 -- What holds of every network, and of the orders.
-use Rattle.std.specs.Prelude.{◌≡◌, ◌≢◌, ◌↔◌, ℕ, ◌/◌, ◌<◌, ◌≤◌, true, false, not, All, Contains, List, [], length, Some}
-use Rattle.std.specs.Prelude.{None}
+use Rattle.std.specs.Prelude.{◌≡◌, ◌≢◌, ◌↔◌, ℕ, ◌/◌, ◌<◌, ◌≤◌, true, false, not, All, Contains, List, [], ◌∷◌, ◌++◌}
+use Rattle.std.specs.Prelude.{length, Option, Some, None}
 use Rattle.std.specs.List.{list_any}
 use Rattle.std.specs.declared.cmp.Ordering.{Ordering}
 use Rattle.std.specs.declared.cmp.Ordering.TheVariants.{Equal}
 use Rattle.std.specs.Cmp.{IsTotalOrder}
 use Rattle.srm_net.specs.declared.link.DropSpec.{DropSpec}
 use Rattle.srm_net.specs.declared.link.OutageSpec.{OutageSpec}
+use Rattle.srm_net.specs.declared.link.LossSpec.{LossSpec}
 use Rattle.srm_net.specs.declared.packet.PacketId.{PacketId}
 use Rattle.srm_net.specs.Orders.{Ascends}
 use Rattle.srm_net.specs.declared.link.LinkSpec.{LinkSpec}
 use Rattle.srm_net.specs.Network.{Network, IsPath, IsTree, IsAlike, IsNetwork}
 use Rattle.srm_net.specs.Paths.{route, member_route, distance, round, drop_cmp, is_listed, reaches, crosses, drops_at}
-use Rattle.srm_net.specs.DropRules.{DropRules, is_out, may_drop}
+use Rattle.srm_net.specs.Paths.{Stop, stop, takes_out}
+use Rattle.srm_net.specs.DropRules.{DropRules, is_out, may_drop, with_seed}
 use Rattle.srm_net.specs.Fates.{is_on_way, joins_members}
 use Rattle.srm_net.specs.Spreads.{PlainSpread, IsSpread, is_everywhere}
 use Rattle.srm_net.specs.Least.{least_delay, out}
@@ -86,7 +88,7 @@ OutOfTheOnlyOne = (w : Network) (m : ℕ) → out w m ≡ None → (b : ℕ) →
 abbrev pub ReachesItsSender : Type 0
 ReachesItsSender = (w : Network) (rules : DropRules) (p : PacketId) (sent : ℕ) → reaches w rules p sent p.sender ≡ true
 
--- a packet that no link is listed for, and that is sent when no outage is yet to end, reaches every member
+-- a packet that no link is listed for, and that is sent when no outage or loss is yet to end, reaches every member
 abbrev pub UnlistedReachesAll : Type 0
 UnlistedReachesAll =
     (w : Network) (rules : DropRules) (p : PacketId) (sent : ℕ) → may_drop rules p sent ≡ false
@@ -136,21 +138,64 @@ SameOutagesOut =
     (os qs : List OutageSpec) → ((o : OutageSpec) → Contains os o ↔ Contains qs o)
     → (l t : ℕ) → is_out os l t ≡ is_out qs l t
 
--- without outages a packet reaches a member exactly where no link of the way is listed for it, whenever it is sent
-abbrev pub WithoutOutagesReaches : Type 0
-WithoutOutagesReaches =
-    (w : Network) (drops : List DropSpec) (p : PacketId) (sent m : ℕ)
-    → reaches w (record { listed = drops; outages = [] }) p sent m
-    ≡ not (list_any (is_listed drops p) (member_route w p.sender m))
+-- listed drops alone, without outages and losses
+abbrev pub listed_alone : List DropSpec → ℕ → DropRules
+listed_alone drops seed = record { listed = drops; outages = []; losses = []; seed = seed }
 
--- without outages, a packet crosses the same links and is dropped at the same, whenever it is sent
-abbrev pub WithoutOutagesAtAnyTime : Type 0
-WithoutOutagesAtAnyTime =
-    (w : Network) (drops : List DropSpec) (p : PacketId) (sent later l : ℕ)
-    → (crosses w (record { listed = drops; outages = [] }) p sent l
-    ≡ crosses w (record { listed = drops; outages = [] }) p later l)
-    × (drops_at w (record { listed = drops; outages = [] }) p sent l
-    ≡ drops_at w (record { listed = drops; outages = [] }) p later l)
+-- without outages and losses a packet reaches a member exactly where no link of the way is listed for it, whenever it
+-- is sent
+abbrev pub ListedAloneReaches : Type 0
+ListedAloneReaches =
+    (w : Network) (drops : List DropSpec) (seed : ℕ) (p : PacketId) (sent m : ℕ)
+    → reaches w (listed_alone drops seed) p sent m ≡ not (list_any (is_listed drops p) (member_route w p.sender m))
+
+-- without outages and losses, a packet crosses the same links and is dropped at the same, whenever it is sent
+abbrev pub ListedAloneAtAnyTime : Type 0
+ListedAloneAtAnyTime =
+    (w : Network) (drops : List DropSpec) (seed : ℕ) (p : PacketId) (sent later l : ℕ)
+    → (crosses w (listed_alone drops seed) p sent l ≡ crosses w (listed_alone drops seed) p later l)
+    × (drops_at w (listed_alone drops seed) p sent l ≡ drops_at w (listed_alone drops seed) p later l)
+
+-- with these outages and losses besides
+abbrev pub with_more : List OutageSpec → List LossSpec → DropRules → DropRules
+with_more outages losses rules = record {
+  listed = rules.listed;
+  outages = outages ++ rules.outages;
+  losses = losses ++ rules.losses;
+  seed = rules.seed;
+}
+
+-- a loss of a link with a rate of 1,000,000, from a tick on up to below another
+abbrev pub sure_loss : ℕ → ℕ → ℕ → Option ℕ → LossSpec
+sure_loss l stream from to = record { link = l; rate = 1000000; stream = stream; from = from; to = to }
+
+-- it is an outage: the drop of every packet that comes to its link then
+abbrev pub SureLossIsOutage : Type 0
+SureLossIsOutage =
+    (rules : DropRules) (l stream from to : ℕ) (p : PacketId) (s : Stop)
+    → takes_out (with_more [] (sure_loss l stream from (Some to) ∷ []) rules) p s
+    ≡ takes_out (with_more (record { link = l; from = from; to = to } ∷ []) [] rules) p s
+
+-- one that is on from the start and does not end is the drop of every packet at its link
+abbrev pub SureLossDropsAll : Type 0
+SureLossDropsAll =
+    (rules : DropRules) (l stream : ℕ) (p : PacketId) (t : ℕ)
+    → takes_out (with_more [] (sure_loss l stream 0 None ∷ []) rules) p (stop l t) ≡ true
+
+-- without losses the seed decides nothing
+abbrev pub SeedDecidesLossesAlone : Type 0
+SeedDecidesLossesAlone =
+    (rules : DropRules) → rules.losses ≡ []
+    → (seed : ℕ) (p : PacketId) (s : Stop) → takes_out (with_seed rules seed) p s ≡ takes_out rules p s
+
+-- what becomes of a packet does not hang on drops of other packets
+abbrev pub OthersDecideNothing : Type 0
+OthersDecideNothing =
+    (listed others : List DropSpec) (outages : List OutageSpec) (losses : List LossSpec) (seed : ℕ) (p : PacketId)
+    → ((l : ℕ) → is_listed listed p l ≡ is_listed others p l)
+    → (s : Stop)
+    → takes_out (record { listed = listed; outages = outages; losses = losses; seed = seed }) p s
+    ≡ takes_out (record { listed = others; outages = outages; losses = losses; seed = seed }) p s
 
 -- a set of drops is one list in rising order
 abbrev pub OneListOfDrops : Type 0

@@ -5,12 +5,14 @@ pub mod Names
 pub mod Roles
 pub mod Network
 pub mod Listed
+pub mod Losses
 pub mod DropRules
 pub mod Paths
 pub mod Fates
 pub mod Least
 pub mod Outages
 pub mod OutageTables
+pub mod LossTables
 pub mod DropSets
 pub mod Growth
 pub mod Known

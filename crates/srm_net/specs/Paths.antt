@@ -10,6 +10,7 @@ use Rattle.srm_net.specs.declared.link.DropSpec.{DropSpec}
 use Rattle.srm_net.specs.declared.packet.PacketId.{PacketId}
 use Rattle.srm_net.specs.Network.{Network}
 use Rattle.srm_net.specs.DropRules.{DropRules, is_out}
+use Rattle.srm_net.specs.Losses.{is_lost}
 
 -- ---- routes
 
@@ -125,9 +126,12 @@ stops links u t (l ∷ ls) =
 abbrev pub member_stops : Network → ℕ → ℕ → ℕ → List Stop
 member_stops w a sent b = stops w.links (host w a) sent (member_route w a b)
 
--- whether the link of a stop takes packet p out there: it is listed for the packet, or out at that tick
+-- whether the link of a stop takes packet p out there: it is listed for the packet, out at that tick, or loses the
+-- packet
 abbrev pub takes_out : DropRules → PacketId → Stop → Bool
-takes_out rules p s = is_listed rules.listed p s.link || is_out rules.outages s.link s.at
+takes_out rules p s =
+    is_listed rules.listed p s.link
+    || (is_out rules.outages s.link s.at || is_lost rules.losses rules.seed p s.link s.at)
 
 -- whether packet p, sent at this tick, reaches member m: no link of the way from its sender takes it out
 unfoldable pub reaches : Network → DropRules → PacketId → ℕ → ℕ → Bool

@@ -1,26 +1,30 @@
-//! Which packets links drop: those listed, and all that come to a link in an outage.
-ghost use Rattle.std.specs.Prelude.{◌≡◌, ◌↔◌, Contains, IfOk, IfErr};
+//! Which packets links drop: those listed, all that come to a link in an outage, and those that losses take.
+ghost use Rattle.std.specs.Prelude.{◌≡◌, ◌↔◌, ◌||◌, Contains, IfOk, IfErr};
 ghost use Rattle.srm_net.specs.declared.link.DropSpec.{DropSpec};
 ghost use Rattle.srm_net.specs.Orders.{Ascends};
-ghost use Rattle.srm_net.specs.DropRules.{may_drop};
+ghost use Rattle.srm_net.specs.DropRules.{is_out, may_drop, with_seed};
 ghost use Rattle.srm_net.specs.Listed.{is_listed_somewhere};
+ghost use Rattle.srm_net.specs.Losses.{is_lost};
 ghost use Rattle.srm_net.specs.Paths.{drop_cmp, is_listed, stop, takes_out};
 
 use crate::fault::NetFault;
-use crate::link::{DropSpec, OutageSpec};
+use crate::link::{DropSpec, LossSpec, OutageSpec};
+use crate::losses::Losses;
 use crate::outages::Outages;
 use crate::packet::PacketId;
 use std::alloc::Global;
 use std::collections::HashSet;
 use std::marker::Model;
 
-/// The packets that links are configured to drop, and the outages of links. Contracts see it as the rules of its entries in the order
-/// of links, senders and counts, each once, and of its outages as they were given.
+/// The packets that links are configured to drop, the outages of links, and their losses. Contracts see it as the rules of its entries
+/// in the order of links, senders and counts, each once, of its outages and losses as they were given, and of the seed of the losses.
 #[derive(Drop)]
 pub struct Drops {
     entries: HashSet<DropSpec>,
     packets: HashSet<PacketId>,
     outages: Outages,
+    losses: Losses,
+    seed: u64,
 }
 
 impl Model for Drops {
@@ -36,15 +40,24 @@ impl Model for Drops {
 }
 
 impl Drops {
-    /// The set of these entries, with these outages. An entry that stands in the list more than once counts once.
+    /// The set of these entries, with these outages and losses, whose words are those of the seed. An entry that stands in the list more
+    /// than once counts once.
     ///
     /// # Errors
     ///
     /// [`NetFault::NoMemory`] alone.
-    pub fn of(alloc: Global, list: &[DropSpec], outages: &[OutageSpec]) -> Result<Drops, NetFault>
+    pub fn of(
+        alloc: Global,
+        list: &[DropSpec],
+        outages: &[OutageSpec],
+        losses: &[LossSpec],
+        seed: u64,
+    ) -> Result<Drops, NetFault>
         ensures entries { IfOk result (λ drops. (d : DropSpec) → Contains drops.listed d ↔ Contains list.now d) }
         ensures once_in_order { IfOk result (λ drops. Ascends drop_cmp drops.listed) }
         ensures outages { IfOk result (λ drops. drops.outages ≡ outages.now) }
+        ensures losses { IfOk result (λ drops. drops.losses ≡ losses.now) }
+        ensures seed { IfOk result (λ drops. drops.seed ≡ seed) }
         ensures only_memory { IfErr result (λ e. e ≡ NetFault.NoMemory) }
     {
         let mut entries = HashSet::new(alloc);
@@ -58,11 +71,34 @@ impl Drops {
             };
         }
         let outages = Outages::of(alloc, outages)?;
+        let losses = Losses::of(alloc, losses)?;
         Ok(Drops {
             entries,
             packets,
             outages,
+            losses,
+            seed,
         })
+    }
+
+    /// The same with another seed of its losses.
+    pub fn with_seed(self, seed: u64) -> Drops
+        ensures { result ≡ with_seed self seed }
+    {
+        let Drops {
+            entries,
+            packets,
+            outages,
+            losses,
+            seed: _,
+        } = self;
+        Drops {
+            entries,
+            packets,
+            outages,
+            losses,
+            seed,
+        }
     }
 
     /// Whether a link is configured to drop a packet.
@@ -72,11 +108,11 @@ impl Drops {
         self.entries.contains(&DropSpec { link, id })
     }
 
-    /// Whether a link takes out a packet that comes to it at the tick `at`: it is listed for the packet, or out at that tick.
+    /// Whether a link takes out a packet that comes to it at the tick `at`: it is listed for the packet, out at that tick, or loses it.
     pub fn takes_out(&self, id: PacketId, link: u16, at: u64) -> bool
         ensures { result ≡ takes_out self.now id (stop link at) }
     {
-        self.lists(link, id) || self.outages.is_out(link, at)
+        self.lists(link, id) || self.takes_out_unlisted(id, link, at)
     }
 
     /// The same as [`takes_out`](Drops::takes_out), where it is known already whether any link is listed for the packet: if none is,
@@ -85,7 +121,14 @@ impl Drops {
         requires { is_listed ≡ is_listed_somewhere self.now.listed id }
         ensures { result ≡ takes_out self.now id (stop link at) }
     {
-        (is_listed && self.lists(link, id)) || self.outages.is_out(link, at)
+        (is_listed && self.lists(link, id)) || self.takes_out_unlisted(id, link, at)
+    }
+
+    /// Whether a link is out at the tick `at`, or loses a packet that comes to it then.
+    fn takes_out_unlisted(&self, id: PacketId, link: u16, at: u64) -> bool
+        ensures { result ≡ (is_out self.now.outages link at || is_lost self.now.losses self.now.seed id link at) }
+    {
+        self.outages.is_out(link, at) || self.losses.is_lost(self.seed, id, link, at)
     }
 
     /// Whether any link is configured to drop a packet.
@@ -95,13 +138,13 @@ impl Drops {
         self.packets.contains(&id)
     }
 
-    /// Whether a packet that is sent at the tick `sent` may be dropped at all: some link is listed for it, or an outage ends later than
-    /// that.
+    /// Whether a packet that is sent at the tick `sent` may be dropped at all: some link is listed for it, or an outage ends or a loss goes
+    /// on later than that.
     ///
     /// Any other packet goes everywhere ([`unlisted_packets_go_everywhere`](crate::laws::unlisted_packets_go_everywhere)).
     pub fn may_drop(&self, id: PacketId, sent: u64) -> bool
         ensures { result ≡ may_drop self.now id sent }
     {
-        self.lists_somewhere(id) || self.outages.end_after(sent)
+        self.lists_somewhere(id) || self.outages.end_after(sent) || self.losses.go_on_after(sent)
     }
 }

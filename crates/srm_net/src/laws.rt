@@ -10,11 +10,13 @@ ghost use Rattle.srm_net.specs.Names.{name_cmp, page_cmp, id_cmp, heard_cmp};
 ghost use Rattle.srm_net.specs.Paths.{distance, round, reaches, crosses, drops_at};
 ghost use Rattle.srm_net.specs.Least.{least_delay, out};
 ghost use Rattle.srm_net.specs.Examples.{tree_of_eight, uneven_chain, lone_node};
-ghost use Rattle.srm_net.specs.Examples.{slow_chain, turned_chain, outage_of_link_1, packet_of_member_0};
+ghost use Rattle.srm_net.specs.Examples.{slow_chain, turned_chain, outage_of_link_1, loss_of_link_1, packet_of_member_0};
+ghost use Rattle.srm_net.specs.Losses.{loss_word};
 ghost use Rattle.srm_net.specs.Laws.{OnePath, TreesHaveOnePath, DistancesFit, AlikeBothWays, RoundsTurn, LeastDelayFits, NoLinkNoTwo, OutFits, OutOfTheOnlyOne};
 ghost use Rattle.srm_net.specs.Laws.{ReachesItsSender, UnlistedReachesAll, UnlistedCrossesItsWays, UnlistedIsNowhereDropped};
 ghost use Rattle.srm_net.specs.Laws.{WaysTakeTheSameLinks, EverywhereCrossesTheSame, EverywhereIsNowhereDropped};
-ghost use Rattle.srm_net.specs.Laws.{WithoutOutagesReaches, WithoutOutagesAtAnyTime};
+ghost use Rattle.srm_net.specs.Laws.{ListedAloneReaches, ListedAloneAtAnyTime};
+ghost use Rattle.srm_net.specs.Laws.{SureLossIsOutage, SureLossDropsAll, SeedDecidesLossesAlone, OthersDecideNothing};
 ghost use Rattle.srm_net.specs.Laws.{SameDropsListed, SameOutagesOut, OneListOfDrops, OrdersTotally};
 
 /// In a tree the route between two nodes is a path, and there is no other.
@@ -60,8 +62,8 @@ pub fn reaches_its_sender()
     ensures { ReachesItsSender }
 {}
 
-/// A packet that no link is listed for, and that is sent when no outage is yet to end, reaches every member, crosses exactly the links on
-/// the ways from its sender to members, and is dropped nowhere.
+/// A packet that no link is listed for, and that is sent when no outage or loss is yet to end, reaches every member, crosses exactly the
+/// links on the ways from its sender to members, and is dropped nowhere.
 pub fn unlisted_packets_go_everywhere()
     ensures reaches { UnlistedReachesAll }
     ensures crosses { UnlistedCrossesItsWays }
@@ -76,10 +78,33 @@ pub fn packets_cross_the_same_links()
     ensures dropped { EverywhereIsNowhereDropped }
 {}
 
-/// Without outages it is the listed drops alone that keep a packet from a member, and when the packet is sent makes no difference.
-pub fn without_outages_lists_decide()
-    ensures reaches { WithoutOutagesReaches }
-    ensures at_any_time { WithoutOutagesAtAnyTime }
+/// Without outages and losses it is the listed drops alone that keep a packet from a member, and when the packet is sent makes no
+/// difference.
+pub fn listed_drops_alone_decide()
+    ensures reaches { ListedAloneReaches }
+    ensures at_any_time { ListedAloneAtAnyTime }
+{}
+
+/// A loss with a rate of 1,000,000 is the drop of every packet that comes to its link in its time, as an outage is.
+pub fn sure_losses_drop_all()
+    ensures outage { SureLossIsOutage }
+    ensures all { SureLossDropsAll }
+{}
+
+/// Without losses the seed decides nothing of what is dropped; and what becomes of a packet does not hang on drops of other packets.
+pub fn losses_are_of_one_packet()
+    ensures seed { SeedDecidesLossesAlone }
+    ensures others { OthersDecideNothing }
+{}
+
+/// Some of the words by which links lose packets, in the order of seed, stream, link, sender and count: of one packet, of the next one of
+/// its sender, of a sender and a link that are exchanged, of another seed and of another stream.
+pub fn loss_words()
+    ensures first { loss_word 42 54 1 (packet_of_member_0 0) ≡ 0x9a19b87a }
+    ensures next { loss_word 42 54 1 (packet_of_member_0 1) ≡ 0xfe9d6646 }
+    ensures exchanged { loss_word 42 54 0 (record { sender = 1; count = 0 }) ≡ 0x64b802ed }
+    ensures other_seed { loss_word 43 54 1 (packet_of_member_0 0) ≡ 0xfedae83a }
+    ensures other_stream { loss_word 42 55 1 (packet_of_member_0 0) ≡ 0xb8a51c5c }
 {}
 
 /// A set of drops is one list in rising order, and what it lists depends on its entries alone, as the ticks at which links are out depend
@@ -151,4 +176,16 @@ pub fn small_outages()
     ensures not_yet { reaches slow_chain (outage_of_link_1 6 7) (packet_of_member_0 0) 0 2 ≡ true }
     ensures turned { drops_at turned_chain (outage_of_link_1 3 4) (packet_of_member_0 0) 0 1 ≡ true }
     ensures not_turned { drops_at turned_chain (outage_of_link_1 1 2) (packet_of_member_0 0) 0 1 ≡ false }
+{}
+
+/// What the definitions say of losses in a chain of three nodes whose links take 5 ticks. Member 0 sends at tick 0, and the packet comes to
+/// link 1 at tick 5, with the word 0x9a19b87a: the rates from 601,955 millionths on take it.
+pub fn small_losses()
+    ensures taken { reaches slow_chain (loss_of_link_1 601955 0 None) (packet_of_member_0 0) 0 2 ≡ false }
+    ensures dropped { drops_at slow_chain (loss_of_link_1 601955 0 None) (packet_of_member_0 0) 0 1 ≡ true }
+    ensures near { reaches slow_chain (loss_of_link_1 601955 0 None) (packet_of_member_0 0) 0 1 ≡ true }
+    ensures spared { reaches slow_chain (loss_of_link_1 601954 0 None) (packet_of_member_0 0) 0 2 ≡ true }
+    ensures in_time { reaches slow_chain (loss_of_link_1 601955 5 (Some 6)) (packet_of_member_0 0) 0 2 ≡ false }
+    ensures over { reaches slow_chain (loss_of_link_1 601955 4 (Some 5)) (packet_of_member_0 0) 0 2 ≡ true }
+    ensures not_yet { reaches slow_chain (loss_of_link_1 601955 6 None) (packet_of_member_0 0) 0 2 ≡ true }
 {}

@@ -1,7 +1,8 @@
-//! Links of a network, the packets that they are to drop, and their outages.
+//! Links of a network, the packets that they are to drop, their outages, and their losses.
 ghost use Rattle.std.specs.Prelude.{◌≡◌};
 
 use crate::packet::PacketId;
+use crate::word::loss_word;
 
 /// A link between two nodes.
 #[derive(Clone, Copy, Debug, PartialEq, Eq)]
@@ -66,4 +67,53 @@ pub struct OutageSpec {
     pub from: u64,
     /// The tick after its last: in a scenario file 1 to 2^40.
     pub to: u64,
+}
+
+/// A span of time in which a link loses packets at random, from the tick `from` on: each that comes to it, whatever it carries, with
+/// the chance `rate`. A word of the seed, the stream, the link and the packet decides
+/// ([`loss_words`](crate::laws::loss_words)), and nothing else: so two losses of one link and one stream do not take packets
+/// independently of each other, and the greater rate decides there.
+#[derive(Clone, Copy, Debug, PartialEq, Eq, Hash)]
+pub struct LossSpec {
+    /// The link's number.
+    pub link: u16,
+    /// The chance, in millionths: in a scenario file 1 to 1,000,000.
+    pub rate: u32,
+    /// The stream of its words: in a scenario file below 2^63.
+    pub stream: u64,
+    /// The first tick of the loss: in a scenario file 0 to 2^40.
+    pub from: u64,
+    /// The tick after its last, in a scenario file 1 to 2^40, or none where it does not end.
+    pub to: Option<u64>,
+}
+
+impl LossSpec {
+    ghost use Rattle.srm_net.specs.Losses.{is_before_end, takes, words_taking};
+
+    /// Whether it takes a packet that comes to its link at the tick `at`, by the words of a seed. Where it is not on then, no word is
+    /// drawn.
+    pub(crate) fn takes(&self, seed: u64, id: PacketId, at: u64) -> bool
+        ensures { result ≡ takes seed id at self.now }
+    {
+        self.from <= at
+            && self.ends_after(at)
+            && loss_word(seed, self.stream, self.link, id) < self.words_taking()
+    }
+
+    /// Whether it goes on after a tick.
+    fn ends_after(&self, tick: u64) -> bool
+        ensures { result ≡ is_before_end self.now.to tick }
+    {
+        match self.to {
+            None => true,
+            Some(to) => tick < to,
+        }
+    }
+
+    /// How many of the 2^32 words take a packet.
+    fn words_taking(&self) -> u64
+        ensures { result ≡ words_taking self.now.rate }
+    {
+        u64::from(self.rate) * (1 << 32) / 1_000_000
+    }
 }

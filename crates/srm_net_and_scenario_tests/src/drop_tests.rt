@@ -20,7 +20,7 @@ const fn outage(link: u16, from: u64, to: u64) -> OutageSpec {
 
 // The listed drop, which stands in the list twice.
 fn listed_twice(alloc: Global) -> Result<Drops, NetFault> {
-    Drops::of(alloc, &[listed_drop(), listed_drop()], &[])
+    Drops::of(alloc, &[listed_drop(), listed_drop()], &[], &[], 0)
 }
 
 // Whether a link lists a packet of member 0, and takes it out at tick 0.
@@ -54,7 +54,7 @@ fn packets_that_a_link_may_drop(rt: HostRuntime) {
 #[test]
 fn packets_that_an_outage_may_drop(rt: HostRuntime) {
     for (count, sent, want) in [(0, 0, true), (0, 5, true), (0, 6, false), (1, 10, false)] {
-        let drops = Drops::of(rt.alloc(), &[], &[outage(1, 5, 6)]);
+        let drops = Drops::of(rt.alloc(), &[], &[outage(1, 5, 6)], &[], 0);
         assert_eq!(rt; may_drop(drops, count, sent), Some(want), "sent at {sent}");
     }
 }
@@ -210,7 +210,7 @@ fn many_outages(alloc: Global) -> Result<Drops, NetFault> {
         link: 0,
         id: packet(0, 0),
     };
-    Drops::of(alloc, &[drop], &outages)
+    Drops::of(alloc, &[drop], &outages, &[], 0)
 }
 
 // Whether a link takes out the first packet of member 0 at a tick.

@@ -6,6 +6,8 @@ mod drop_tests;
 #[cfg(test)]
 mod feed_tests;
 #[cfg(test)]
+mod loss_tests;
+#[cfg(test)]
 mod net_tests;
 #[cfg(test)]
 mod networks;

@@ -192,7 +192,7 @@ fn is_shared<T: Sync + Send>(_value: &T) -> bool {
 #[test]
 fn shared_between_threads(rt: HostRuntime) -> Result<(), Fail> {
     let net = Net::build(rt.alloc(), 1, &[], &[0])?;
-    let drops = Drops::of(rt.alloc(), &[], &[])?;
+    let drops = Drops::of(rt.alloc(), &[], &[], &[], 0)?;
     assert!(rt; is_shared(&net) && is_shared(&drops));
     Ok(())
 }

@@ -91,7 +91,7 @@ impl LossyNet {
         let nodes = u16::try_from(links.len()).unwrap_or(0).saturating_add(1);
         Ok(LossyNet {
             net: Net::build(alloc, nodes, links, hosts)?,
-            drops: Drops::of(alloc, drops, outages)?,
+            drops: Drops::of(alloc, drops, outages, &[], 0)?,
         })
     }
 

@@ -131,7 +131,7 @@ fn members_before_and_behind_a_drop_at_the_end_of_the_longest_chain(rt: HostRunt
 fn the_node_before_a_drop_at_the_end_of_the_longest_chain(rt: HostRuntime) -> Result<(), Fail> {
     let links = path(rt.alloc(), 1023, 1, 3)?;
     let net = Net::build(rt.alloc(), 1024, &links, &[0, 512, 1023])?;
-    let drops = Drops::of(rt.alloc(), &[drop_at_the_end()], &[])?;
+    let drops = Drops::of(rt.alloc(), &[drop_at_the_end()], &[], &[], 0)?;
     let spread = net.spread(rt.alloc(), &drops, first_packet(), 0)?;
     assert!(rt; spread.comes_to(1022));
     Ok(())

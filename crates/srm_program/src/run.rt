@@ -27,6 +27,7 @@ use srm_report::links::links_text;
 use srm_report::losses_sink::LossesSink;
 use srm_report::members_sink::MembersSink;
 use srm_report::no_rows::NoRows;
+use srm_report::operations_sink::OperationsSink;
 use srm_report::outlet::Outlet;
 use srm_report::timers::TimersListing;
 use srm_report::trace::TraceListing;
@@ -111,6 +112,7 @@ pub(crate) fn report<R: Threads + Wait + Sync, M: Participant, C: Crew<M>, O: Ou
         Show::Trace => write_listing(rt, alloc, asked, crew, TraceListing, outlet),
         Show::Members => write_members(alloc, asked, crew, outlet),
         Show::Losses => write_losses(alloc, asked, crew, outlet),
+        Show::Operations => write_operations(alloc, asked, crew, outlet),
         Show::Links => write_links(alloc, asked, crew, outlet),
         Show::Timers => write_listing(rt, alloc, asked, crew, TimersListing, outlet),
     }
@@ -150,6 +152,27 @@ fn write_losses<M: Participant, C: Crew<M>, O: Outlet>(
     // By its contract, every scenario is accepted: that makes the rows of its run orderly.
     let _ = scenario.until();
     let mut sink = LossesSink::new(alloc);
+    match hand_rows(alloc, asked, crew, &mut sink) {
+        Ok(_) => write_text(sink.text(alloc, net), outlet),
+        Err(fault) => Err(fault),
+    }
+}
+
+// Finds what became of each operation that was lost, and writes the table of operations at the end.
+fn write_operations<M: Participant, C: Crew<M>, O: Outlet>(
+    alloc: Global,
+    asked: Asked<M>,
+    crew: &mut C,
+    outlet: &mut O,
+) -> Result<(), LabFault>
+    requires crew { MayLead C.Crew crew.old asked.task.session }
+    requires count { O.failures outlet.old < 2 ^ 64 - 1 }
+    ensures { Tabled O.Outlet Show.Operations asked.entry.task (map M.plain asked.entry.members.items) outlet.old result outlet.new }
+{
+    let Session { scenario, net } = asked.task.session;
+    // By its contract, every scenario is accepted: that makes the rows of its run orderly.
+    let _ = scenario.until();
+    let mut sink = OperationsSink::new(alloc);
     match hand_rows(alloc, asked, crew, &mut sink) {
         Ok(_) => write_text(sink.text(alloc, net), outlet),
         Err(fault) => Err(fault),

@@ -38,7 +38,7 @@ pub record PlainScenario : Type 0 where
 -- the rules by which links drop packets, of drops and outages as they are listed: a drop that is listed twice counts
 -- once
 abbrev pub drop_rules_of : List DropSpec → List OutageSpec → DropRules
-drop_rules_of drops outages = record { listed = ordered_once drop_cmp drops; outages = outages }
+drop_rules_of drops outages = record { listed = ordered_once drop_cmp drops; outages = outages; losses = []; seed = 0 }
 
 -- the network of a scenario
 abbrev pub network_of : PlainScenario → Network

@@ -67,7 +67,7 @@ fn drops_of(
         (λ rules. rules ≡ drop_rules_of drops.now outages.now)
         (λ e. e ≡ ScenarioFault.NoMemory) }
 {
-    match Drops::of(alloc, drops, outages) {
+    match Drops::of(alloc, drops, outages, &[], 0) {
         Ok(rules) => return Ok(rules),
         Err(_) => return Err(ScenarioFault::NoMemory),
     }

@@ -55,9 +55,13 @@ timed c1 c2 = thousandths c1 c2 1000 0
 abbrev pub fixed_room : Constants → Room
 fixed_room first = record { least = first; most = first; backoff = 2 }
 
--- these drops, and no outage
+-- these drops, and no outage or loss
 abbrev pub lists_alone : List DropSpec → DropRules
-lists_alone drops = record { listed = drops; outages = [] }
+lists_alone drops = record { listed = drops; outages = []; losses = []; seed = 0 }
+
+-- these outages, and no listed drop or loss
+abbrev pub out_alone : List OutageSpec → DropRules
+out_alone outages = record { listed = []; outages = outages; losses = []; seed = 0 }
 
 -- one loss on a chain of five: its request, and the repair by the nearest that holds it
 abbrev pub chain_of_five_one_loss : PlainScenario
@@ -243,7 +247,7 @@ outage_of_one_tick = record {
   members = member 0 Sender 1 ∷ member 1 Listener 2 ∷ member 2 Listener 3 ∷ [];
   draws = draw 0 0 7 0 ∷ draw 0 0 8 10 ∷ [];
   sessions = [];
-  drops = record { listed = []; outages = record { link = 1; from = 5; to = 6 } ∷ [] };
+  drops = out_alone (record { link = 1; from = 5; to = 6 } ∷ []);
 }
 
 -- an outage of one tick
@@ -256,7 +260,7 @@ two_pairs = draw 0 0 0 0 ∷ draw 0 0 1 1 ∷ draw 0 0 2 1000 ∷ draw 0 0 3 100
 
 -- a link loses the packets that come to it in these two ticks
 abbrev pub loses_at : ℕ → ℕ → ℕ → DropRules
-loses_at l first second = record { listed = []; outages = outage l first ∷ outage l second ∷ [] }
+loses_at l first second = out_alone (outage l first ∷ outage l second ∷ [])
 
 -- a member that alone asks, at two losses: the second time it asks sooner
 abbrev pub request_timers_adapted : PlainScenario

@@ -1,5 +1,6 @@
 use Rattle.std.proofs.Common.{◌≡◌, ◌∙◌, ◌||◌, sym, ap, false}
-use Rattle.srm_net.specs.DropRules.{DropRules, is_out}
+use Rattle.srm_net.specs.DropRules.{is_out}
+use Rattle.srm_net.specs.Losses.{is_lost}
 use Rattle.srm_net.specs.Paths.{is_listed}
 use Rattle.srm_net.proofs.DropLemmas.{nowhere_listed}
 use Rattle.srm_net.proofs.drops.Drops.takes_out_of.Goals.{then-is_listed, else-is_listed}
@@ -12,5 +13,6 @@ returns-else-lists c =
       | then-is_listed w ↦ sym w.lists.ensures ∙ sym w.value-is ∙ c.if-lists.false
       | else-is_listed w ↦ nowhere_listed rules.listed c.args.id c.args.link (sym c.requires ∙ w.if-is_listed.false)
     ] in
-    c.is_out.ensures ∙ ap (λ (r : DropRules). is_out r.outages c.args.link c.args.at) c.self.view_is
-    ∙ sym (ap (λ b. b || is_out rules.outages c.args.link c.args.at) none)
+    c.takes_out_unlisted.ensures
+    ∙ sym (ap (λ b. b || (is_out rules.outages c.args.link c.args.at
+    || is_lost rules.losses rules.seed c.args.id c.args.link c.args.at)) none)
