@@ -10,6 +10,8 @@ TRIED ?= out/try
 CRATE ?=
 BENCH ?=
 SECONDS ?= 60
+# how many checks the gate makes at a time: one for each processor, where each has 5 GB of memory
+RT_JOBS ?= $(shell awk -v n=$$(nproc) '/MemAvailable/ { m = int($$2 / 5e6); print (m < 1 ? 1 : m < n ? m : n) }' /proc/meminfo)
 export RT
 
 .PHONY: build run try check test test-program fuzz bench install fmt clean help
@@ -35,7 +37,7 @@ check: ## what an edit needs: proves what changed (or CRATE=srm_net), and checks
 	cd crates/$(CRATE) && $(RT) $(if $(CRATE),check,all check --jobs $(JOBS))
 
 test: ## the merge gate: `rt ci`, then the scripts of tests/ on what it built
-	@SRM_LAB=$(abspath $(SRM_LAB)) tools/gate.py tests/sources tests/fuzz tests/program python/tests/plain.py python/tests/all.py
+	@RT_JOBS=$(RT_JOBS) SRM_LAB=$(abspath $(SRM_LAB)) tools/gate.py tests/sources tests/fuzz tests/program python/tests/plain.py python/tests/all.py
 
 test-program: $(PROGRAM) $(TEST_PROGRAMS) ## runs the built program: its tables, refusals, options, limits, memory
 	@SRM_LAB=$(abspath $(SRM_LAB)) tools/gate.py --scripts tests/program tests/fuzz

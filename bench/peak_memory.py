@@ -25,7 +25,7 @@ from program import Program
 MEMBERS = 16
 PAGES = 4
 ENDS = [1000, 4000, 16000]
-TABLES = ["trace", "members", "losses", "links", "timers"]
+TABLES = ["trace", "members", "losses", "operations", "links", "timers"]
 WINDOW = ["--engine", "window", "--workers", "2", "--crew"]
 CREWS = ("plain", "pool", "bag", "team")
 ENGINES: list[tuple[str, list[str]]] = [("step", []), *((f"window, {crew}", [*WINDOW, crew]) for crew in CREWS)]

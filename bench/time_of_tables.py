@@ -20,7 +20,7 @@ NODES = 256
 DRAWS = 4096
 SPACING = 1000
 LOST = 50
-TABLES = ["trace", "members", "losses", "links", "timers"]
+TABLES = ["trace", "members", "losses", "operations", "links", "timers"]
 
 
 def scenario(draws: int) -> bytes:

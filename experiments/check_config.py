@@ -8,7 +8,7 @@ a part of the configuration could not be made.
 import sys
 
 import yaml
-from figures import NEEDS
+from kinds import NEEDS
 from srm_lab import ScenarioError
 from srm_lab.experiment import check_config
 

@@ -1,14 +1,12 @@
 """Figures from the tables of experiments.
 
-usage: figures.py WORDS SVG PNG TABLE...
-
-WORDS is the figure's part of a configuration, as JSON: `draw` names a function of DRAWS, which takes the other words.
+Of a figure in a configuration `draw` names a function of DRAWS, which takes its other words.
 A point is the mean over seeds of the means of each seed, with a 95 per cent interval (Student's t) over the seeds; a
 band is from the lower to the upper quartile of all losses.
 """
-import json
+import io
 import math
-import sys
+import os
 from collections.abc import Sequence
 from typing import Any
 
@@ -23,18 +21,20 @@ matplotlib.rcParams["font.size"] = 10
 import adaptive_figures as rounds  # noqa: E402
 import matplotlib.pyplot as plot  # noqa: E402
 from matplotlib.axes import Axes  # noqa: E402
+from matplotlib.backends.backend_svg import RendererSVG  # noqa: E402
 from matplotlib.colors import to_rgba  # noqa: E402
 from matplotlib.figure import Figure  # noqa: E402
 from matplotlib.path import Path  # noqa: E402
 from matplotlib.text import Annotation  # noqa: E402
 from matplotlib.ticker import FixedLocator, FuncFormatter, NullLocator  # noqa: E402
 from matplotlib.transforms import Bbox  # noqa: E402
+from recoveries import read  # noqa: E402
 from srm_lab.statistics import interval  # noqa: E402
-from srm_lab.experiment import Needs  # noqa: E402
 
 BLUE, ORANGE, GREEN, PURPLE, GREY = "#0072b2", "#d55e00", "#009e73", "#cc79a7", "#666666"
 COLOURS = (BLUE, ORANGE, GREEN, PURPLE, "#e69f00", "#56b4e9", "#000000")
 THEORY = "#222222"
+DOTS = 72  # that an SVG has to an inch
 STYLES = ("--", ":", "-.")
 MARKS = "osv^D<>"
 ROUND = [factor * 10**power for power in range(-2, 4) for factor in (1, 1.5, 2, 3, 5, 7)]
@@ -46,21 +46,6 @@ LABELS = {
     "ratio": "delay of the last member\n(round trips to the source)", "last_delay": "delay of the last member (ticks)",
     "least_delay": "least delay of a member (ticks)", "greatest_delay": "greatest delay of a member (ticks)",
 }
-
-
-def read(path: str) -> pandas.DataFrame:
-    """A table of an experiment, without the operations that somebody lacked to the end, and those without a delay.
-
-    How many these are, and how many losses ended with a leave, is in `attrs`, and goes into the figure.
-    """
-    table = pandas.read_csv(path)
-    wanted = (table["open"] == 0) & table["last_delay"].notna()
-    kept = table[wanted].copy()
-    kept["ratio"] = kept["last_delay"] / kept["last_round_trip"]
-    kept.attrs = {"rows": len(table), "open": int((table["open"] > 0).sum()),
-                  "gone": int(((table["open"] == 0) & table["last_delay"].isna()).sum()),
-                  "left": int(table["left"].sum())}
-    return kept
 
 
 def left_out(tables: Sequence[pandas.DataFrame]) -> str:
@@ -285,7 +270,8 @@ def label_marks(axes: Axes, drawn: list[tuple[str, pandas.DataFrame, pandas.Data
         for c2 in delay.index:
             label = axes.annotate(f"{c2:g}", (delay["mean"][c2], requests["mean"][c2]), textcoords="offset points",
                                   xytext=(0, 0), fontsize=7, color=colour, ha="center", va="center_baseline")
-            label.xyann = min(AROUND, key=lambda offset: crossings(label, offset, taken, boxes))
+            label.xyann = (next((offset for offset in AROUND if not crossings(label, offset, taken, boxes)), None)
+                           or min(AROUND, key=lambda offset: crossings(label, offset, taken, boxes)))
             boxes.append(label.get_window_extent())
 
 
@@ -415,25 +401,29 @@ def both_timers(axes: Axes, table: pandas.DataFrame, measure: str) -> float:
 DRAWS = {draw.__name__: draw for draw in (
     over_session_size, lines, requests_in_a_star, chain_of_sure_timers, requests_against_delay, over_rounds,
     adapted_over_size, over_spacing)}
-NEEDS = {
-    "over_session_size": Needs(2), "lines": Needs(4), "requests_in_a_star": Needs(2, ("size", "c1", "c2")),
-    "chain_of_sure_timers": Needs(1, ("drop_link", "delay", "c1", "d1")),
-    "requests_against_delay": Needs(2, ("size", "drop_link", "c1", "c2")),
-    "over_rounds": Needs(2, ("adaptive", "rounds")), "adapted_over_size": Needs(2, ("adaptive", "rounds", "members")),
-    "over_spacing": Needs(2, ("size", "adaptive", "rounds", "every")),
-}
 
 
-def main(words: str, svg: str, png: str, *paths: str) -> None:
+def draw(asked: dict[str, Any], svg: str, png: str, *paths: str) -> None:
     """Draws one figure."""
-    asked = json.loads(words)
-    tables = [read(path) for path in paths]
-    figure = DRAWS[asked["draw"]](tables, asked)
+    figure = DRAWS[asked["draw"]]([read(path) for path in paths], asked)
     figure.tight_layout()
-    figure.savefig(svg, metadata={"Date": None}, bbox_inches="tight")
-    figure.savefig(png, dpi=150, metadata={"Software": None}, bbox_inches="tight")
+    box = box_of(figure)
+    figure.savefig(svg, dpi=DOTS, metadata={"Date": None}, bbox_inches=box)
+    figure.savefig(png, dpi=150, metadata={"Software": None}, bbox_inches=box)
     plot.close(figure)
 
 
-if __name__ == "__main__":
-    main(*sys.argv[1:])
+def box_of(figure: Figure) -> Bbox:
+    """The part of a figure that is drawn on, in inches: for both files that of the SVG.
+
+    With `bbox_inches="tight"` each file would be drawn twice, and looked through once more.
+    """
+    figure.dpi = DOTS
+    return figure.get_tightbbox(RendererSVG(*figure.bbox.size, io.StringIO())).padded(matplotlib.rcParams["savefig.pad_inches"])
+
+
+def draw_all(config: dict[str, dict[str, Any]], results: "os.PathLike[str]") -> None:
+    """Draws all figures of a configuration, whose tables are in the folder of its results."""
+    for name, asked in config.items():
+        picture = f"{results}/figures/{name}"
+        draw(asked, f"{picture}.svg", f"{picture}.png", *(f"{results}/tables/{one}.csv" for one in asked["of"]))

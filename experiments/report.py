@@ -1,8 +1,9 @@
-"""One page of HTML about a sweep, which opens from disk: its figures, tables, configuration and versions.
+"""The figures of a sweep, and one page of HTML about it, which opens from disk: figures, tables, configuration, versions.
 
 usage: report.py CONFIG PROGRAM PAGE
 
-CONFIG is the sweep's configuration as JSON. The page has no links to other files.
+CONFIG is the sweep's configuration as JSON; figures and tables are in folders beside PAGE, which has no links to other
+files.
 """
 import hashlib
 import json
@@ -14,9 +15,10 @@ from importlib.metadata import version
 from pathlib import Path
 from typing import Any
 
+import figures
 import pandas
 import yaml
-from figures import read
+from recoveries import read
 from srm_lab.statistics import interval
 from srm_lab.experiment import Experiment, experiments_of
 
@@ -89,8 +91,9 @@ def page(config: dict[str, Any], program: Path, results: Path) -> str:
 
 
 def main(config: str, program: str, target: str) -> None:
-    given = json.loads(config)
-    Path(target).write_text(page(given, Path(program), Path(target).parent), encoding="utf-8")
+    given, results = json.loads(config), Path(target).parent
+    figures.draw_all(given.get("figures") or {}, results)
+    Path(target).write_text(page(given, Path(program), results), encoding="utf-8")
 
 
 if __name__ == "__main__":

@@ -1,10 +1,9 @@
-"""Tables of rounds of loss as docs/EXPERIMENTS.md has them: means of 20 rounds, with 95 per cent intervals over seeds.
+"""Means of 20 rounds of loss, of which docs/EXPERIMENTS.md shows some, with 95 per cent intervals over seeds.
 
 usage: rounds_table.py TABLE..
 
-TABLE are those of experiments with rounds, results-adaptive/tables/rounds_star.csv for one. A line is printed for each
-block of rounds that the page shows and each kind of timers: requests, repairs, and the delay of the last member in its
-round trips.
+TABLE are those of experiments with rounds, results-adaptive/tables/rounds_star.csv for one. A line is printed for each of
+three blocks of rounds and each kind of timers: requests, repairs, and the delay of the last member in its round trips.
 """
 import sys
 from collections.abc import Iterator
@@ -12,7 +11,7 @@ from pathlib import Path
 
 import pandas
 from adaptive_figures import BLOCK, MEASURES, block_means, with_rounds
-from figures import read
+from recoveries import read
 
 SHOWN = (1, 21, 81)  # the first round of each block that is told
 

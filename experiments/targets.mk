@@ -45,15 +45,15 @@ CONFIG_FILE = $(firstword $(wildcard $(PWD)/$(CONFIG) $(abspath $(CONFIG)) $(abs
 SNAKEMAKE = cd $(dir $(CONFIG_FILE)) && export PYTHONPATH=$(abspath python/src) && \
 	results=$$($(PYTHON) $(abspath experiments/check_config.py) $(CONFIG_FILE)) && mkdir -p "$$results" && \
 	flock --verbose --nonblock --conflict-exit-code 3 "$$results/.lock" \
-	snakemake --snakefile $(abspath experiments/Snakefile) --nolock --rerun-incomplete --keep-going --show-failed-logs \
-	--configfile $(CONFIG_FILE) --config program=$(abspath $(SRM_LAB))
+	snakemake --snakefile $(abspath experiments/Snakefile) --scheduler greedy --force-use-threads --nolock \
+	--rerun-incomplete --keep-going --show-failed-logs --configfile $(CONFIG_FILE) --config program=$(abspath $(SRM_LAB))
 REPORT = && realpath "$$results/report.html"
 
 .PHONY: experiments experiments-slurm
 experiments: $(SRM_LAB) ## makes the sweeps of experiments/config.yaml or CONFIG=.., their figures and report; keeps what is there
 	$(SNAKEMAKE) --cores $(JOBS) $(REPORT)
 
-# up to fifty runs in a job; the directory has to be one that all nodes share
+# the directory has to be one that all nodes share
 experiments-slurm: CORES ?= 4
 experiments-slurm: $(SRM_LAB) ## the same by Slurm: make experiments-slurm JOBS=2 CORES=2 SBATCH="--partition=short --time=30"
 	$(SNAKEMAKE) --jobs $(JOBS) --cores $(CORES) --latency-wait 60 \

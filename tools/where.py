@@ -132,8 +132,8 @@ def proof(function: Function) -> str:
 
 
 def promises(function: Function) -> Iterator[str]:
-    """The rows of PROMISES that name it in their second column."""
-    crate, named = "", re.compile(rf"`(?:\w+::)*{re.escape(function.name)}\b")
+    """The rows of PROMISES that name it, or its type, in their second column."""
+    crate, named = "", re.compile(rf"`(?:(?:\w+::)*{re.escape(function.name)}\b|{function.owner or function.name}`)")
     for number, line in enumerate((TOP / "docs" / "PROMISES.md").read_text(encoding="utf-8").splitlines(), 1):
         crate = line.removeprefix("## ") if line.startswith("## ") else crate
         columns = line.split(" | ")

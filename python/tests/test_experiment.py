@@ -10,18 +10,25 @@ from srm_lab.experiment import Experiment, Needs, check_config
 
 ROOT = Path(__file__).resolve().parents[2]
 
-OPERATIONS = """source,page,number,losers,left,open,requests,repairs,\
-least_delay,greatest_delay,last_delay,last_round_trip
-0,0,0,2,0,0,2,1,4,7,7,4
-0,0,3,2,0,1,5,4,,,,
-"""
+TABLES = {
+    "operations": """seed,source,page,number,losers,recovered,left,detected,asked,requests,repairs,last,delay
+1,0,0,0,2,2,0,9,11,2,1,1,7/4
+1,0,0,3,2,1,0,9,12,5,4,-,-
+""",
+    "losses": """seed,member,source,page,number,detected,recovered,delay
+1,1,0,0,0,10,17,7/4
+1,1,0,0,3,9,16,7/4
+1,2,0,0,0,9,13,4/8
+1,2,0,0,3,9,-,-
+""",
+    "metrics": "seed,own\n1,8\n"}
 DRAWS = {"lines": Needs(4), "over_session_size": Needs(1), "requests_against_delay": Needs(2, ("drop_link", "c1"))}
 
 
 def test_points_are_the_product_of_the_lists():
     one = Experiment("e", {"kind": "star", "size": [5, 9], "c2": [0, 2], "d1": [1], "seeds": 3})
     assert list(one.points) == ["size-5_c2-0", "size-5_c2-2", "size-9_c2-0", "size-9_c2-2"]
-    assert len(one.runs()) == 12
+    assert one.parts == [[1, 2, 3]]
     assert one.words("size-9_c2-2", 3) == ["star", "--size", "9", "--c2", "2", "--d1", "1", "--seed", "3"]
 
 
@@ -42,6 +49,7 @@ def test_rounds_and_adaptive_timers_are_options():
     assert one.words("adaptive-True", 4) == ["chain", "--size", "3", "--drop-link", "1", "--rounds", "5", "--adaptive",
                                              "--seed", "4"]
     assert "--adaptive" not in one.words("adaptive-False", 4) and one.agent == "ns2"
+    assert Experiment("e", {**one.config, "seeds": 3}).parts == [[1], [2], [3]]  # a job for each, which takes seconds
 
 
 def test_value_twice_is_refused():
@@ -125,18 +133,19 @@ def test_figure_of_a_metric_is_accepted(tmp_path):
 
 def test_each_configuration_of_the_repository_is_accepted():
     import figures
+    import kinds
     import yaml
     for name in ("config.yaml", "small.yaml", "adaptive.yaml", "adaptive-ns2.yaml", "sparse.yaml"):
-        check_config(yaml.safe_load((ROOT / "experiments" / name).read_text()), figures.NEEDS)
+        check_config(yaml.safe_load((ROOT / "experiments" / name).read_text()), kinds.NEEDS)
+    assert set(kinds.NEEDS) == set(figures.DRAWS)
 
 
 def test_table_of_an_experiment(tmp_path):
     one = Experiment("e", {"kind": "chain", "size": [2, 3], "seeds": 1, "metrics": {"own": "a.py:f"}})
 
-    def path_of(label, seed):
-        path = tmp_path / f"{label}-{seed}"
-        lines = OPERATIONS.splitlines()
-        path.write_text("\n".join([lines[0] + ",own", *(line + ",8" for line in lines[1:])]) + "\n")
+    def path_of(label, part, name):
+        path = tmp_path / f"{label}-{part}-{name}"
+        path.write_text(TABLES[name])
         return path
 
     out = io.StringIO()

@@ -1,5 +1,4 @@
 """What figures show: means with intervals over seeds, quartiles, and axes that say what they are."""
-import json
 import re
 
 import pandas
@@ -57,7 +56,7 @@ def drawn(tmp_path, draw, words, rows, name="one"):
     """The pictures of a figure whose tables all have these rows."""
     path, svg, png = (tmp_path / f"{name}.{ending}" for ending in ("csv", "svg", "png"))
     path.write_text(HEADER + rows)
-    figures.main(json.dumps({"draw": draw, **words}), svg, png, *[path] * TABLES[draw])
+    figures.draw({"draw": draw, **words}, svg, png, *[path] * TABLES[draw])
     return svg.read_bytes(), png.read_bytes()
 
 

@@ -1,6 +1,6 @@
 """What a run of ns-2 becomes in a sweep: the tables of srm_lab, and a network without nodes that only hand on."""
 from ns2_agent import Result, reduced
-from ns2_run import losses_of, operations_of
+from ns2_run import losses_of, operations_of, written
 
 from srm_lab import scenario, tree
 from srm_lab.link import Link
@@ -12,10 +12,10 @@ def test_tables_of_a_run():
     result = Result([(40, 1, "ask", 0), (60, 0, "answer", 0), (540, 2, "ask", 2)],
                     {(1, 0): (20, 70), (2, 0): (30, 80), (2, 2): (520, None)})
     assert list(losses_of(given, result)) == [
-        (1, 0, 0, 0, 20, 70, 50, 20, "recovered", 1), (2, 0, 0, 0, 30, 80, 50, 40, "recovered", 2),
-        (2, 0, 0, 2, 520, None, None, 40, "open", 2)]
+        (1, 0, 0, 0, 20, 70, "50/20"), (2, 0, 0, 0, 30, 80, "50/40"), (2, 0, 0, 2, 520, None, None)]
     assert list(operations_of(given, result)) == [
-        (0, 0, 0, 2, 0, 0, 1, 1, 50, 50, 50, 40), (0, 0, 2, 1, 0, 1, 1, 0, None, None, None, None)]
+        (0, 0, 0, 2, 2, 0, 20, 40, 1, 1, 2, "50/40"), (0, 0, 2, 1, 0, 0, 520, 540, 1, 0, None, None)]
+    assert written("a,b", [(1, None), (2.5, "3/4")]) == b"a,b\n1,-\n2.5,3/4\n"
 
 
 def test_nodes_that_only_hand_on_are_left_out():

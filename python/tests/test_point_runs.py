@@ -1,23 +1,27 @@
 """The runs of a point of a sweep, with a stand-in for the program: which are made, kept, and made anew."""
 import json
 import os
+import re
+import subprocess
 import time
 
 import pytest
 from point_runs import main
 
-ONE = {"kind": "chain", "size": 2, "drop_link": 0, "seeds": 2}
+ONE: dict = {"kind": "chain", "size": 2, "drop_link": 0, "seeds": 2}
 PROGRAM = """#!/bin/sh
-cat <<END
-time,member,cause,ref,result,lost,sent
-0,0,draw,0/0/0,sent,0,0:0
-1,0,draw,0/0/1,sent,0,0:1
-1001,1,data,0:1,fresh,1,-
-3001,1,ask,0/0/0,sent,0,1:0
-4001,0,request,1:0,plan,0,-
-5001,0,answer,0/0/0,sent,0,0:2
-6001,1,repair,0:2,fixed,0,-
+case "$*" in
+*operations*) cat <<END
+seed,source,page,number,losers,recovered,left,detected,asked,requests,repairs,last,delay
+1,0,0,0,1,1,0,1001,3001,1,1,1,5000/2000
+2,0,0,0,1,1,0,1001,3001,1,1,1,5000/2000
 END
+;; *) cat <<END
+seed,member,source,page,number,detected,recovered,delay
+1,1,0,0,0,1001,6001,5000/2000
+2,1,0,0,0,1001,6001,5000/2000
+END
+;; esac
 """
 
 
@@ -28,9 +32,9 @@ def runs(tmp_path):
     program.write_text(PROGRAM)
     program.chmod(0o755)
 
-    def make(seeds=("1", "2"), **change):
-        assert main(json.dumps({**ONE, **change}), "only", str(program), str(tmp_path / "runs"), *seeds) == 0
-        tables = [tmp_path / f"runs/seed-{seed}.{kind}.csv" for seed in seeds for kind in ("losses", "operations")]
+    def make(**change):
+        assert main(json.dumps({**ONE, **change}), "only", str(program), str(tmp_path / "runs"), "0") == 0
+        tables = [tmp_path / f"runs/part-0.{kind}.csv" for kind in ("losses", "operations")]
         time.sleep(0.02)  # what is written after this is later
         return [table.stat().st_mtime_ns for table in tables]
 
@@ -52,28 +56,46 @@ def test_other_scenario_makes_runs_anew(runs):
     assert all(after > before for before, after in zip(first, runs(c1=3)))
 
 
-def test_later_metric_makes_runs_anew(runs, tmp_path):
-    metric = tmp_path / "metric.py"
-    metric.write_text("def number(given):\n    return 7\n")
-    first = runs(metrics={"own": f"{metric}:number"})
-    table = tmp_path / "runs/seed-1.operations.csv"
-    assert table.read_text().splitlines()[1].endswith(",7")
-    metric.write_text("def number(given):\n    return 8\n")
-    assert all(after > before for before, after in zip(first, runs(metrics={"own": f"{metric}:number"})))
-    assert table.read_text().splitlines()[1].endswith(",8")
+def test_other_seeds_make_runs_anew(runs):
+    first = runs()
+    assert all(after > before for before, after in zip(first, runs(seeds=3)))
 
 
 def test_run_that_was_broken_off_is_made(runs, tmp_path):
     first = runs()
-    (tmp_path / "runs/seed-2.operations.csv").unlink()
-    second = runs()
-    assert first[:2] == second[:2] and first[2] < second[2]
+    (tmp_path / "runs/part-0.operations.csv").unlink()
+    assert all(after > before for before, after in zip(first, runs()))
 
 
-def test_refused_run_leaves_the_others(tmp_path, capsys):
-    program = tmp_path / "program"
-    program.write_text(PROGRAM.replace("cat <<", '[ "$3" = 1 ] && { echo "refused: bad-drop 0" >&2; exit 1; }\ncat <<', 1))
+def test_seeds_of_one_scenario_are_one_process_and_others_one_each(tmp_path):
+    log, program = tmp_path / "log", tmp_path / "program"
+    program.write_text(PROGRAM.replace("#!/bin/sh\n", f'#!/bin/sh\necho "$*" >> {log}\n'))
     program.chmod(0o755)
-    assert main(json.dumps(ONE), "only", str(program), str(tmp_path / "runs"), "1", "2") == 1
-    assert capsys.readouterr().err == "seed 1: refused: bad-drop 0\n"
-    assert sorted(path.name for path in (tmp_path / "runs").glob("*.csv")) == ["seed-2.losses.csv", "seed-2.operations.csv"]
+    cases: list[tuple[dict, str]] = [({}, "2"), ({"kind": "random", "size": 30, "drop_link": "random"}, "11")]
+    for change, counts in cases:
+        log.write_text("")
+        assert main(json.dumps({**ONE, **change}), "only", str(program), str(tmp_path / "runs"), "0") == 0
+        found = re.findall(r"--show losses .*--replications (\d+)", log.read_text())
+        assert "".join(found) == counts
+
+
+def test_later_metric_makes_runs_anew(runs, tmp_path, program):
+    metric = tmp_path / "metric.py"
+    metric.write_text("def number(given):\n    return 7 + len(given.links)\n")
+    real = json.dumps({**ONE, "metrics": {"own": f"{metric}:number"}}), "only", str(program), str(tmp_path / "real"), "0"
+    if "operations" not in subprocess.run([program, "--help"], capture_output=True, text=True, check=True).stdout:
+        pytest.skip("the program has no table of operations")
+    table = tmp_path / "real/part-0.metrics.csv"
+    assert main(*real) == 0 and table.read_text() == "seed,own\n1,8\n2,8\n"
+    time.sleep(0.02)
+    metric.write_text("def number(given):\n    return 9\n")
+    assert main(*real) == 0 and table.read_text() == "seed,own\n1,9\n2,9\n"
+
+
+def test_refused_run_is_told_with_its_seeds(tmp_path, capsys):
+    program = tmp_path / "program"
+    program.write_text('#!/bin/sh\necho "refused: bad-drop 0" >&2\nexit 1\n')
+    program.chmod(0o755)
+    assert main(json.dumps(ONE), "only", str(program), str(tmp_path / "runs"), "0") == 1
+    assert capsys.readouterr().err == "seeds 1, 2: refused: bad-drop 0\n"
+    assert sorted(path.name for path in (tmp_path / "runs").iterdir()) == ["seed-1.toml", "seed-2.toml"]

@@ -1,4 +1,4 @@
-"""Runs: their tables are the program's, computed from one trace; the cache, refusals, and what is kept."""
+"""Runs: their tables are the program's; the cache, refusals, and what is kept."""
 import hashlib
 import io
 import json
@@ -7,6 +7,7 @@ import re
 import stat
 import subprocess
 import sys
+import tarfile
 import tomllib
 from dataclasses import replace
 from pathlib import Path
@@ -14,9 +15,10 @@ from pathlib import Path
 import pandas
 import pytest
 
+from second_tables import second
 from srm_lab import RefusedError, ScenarioError, __version__, read_scenario, run, save, scenario
 from srm_lab.follower import Follower
-from srm_lab.frames import COLUMNS
+from srm_lab.frames import COLUMNS, Text, frame_of
 from srm_lab.tables import read_trace
 
 ROOT = Path(__file__).resolve().parents[2]
@@ -32,35 +34,71 @@ RANDOM = [
 ]
 
 
+SHOWN = {"constants": "timers"}
+
+
 def as_the_program(frame, name):
     """A table of the package in the program's columns and words."""
-    frame = frame.drop(columns="seed")
-    if name == "losses":
-        done = frame["recovered"].notna()
-        frame["delay"] = (frame["delay"].astype("string") + "/" + frame["round_trip"].astype("string")).where(done)
-    columns = {"losses": ["round_trip", "ended", "node"], "links": ["a", "b"], "members": []}[name]
-    return frame.drop(columns=columns).to_csv(index=False, na_rep="-")
+    frame = frame.drop(columns=[column for column in ("ended", "a", "b") if column in frame and name != "timers"])
+    if name != "members":
+        frame = frame.drop(columns="node", errors="ignore")
+    if "round_trip" in frame:
+        told = frame["delay"].astype("string") + "/" + frame.pop("round_trip").astype("string")
+        frame["delay"] = told.where(frame["delay"].notna())
+    return frame.to_csv(index=False, na_rep="-")
+
+
+@pytest.fixture(scope="module")
+def has_operations(program):
+    """Whether the program has the table of operations."""
+    return "operations" in subprocess.run([program, "--help"], capture_output=True, text=True, check=True).stdout
 
 
 @pytest.mark.parametrize("text", [*(path.read_text() for path in FILES), *(given.text() for given in RANDOM)],
                          ids=[*(path.stem for path in FILES), *(f"random-{place}" for place in range(len(RANDOM)))])
-def test_tables_of_one_trace_are_those_that_the_program_writes(text, program, srm_lab):
-    runs = run(read_scenario(text), seeds=[3], tables=TABLES, program=program, cache=None)
-    for name in TABLES:
-        assert as_the_program(runs.table(name), name) == srm_lab(text, "--seed", "3", "--show", name), name
+def test_tables_are_those_that_the_program_writes_and_that_a_trace_gives(text, program, srm_lab, has_operations):
+    given = read_scenario(text)
+    computed = second(given, read_trace(io.StringIO(srm_lab(text, "--seed", "3"))))
+    tables = [*(name for name in computed if name != "operations" or has_operations), "trace", "constants"]
+    runs = run(given, seeds=[3], tables=tables, program=program, cache=None)
+    for name in tables:
+        written = srm_lab(text, "--seed", "3", "--replications", "1", "--show", SHOWN.get(name, name))
+        assert as_the_program(runs.table(name), name) == written, name
+        if name in computed:
+            assert srm_lab(text, "--seed", "3", "--show", name) == computed[name], name
 
 
-def test_losses_have_numbers_and_ends(program):
+# a table of operations as the program writes it: losers that all recovered, one that left, one that is open, and none
+OPERATIONS = b"""seed,source,page,number,losers,recovered,left,detected,asked,requests,repairs,last,delay
+0,0,0,0,3,3,0,12,14,1,1,4,5/8
+0,0,0,1,1,0,1,11,12,1,1,-,-
+1,0,0,0,1,0,0,11,12,1,0,-,-
+1,0,0,1,1,1,0,2,-,0,0,2,0/4
+"""
+
+
+def test_operations_are_read():
+    frame = frame_of("operations", [Text(7, scenario.chain(5), OPERATIONS), Text(9, scenario.chain(5), OPERATIONS)])
+    assert list(frame.columns) == ["scenario", "seed", *COLUMNS["operations"]]
+    assert frame["scenario"].tolist() == [7] * 4 + [9] * 4
+    assert frame["delay"].tolist() == [5, pandas.NA, pandas.NA, 0] * 2 and frame["round_trip"].tolist()[3] == 4
+    assert frame["asked"].tolist()[2:4] == [12, pandas.NA] and set(map(str, frame.dtypes[2:])) == {"Int64"}
+    empty = frame_of("operations", [Text(0, scenario.chain(5), OPERATIONS.splitlines(True)[0])])
+    assert len(empty) == 0 and list(empty.columns) == list(frame.columns)
+
+
+def test_losses_have_numbers_and_ends(program, has_operations):
     # the chain of the tutorial: detected at 70 and 80, recovered at 140 and 150, round trips 40 and 60
     given = scenario.chain(4, delay=10).constants(c2=0, d2=0).drawing(0).draw(0).draw(50).drop(1, 0)
-    runs = run(given, tables=["losses", "operations", "timers"], program=program, cache=None)
+    runs = run(given, tables=["losses", "timers"], program=program, cache=None)
     losses = runs.losses
     assert list(losses["detected"]) == [70, 80] and list(losses["recovered"]) == [140, 150]
     assert list(losses["delay"]) == [70, 70] and list(losses["round_trip"]) == [40, 60]
     assert list(losses["ended"]) == ["recovered", "recovered"]
-    one, = runs.operations.to_dict("records")
-    assert (one["losers"], one["requests"], one["repairs"], one["last_delay"], one["last_round_trip"]) == (
-        2, 1, 1, 70, 60)
+    if has_operations:
+        one, = run(given, tables="operations", program=program, cache=None).operations.to_dict("records")
+        assert (one["losers"], one["requests"], one["repairs"], one["last"], one["delay"], one["round_trip"]) == (
+            2, 1, 1, 3, 70, 60)
     timers = runs.timers[["member", "kind", "set", "ended", "how"]].values.tolist()
     assert [2, "request", 70, 110, "expired"] in timers
     assert [3, "request", 80, 120, "backed off"] in timers
@@ -84,12 +122,11 @@ def test_constants_that_members_adapt(program, tmp_path):
 
 def test_loss_of_a_member_that_leaves_is_no_open_one(program):
     given = scenario.chain(4, delay=10).constants(c2=0, d2=0).drawing(0).draw(0).draw(50).drop(1, 0)
-    gone = run(given.leave([3], at=100), tables=["losses", "operations"], program=program, cache=None)
-    assert list(gone.losses["ended"]) == ["recovered", "left"]
-    assert gone.operations[["losers", "left", "open", "last_delay"]].values.tolist() == [[2, 1, 0, 70]]
-    short = run(given.ends(145), tables=["losses", "operations"], program=program, cache=None)
-    assert list(short.losses["ended"]) == ["recovered", "open"]
-    assert short.operations["open"].tolist() == [1] and short.operations["last_delay"].isna().all()
+    gone, late, short = (run(changed, program=program, cache=None).losses for changed in (
+        given.leave([3], at=100), given.leave([3], at=145).ends(145), given.ends(145)))
+    assert list(gone["ended"]) == ["recovered", "left"]
+    assert list(late["ended"]) == list(short["ended"]) == ["recovered", "open"]  # a leave at the end is none
+    assert short["recovered"].isna().tolist() == [False, True] and short["round_trip"].tolist() == [40, 60]
 
 
 @pytest.fixture
@@ -102,23 +139,34 @@ def counted(program, tmp_path):
     return path, lambda: len(log.read_text().splitlines())
 
 
-def test_program_runs_once_for_a_seed_and_not_again_for_what_the_cache_has(counted, tmp_path):
+def test_program_runs_once_for_a_table_and_not_again_for_what_the_cache_has(counted, tmp_path):
     path, runs = counted
     given = scenario.chain(4).lose(every=9, link=1)
     words = {"program": path, "cache": tmp_path / "cache"}
-    first = run(given, range(3), tables=[*TABLES, "timers", "operations"], **words)
-    assert runs() == 3
-    again = run(given, range(3), tables=TABLES, **words)
-    assert runs() == 3
-    for name in TABLES:
+    first = run(given, range(3), tables=[*TABLES, "timers"], **words)
+    assert runs() == 6  # three tables of three seeds each, and three traces
+    again = run(given, range(3), tables=[*TABLES, "timers"], **words)
+    assert runs() == 6 and len(list((tmp_path / "cache").iterdir())) == 4
+    for name in (*TABLES, "timers"):
         pandas.testing.assert_frame_equal(first.table(name), again.table(name))
-    run(given, range(4), tables=TABLES, **words)
-    assert runs() == 4
-    run(given.constants(c1=3), range(3), tables=TABLES, **words)
+    run(given, range(4), tables="losses", **words)
     assert runs() == 7
+    run(given.constants(c1=3), range(3), tables="losses", **words)
+    assert runs() == 8
     path.write_text(path.read_text() + "# another program\n")
-    run(given, range(3), tables=TABLES, **words)
-    assert runs() == 10
+    run(given, range(3), tables="losses", **words)
+    assert runs() == 9
+
+
+def test_neighbouring_seeds_are_one_process(counted):
+    path, runs = counted
+    given = scenario.chain(4).lose(every=9, link=1)
+    seeds = [4, 5, 6, 9, 2, 3]
+    found = run(given, seeds, program=path, cache=None).losses
+    assert runs() == 3 and found["seed"].drop_duplicates().tolist() == seeds
+    for seed, own in found.groupby("seed"):
+        alone = run(given, [seed], program=path, cache=None).losses
+        pandas.testing.assert_frame_equal(own.reset_index(drop=True), alone)
 
 
 def test_refusal_has_the_line_of_the_program(tmp_path):
@@ -231,6 +279,7 @@ def test_tables_say_what_they_are_of(program, srm_lab, tmp_path):
     text = given.text().removeprefix("# of no matter\n")
     assert runs.losses.attrs == {
         "table": "losses", "seeds": [4, 7], "program": version, "package": __version__, "options": [],
+        "program_sha256": hashlib.sha256(program.read_bytes()).hexdigest(),
         "scenario": hashlib.sha256(text.encode()).hexdigest()}
     assert runs.summary("delay", by="member").attrs["scenario"] == given.digest()
     runs.save(tmp_path)
@@ -239,7 +288,20 @@ def test_tables_say_what_they_are_of(program, srm_lab, tmp_path):
 
 def test_version_is_that_of_the_package():
     project = tomllib.loads((ROOT / "python/pyproject.toml").read_text())["project"]
-    assert __version__ == project["version"]
+    assert __version__.split("+")[0] == project["version"]
+
+
+def test_packed_package_knows_its_commit():
+    if not (ROOT / ".git").exists():
+        pytest.skip("this is no repository of git")
+    name = "python/src/srm_lab/__init__.py"
+    archive = subprocess.run(["git", "archive", "HEAD", name], cwd=ROOT, capture_output=True, check=True).stdout
+    with tarfile.open(fileobj=io.BytesIO(archive)) as packed:
+        file = packed.extractfile(name)
+        assert file is not None
+        text = file.read().decode()
+    commit = subprocess.run(["git", "log", "-1", "--format=%h"], cwd=ROOT, capture_output=True, text=True, check=True).stdout
+    assert f'COMMIT = "{commit.strip()}"' in text
 
 
 def test_tables_as_parquet(program, tmp_path):

@@ -11,25 +11,28 @@ from pathlib import Path
 import pytest
 
 HERE = Path(__file__).resolve().parents[2] / "experiments"
-PROGRAM = """#!/bin/sh
-# srm_lab --explain --seed N: one loss, or a refusal where REFUSE says so
-[ "$3" = "$REFUSE" ] && { echo "refused: bad-drop 0" >&2; exit 1; }
-cat <<END
-time,member,cause,ref,result,lost,sent
-0,0,draw,0/0/0,sent,0,0:0
-1,0,draw,0/0/1,sent,0,0:1
-1001,1,data,0:1,fresh,1,-
-3001,1,ask,0/0/0,sent,0,1:0
-4001,0,request,1:0,plan,0,-
-5001,0,answer,0/0/0,sent,0,0:2
-6001,1,repair,0:2,fixed,0,-
+PROGRAM = r"""#!/bin/sh
+# srm_lab: one loss of each of three seeds, or a refusal where the scenario has REFUSE nodes
+grep -q "size = $REFUSE$" && { echo "refused: bad-drop 0" >&2; exit 1; }
+case "$*" in
+*operations*) cat <<END
+seed,source,page,number,losers,recovered,left,detected,asked,requests,repairs,last,delay
+1,0,0,0,1,1,0,1001,3001,1,1,1,5000/2000
+2,0,0,0,1,1,0,1001,3001,1,1,1,5000/2000
+3,0,0,0,1,1,0,1001,3001,1,1,1,5000/2000
 END
+;; *) cat <<END
+seed,member,source,page,number,detected,recovered,delay
+1,1,0,0,0,1001,6001,5000/2000
+2,1,0,0,0,1001,6001,5000/2000
+3,1,0,0,0,1001,6001,5000/2000
+END
+;; esac
 """
-METRIC = "def repairs_of_the_source(runs):\n    return int(runs.members['repairs'][0])\n"
-ONE: dict = {"kind": "chain", "size": 2, "drop_link": 0, "seeds": 3}
+ONE: dict = {"kind": "chain", "size": [2, 3], "drop_link": 0, "seeds": 3}
 CONFIG: dict[str, dict] = {"experiments": {"one": ONE},
                            "figures": {"delay": {"draw": "lines", "of": ["one"], "x": "size", "y": "ratio"}}}
-ROWS = [f"chain,2,0,{seed},0/0/0,1,0,0,1,1,5000,5000,5000,2000,1" for seed in (1, 2, 3)]
+ROWS = [f"chain,{size},0,{seed},0/0/0,1,0,0,1,1,5000,5000,5000,2000" for size in (2, 3) for seed in (1, 2, 3)]
 
 
 @pytest.fixture
@@ -41,35 +44,31 @@ def sweep(tmp_path):
     program.write_text(PROGRAM)
     program.chmod(0o755)
     config = tmp_path / "config.json"
-    (tmp_path / "metric.py").write_text(METRIC)
 
     def run(refuse, **change):
-        one = {**ONE, "metrics": {"own": f"{tmp_path}/metric.py:repairs_of_the_source"}}
-        config.write_text(json.dumps({**CONFIG, "experiments": {"one": one}, "program": str(program),
-                                      "results": str(tmp_path / "results"), **change}))
-        return subprocess.run(
-            ["snakemake", "--snakefile", HERE / "Snakefile", "--configfile", config, "--cores", "2", "--keep-going",
-             "--nolock", "--rerun-incomplete", "--show-failed-logs"],
-            cwd=HERE, env={**os.environ, "REFUSE": refuse}, capture_output=True, text=True, check=False)
+        config.write_text(json.dumps({**CONFIG, "program": str(program), "results": str(tmp_path / "results"), **change}))
+        return subprocess.run(["make", "-s", f"--directory={HERE.parent}", "experiments", f"CONFIG={config}",
+                               f"SRM_LAB={program}", "JOBS=2"], env={**os.environ, "REFUSE": refuse},
+                              capture_output=True, text=True, check=False)
 
     return run
 
 
-def test_refused_run_fails_alone_and_is_run_again(sweep, tmp_path):
-    first = sweep("2")
+def test_refused_point_fails_alone_and_is_run_again(sweep, tmp_path):
+    first = sweep("3")
     results = tmp_path / "results"
-    runs = results / "runs/one/only"
+    kept, refused = (results / f"runs/one/size-{size}" for size in (2, 3))
     assert first.returncode != 0 and "refused: bad-drop 0" in first.stderr
     assert not (results / "tables/one.csv").exists()
-    assert [(runs / f"seed-{seed}.losses.csv").exists() for seed in (1, 2, 3)] == [True, False, True]
-    assert (runs / "part-0.log").read_text() == "seed 2: refused: bad-drop 0\n"
-    before = [(runs / f"seed-{seed}.losses.csv").stat().st_mtime_ns for seed in (1, 3)]
+    assert (kept / "part-0.losses.csv").exists() and not (refused / "part-0.losses.csv").exists()
+    assert (refused / "part-0.log").read_text() == "seeds 1, 2, 3: refused: bad-drop 0\n"
+    before = (kept / "part-0.losses.csv").stat().st_mtime_ns
     second = sweep("none")
     assert second.returncode == 0, second.stderr
-    assert [(runs / f"seed-{seed}.losses.csv").stat().st_mtime_ns for seed in (1, 3)] == before
+    assert (kept / "part-0.losses.csv").stat().st_mtime_ns == before
     assert (results / "tables/one.csv").read_text().splitlines()[1:] == ROWS
     report = (results / "report.html").read_text()
-    assert "<svg" in report and "size: 2" in report and "pandas" in report and "http-equiv" not in report
+    assert "<svg" in report and "size:" in report and "pandas" in report and "http-equiv" not in report
     assert not re.search(r'(src|href)="(?!#|data:)', report.replace("xlink:href=\"#", ""))
 
 
@@ -110,7 +109,7 @@ def started(tmp_path):
         waiting = f"touch {begun}\nuntil [ -e {waits_for} ]; do sleep 0.1; done\n"
         program.write_text(PROGRAM.replace("#!/bin/sh\n", f"#!/bin/sh\n{waiting}"))
         program.chmod(0o755)
-        config.write_text(json.dumps({"experiments": {"one": {**ONE, "seeds": 1}}, "results": name}))
+        config.write_text(json.dumps({"experiments": {"one": {**ONE, "size": 2, "seeds": 1}}, "results": name}))
         return subprocess.Popen(["make", "-s", f"--directory={HERE.parent}", "experiments", f"CONFIG={config}",
                                  f"SRM_LAB={program}", "JOBS=1"], stderr=subprocess.PIPE, stdout=subprocess.PIPE,
                                 text=True)
@@ -128,7 +127,7 @@ def test_sweeps_with_different_results_run_side_by_side(started, tmp_path):
         out, told = sweep.communicate(timeout=600)
         assert sweep.returncode == 0, told
         assert out.splitlines()[-1] == str(tmp_path / name / "report.html")
-        assert len((tmp_path / name / "tables/one.csv").read_text().splitlines()) == 2
+        assert (tmp_path / name / "tables/one.csv").read_text().splitlines()[1:] == ROWS[:3]
 
 
 def test_second_sweep_into_the_same_results_is_refused_at_once(started, tmp_path):

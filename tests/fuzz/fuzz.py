@@ -112,6 +112,7 @@ def expected(scenario: Scenario, seed: int, trace: bytes) -> dict[str, bytes]:
         "trace": trace,
         "members": fuzz_tables.members_table(scenario, rows),
         "losses": fuzz_tables.losses_table(scenario, losses),
+        "operations": fuzz_tables.operations_table(scenario, rows, losses),
         "links": fuzz_tables.links_table(scenario, rows),
         "timers": fuzz_tables.timers_table(replay.timers),
     }

@@ -11,6 +11,7 @@ HEADERS = {
     "trace": "time,member,cause,ref,result,lost,sent",
     "members": "member,role,node,joined,left,drawn,heard,lost,fixed,open,requests,repairs,sessions",
     "losses": "member,source,page,number,detected,recovered,delay",
+    "operations": "source,page,number,losers,recovered,left,detected,asked,requests,repairs,last,delay",
     "links": "link,data,requests,repairs,sessions,dropped",
     "timers": "time,member,cause,ref,c1,c2,d1,d2,ave_dup_req,ave_req_delay,ave_dup_rep,ave_rep_delay",
 }
@@ -121,6 +122,29 @@ def losses_table(scenario: Scenario, losses: dict[tuple[int, Numbers], tuple[int
         delay = None if recovered is None else f"{recovered - detected}/{round_trip}"
         lines.append(csv(member, *name, detected, recovered, delay))
     return table("losses", lines)
+
+
+def operations_table(
+    scenario: Scenario, rows: list[Row], losses: dict[tuple[int, Numbers], tuple[int, int | None]]
+) -> bytes:
+    """One line for each name that some member lost, from what became of the losses and from what was sent for the name."""
+    gone = {row.member for row in rows if row.cause == "leave"}
+    lines = []
+    for name in sorted({name for _, name in losses}):
+        of_name = {member: times for (member, lost), times in losses.items() if lost == name}
+        recovered = {member: fixed for member, (_, fixed) in of_name.items() if fixed is not None}
+        left = sum(member in gone for member in of_name if member not in recovered)
+        asked, answered = (
+            [row.time for row in rows if (row.cause, row.result, row.ref) == (cause, "sent", name)] for cause in ("ask", "answer")
+        )
+        last, delay = None, None
+        if recovered and len(recovered) + left == len(of_name):
+            last = max(recovered, key=lambda member: (recovered[member], -member))
+            delay = f"{recovered[last] - of_name[last][0]}/{scenario.round_trip(last, name[0])}"
+        detected = min(found for found, _ in of_name.values())
+        counts = (len(of_name), len(recovered), left, detected, min(asked, default=None), len(asked), len(answered))
+        lines.append(csv(*name, *counts, last, delay))
+    return table("operations", lines)
 
 
 def links_table(scenario: Scenario, rows: list[Row]) -> bytes:

@@ -35,6 +35,10 @@ member,source,page,number,detected,recovered,delay
 3,0,0,0,13,18,5/6
 4,0,0,0,14,19,5/8
 """
+OPERATIONS = b"""\
+source,page,number,losers,recovered,left,detected,asked,requests,repairs,last,delay
+0,0,0,3,3,0,12,14,1,1,4,5/8
+"""
 TIMERS = b"""\
 time,member,cause,ref,c1,c2,d1,d2,ave_dup_req,ave_req_delay,ave_dup_rep,ave_rep_delay
 0,0,join,-,1000,0,1000,0,-,-,-,-
@@ -59,9 +63,9 @@ PARENTS: Table = {
 
 
 def worked() -> dict[str, bytes]:
-    """The five tables of the example."""
+    """The six tables of the example."""
     tables = {it: (TOP / "examples" / f"chain-of-five-one-loss.{it}.csv").read_bytes() for it in ("trace", "members", "links")}
-    return {**tables, "losses": LOSSES, "timers": TIMERS}
+    return {**tables, "losses": LOSSES, "operations": OPERATIONS, "timers": TIMERS}
 
 
 def program(tables: dict[str, bytes]) -> fuzz.Run:

@@ -217,6 +217,7 @@ class Tables(CommandLineCase):
             (["--show", "trace"], "trace"),
             (["--show", "members"], "members"),
             (["--show", "losses"], "losses"),
+            (["--show", "operations"], "operations"),
             (["--show=links"], "links"),
             (["--show", "links", "--seed", "3"], "links"),
             (["--show", "timers"], "timers"),
@@ -369,7 +370,7 @@ class Traces(CommandLineCase):
 
     def test_other_tables_are_written_at_the_end(self) -> None:
         text = chain(40, 1, 1)
-        for table in ("members", "losses", "links"):
+        for table in ("members", "losses", "operations", "links"):
             words = ["--show", table]
             with self.subTest(words=words):
                 self.assertGreater(self.allocations(words, text, FULL), 9 / 10 * self.allocations(words, text))
@@ -513,8 +514,8 @@ Options:
           The seed of the members' random words [default: 0]
       --replications <1..=1000000>
           How many runs are made, with the seeds from --seed on: each row begins with its seed
-      --show <trace|members|losses|links|timers>
-          The table: a row for each event, member, loss, link or adapted timer [default: trace]
+      --show <trace|members|losses|operations|links|timers>
+          The table: a row for each event, member, loss, lost operation, link or adapted timer [default: trace]
       --check
           Only read and check the scenario, and write nothing
       --explain

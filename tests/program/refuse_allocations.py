@@ -35,7 +35,7 @@ CREWS = {
     "window, pool": ["--engine", "window", "--crew", "pool"],
     **{f"window, {crew}, 2 workers": ["--engine", "window", "--crew", crew, "--workers", "2"] for crew in ("bag", "team")},
 }
-TABLES = {table: ["--show", table] for table in ("members", "losses", "links", "timers")}
+TABLES = {table: ["--show", table] for table in ("members", "losses", "operations", "links", "timers")}
 REPLICATIONS = {
     f"replications, {table}, {workers} workers": ["--replications", "3", "--show", table, "--workers", str(workers)]
     for table, workers in (("trace", 1), ("losses", 1), ("trace", 3), ("losses", 3))

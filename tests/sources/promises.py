@@ -4,9 +4,9 @@
 usage: tests/sources/promises.py
 
 A row's second column cites calls (`Net::build`, `laws::one_path`, `advance`), after a colon clauses of them, and in brackets
-definitions. Each has to be there; so has each edit that the third column names, and each script and test of the fourth. Each
-edit that is there is named, and can be applied: each text that it replaces stands once in its file. Ends with status 1 where one
-of these is not so.
+definitions. Each has to be there; so has each edit that the third column names, and each script that the page names. Each edit
+that is there is named, and can be applied: each text that it replaces stands once in its file. Ends with status 1 where one of
+these is not so.
 """
 import pathlib
 import re
@@ -46,7 +46,7 @@ class Sources:
 
 
 def rows(text: str) -> Iterator[tuple[str, list[str]]]:
-    """Each row of the page with its crate, as four cells."""
+    """Each row of the page with its crate, as three cells."""
     crate = ""
     for line in text.splitlines():
         if line.startswith("## "):
@@ -75,16 +75,6 @@ def faults_of_citing(crate: str, cell: str, found: Sources) -> Iterator[str]:
                 yield f"there is no clause {it}"
 
 
-def faults_of_tests(cell: str, found: Sources) -> Iterator[str]:
-    """The scripts and tests of a cell that are not there."""
-    for script in re.findall(r"`((?:tests|bench|tools)/[\w./]+)`", cell):
-        if not (TOP / script).exists():
-            yield f"there is no {script}"
-    for name in NAME.findall(cell):
-        if "_" in name and name not in found.names and not any(it.name == name for it in found.functions):
-            yield f"there is no test {name}"
-
-
 def misfits(edit: pathlib.Path) -> Iterator[str]:
     """The texts that an edit replaces and that do not stand once in their file."""
     source, old, texts = edit, "", {edit: ""}
@@ -106,12 +96,13 @@ def faults(text: str, found: Sources) -> Iterator[str]:
     edits = {edit.stem: edit for edit in sorted(TOP.glob("crates/*/must-fail/*.edit"))}
     named = set()
     for crate, cells in rows(text):
-        if len(cells) != 4:
-            yield f"{crate}: {cells[0][:60]}: it has not four cells"
+        if len(cells) != 3:
+            yield f"{crate}: {cells[0][:60]}: it has not three cells"
             continue
         named |= {it for it in re.findall(r"`([a-z0-9_]+)`", cells[2])}
-        told = [*faults_of_citing(crate, cells[1], found), *faults_of_tests(cells[3], found)]
-        yield from (f"{crate}: {cells[0][:60]}: {fault}" for fault in told)
+        yield from (f"{crate}: {cells[0][:60]}: {fault}" for fault in faults_of_citing(crate, cells[1], found))
+    scripts = re.findall(r"`((?:tests|bench|tools)/[\w./]+)`", text)
+    yield from (f"there is no {script}" for script in scripts if not (TOP / script).exists())
     yield from (f"the edit {name} is named, and is not there" for name in sorted(named - edits.keys()))
     yield from (f"the edit {name} is not named" for name in sorted(edits.keys() - named))
     for edit in edits.values():

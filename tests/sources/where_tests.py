@@ -53,6 +53,7 @@ PROMISES = """\
 | promise | function and clause | edits |
 |---|---|---|
 | A sum is a sum. | `Adder::sum`: `value` | |
+| It is a member. | `Adder` | |
 """
 
 
@@ -94,6 +95,7 @@ class Where(unittest.TestCase):
         _, text = self.told("Adder::react")
         self.assertIn("that of Member::react", text)
         self.assertIn("crates/srm_sum/proofs/adder/AdderMember/react/", text)
+        self.assertIn("docs/PROMISES.md:6  It is a member.", text)
 
     def test_definition_is_printed_whole(self) -> None:
         status, text = self.told("sum_of")

@@ -164,11 +164,18 @@ const WIDTH_LINE: OptionLine = OptionLine {
 
 const SHOW_LINE: OptionLine = OptionLine {
     name: SHOW,
-    takes: "trace|members|losses|links|timers",
+    takes: "trace|members|losses|operations|links|timers",
     default: Some("trace"),
-    about: "The table: a row for each event, member, loss, link or adapted timer",
+    about: "The table: a row for each event, member, loss, lost operation, link or adapted timer",
     reader: Reader::Text,
-    words: &["trace", "members", "losses", "links", "timers"],
+    words: &[
+        "trace",
+        "members",
+        "losses",
+        "operations",
+        "links",
+        "timers",
+    ],
 };
 
 /// An option that takes nothing.
@@ -217,10 +224,11 @@ const CREWS: [(&str, CrewKind); 4] = [
 const WIDTHS: [(&str, Width); 2] = [("least", Width::Least), ("promise", Width::Promise)];
 
 /// The words of `--show`.
-const SHOWS: [(&str, Show); 5] = [
+const SHOWS: [(&str, Show); 6] = [
     ("trace", Show::Trace),
     ("members", Show::Members),
     ("losses", Show::Losses),
+    ("operations", Show::Operations),
     ("links", Show::Links),
     ("timers", Show::Timers),
 ];

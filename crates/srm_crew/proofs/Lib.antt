@@ -9,3 +9,4 @@ pub mod Ordering
 pub mod JobsShared
 pub mod JobPieces
 pub mod Hearers
+mod WatchedSoFar

@@ -8,3 +8,4 @@ pub mod Passes
 pub mod Shared
 pub mod Recorded
 pub mod Teams
+pub mod Watched

@@ -21,6 +21,7 @@ pub mod rule;
 mod shared;
 pub mod taken;
 pub mod team_crew;
+pub mod watching;
 pub mod worked;
 mod worker;
 mod workers;

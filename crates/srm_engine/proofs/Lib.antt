@@ -19,3 +19,5 @@ pub mod SoonGroups
 pub mod Beginnings
 pub mod WindowLemmas
 pub mod Merging
+mod KeptLemmas
+mod Leaving

@@ -16,3 +16,5 @@ pub mod Streams
 pub mod RowRuns
 pub mod WindowStreams
 pub mod WindowEngines
+pub mod KeptMembers
+pub mod ByRows

@@ -1,6 +1,7 @@
 //! Engines: the sequential run of all members, and the run in windows of time.
 #![tactic(auto)]
 
+pub mod by_rows;
 mod cells;
 mod cutting;
 mod ends;
@@ -9,6 +10,7 @@ pub mod fault;
 mod groups;
 mod halt;
 mod handing;
+pub mod kept_laws;
 pub mod kept_rows;
 mod merge;
 pub mod next_times;

@@ -1,3 +1,4 @@
 pub mod InPieces
 pub mod Sums
+pub mod WatchLemmas
 pub mod Zips

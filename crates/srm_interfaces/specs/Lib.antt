@@ -2,3 +2,4 @@ pub mod Faults
 pub mod Crews
 pub mod Hearers
 pub mod Sinks
+pub mod Watches

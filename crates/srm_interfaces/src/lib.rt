@@ -4,3 +4,6 @@
 pub mod crew;
 pub mod fault;
 pub mod sink;
+pub mod watch;
+pub mod watch_crew;
+pub mod watched;

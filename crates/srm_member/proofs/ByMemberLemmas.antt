@@ -105,7 +105,7 @@ itself : (r : Row) → (r.key.member == r.key.member) ≡ true
 itself r = eq-eqb _ _ refl
 
 -- the first of some rows stands somewhere among rows that are alike, and the others are alike
-alike_first : (x : Row) (xs ys : List Row) → AreAlike (x ∷ xs) ys
+pub alike_first : (x : Row) (xs ys : List Row) → AreAlike (x ∷ xs) ys
     → (pre post : List Row) × (ys ≡ pre ++ x ∷ post) × AreAlike xs (pre ++ post)
 alike_first x xs ys h =
     let m = x.key.member in
@@ -135,7 +135,7 @@ alike_first x xs ys h =
     )
 
 -- no row of any member is no row
-alike_none : (ys : List Row) → AreAlike [] ys → ys ≡ []
+pub alike_none : (ys : List Row) → AreAlike [] ys → ys ≡ []
 alike_none [] h = refl
 alike_none (y ∷ ys) h =
     let m = y.key.member in

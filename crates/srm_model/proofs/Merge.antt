@@ -38,13 +38,13 @@ module _ {A : Type 0} (cmp : A → A → Ordering) (o : IsTotalOrder cmp) where
   self : (x : A) → cmp x x ≡ Equal
   self x = grind arith
 
-  one_self : (x : A) → one_if (is_eq (cmp x x)) ≡ 1
+  pub one_self : (x : A) → one_if (is_eq (cmp x x)) ≡ 1
   one_self x = ap (λ r. one_if (is_eq r)) (self x)
 
   none_less : (x y : A) → cmp x y ≡ Less → one_if (is_eq (cmp x y)) ≡ 0
   none_less x y e = ap (λ r. one_if (is_eq r)) e
 
-  no_same : (x : A) (xs : List A) → AllAfter cmp x xs → same x xs ≡ 0
+  pub no_same : (x : A) (xs : List A) → AllAfter cmp x xs → same x xs ≡ 0
   no_same x [] h = refl
   no_same x (y ∷ ys) h = let a = none_less x y h.0 in let b = no_same x ys h.1 in omega arith
 
@@ -55,7 +55,7 @@ module _ {A : Type 0} (cmp : A → A → Ordering) (o : IsTotalOrder cmp) where
   some_same x z (y ∷ ys) (inr q) e = let a = some_same x z ys q e in omega arith
 
   -- what is not below y comes after x, where y does
-  after_all : (x y : A) (ys : List A) → cmp x y ≡ Less → NoneBelow cmp y ys → AllAfter cmp x ys
+  pub after_all : (x y : A) (ys : List A) → cmp x y ≡ Less → NoneBelow cmp y ys → AllAfter cmp x ys
   after_all x y [] l h = tt
   after_all x y (z ∷ zs) l h = (
     elim (cmp y z) as (λ r. cmp y z ≡ r → cmp x z ≡ Less) [
@@ -188,7 +188,7 @@ in_joined z (suc n) i rows h = elim (in_append z (rows_of_member i rows) (joined
 
 -- ---- what a permutation keeps
 
-count-sum_by : {A : Type 0} (p : A → Bool) (xs : List A) → count_if p xs ≡ sum_by (λ x. one_if (p x)) xs
+pub count-sum_by : {A : Type 0} (p : A → Bool) (xs : List A) → count_if p xs ≡ sum_by (λ x. one_if (p x)) xs
 count-sum_by p [] = refl
 count-sum_by p (x ∷ xs) = ap (λ n. one_if (p x) + n) (count-sum_by p xs) ∙ sym (sum_by-cons (λ x. one_if (p x)) x xs)
 

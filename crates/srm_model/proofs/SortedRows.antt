@@ -18,7 +18,7 @@ module _ {A : Type 0} (cmp : A → A → Ordering) (o : IsTotalOrder cmp) where
   sorted_tail : (x : A) (xs : List A) → IsSorted cmp (x ∷ xs) → IsSorted cmp xs
   sorted_tail x xs h k d low high = rw suc-add at (h (suc k) d (omega arith) (omega arith))
 
-  sorted_rises : (xs : List A) → IsSorted cmp xs → Rises cmp xs
+  pub sorted_rises : (xs : List A) → IsSorted cmp xs → Rises cmp xs
   sorted_rises [] h = tt
   sorted_rises (x ∷ xs) h = (
     none_below x xs (λ j lt. sorted_far (λ a b. is_lt (cmp a b)) (ranks_by o (λ (a : A). a)) (x ∷ xs) h 0 (suc j) x (omega arith)

@@ -12,7 +12,8 @@ use Rattle.srm_cell.specs.Setting.{IsFit, Setting}
 use Rattle.srm_cell.specs.Cells.{Done}
 use Rattle.srm_model.specs.World.{World, run, IsReached}
 use Rattle.srm_model.specs.Laws.{by_member, new_rows}
-use Rattle.srm_model.specs.WindowRuns.{rows_in}
+use Rattle.srm_model.specs.Schedules.{IsSafe}
+use Rattle.srm_model.specs.WindowRuns.{OwnResult, AreOwnRuns, IsMerge, rows_in}
 use Rattle.srm_model.specs.WindowLaws.{MembersStandAlike}
 use Rattle.srm_model.proofs.Merge.{merges_agree, in_range, too_low, all_low, seq_members}
 use Rattle.srm_model.proofs.OneWindow.{part_of, part_rows, new_rows_are}
@@ -87,7 +88,7 @@ beyond : (n i m : ℕ) → in_range i n m ≡ false → i ≤ m → i + n ≤ m
 beyond n i m e le = grind (arith, all_low)
 
 -- the rows of each member stand in one order
-listed_alike : (n : ℕ) (rows : List Row) → AllIn (λ (r : Row). r.key.member < n) rows → AreAlike (joined (by_member 0 n rows)) rows
+pub listed_alike : (n : ℕ) (rows : List Row) → AllIn (λ (r : Row). r.key.member < n) rows → AreAlike (joined (by_member 0 n rows)) rows
 listed_alike n rows h m =
     of_joined m n 0 rows
     ∙ elim (in_range 0 n m) as (λ b. in_range 0 n m ≡ b → cond b (rows_of_member m rows) [] ≡ rows_of_member m rows) [
@@ -103,14 +104,29 @@ new_members s w v fit reached n h =
     let r = part_rows s fit n w v h in
     subst (AllIn (λ (r : Row). r.key.member < s.traffic.members)) (sym (new_rows_are w v r.0 r.2)) (seq_members s fit r.1 good)
 
+-- a window's rows in order of their keys are those that the run adds
+merge_is_new : (s : Setting) (w : World) (till : ℕ) (fit : IsFit s) (reached : IsReached s w) (within : till ≤ s.traffic.until)
+    (safe : IsSafe s till w) (results : List OwnResult) (runs : AreOwnRuns till 0 w.cells results) (rows : List Row)
+    → IsMerge (rows_in results) rows → new_rows w (part_of s w till fit reached within safe results runs).0 ≡ rows
+merge_is_new s w till fit reached within safe results runs rows merge =
+    let part = part_of s w till fit reached within safe results runs in
+    let p = part.1 in
+    merges_agree s w part.0 fit reached p.first.steps p.first.comes rows
+    (rows_rise rows merge.in_order) (subst (λ l. IsPermutation (joined l) rows) p.rows merge.all)
+
+-- a window's results have the rows of each member of them
+pub results_by_member : (s : Setting) (w : World) (till : ℕ) → IsFit s → IsReached s w → till ≤ s.traffic.until → IsSafe s till w
+    → (results : List OwnResult) → AreOwnRuns till 0 w.cells results → (rows : List Row) → IsMerge (rows_in results) rows
+    → rows_in results ≡ by_member 0 s.traffic.members rows
+results_by_member s w till fit reached within safe results runs rows merge =
+    (part_of s w till fit reached within safe results runs).1.rows
+    ∙ ap (by_member 0 s.traffic.members) (merge_is_new s w till fit reached within safe results runs rows merge)
+
 pub members_stand_alike : MembersStandAlike
 members_stand_alike s w till fit reached within safe results runs rows merge =
     let part = part_of s w till fit reached within safe results runs in
-    let p = part.1 in
-    let new : new_rows w part.0 ≡ rows = merges_agree s w part.0 fit reached p.first.steps p.first.comes rows
-    (rows_rise rows merge.in_order) (subst (λ l. IsPermutation (joined l) rows) p.rows merge.all) in
-    let all = subst (AllIn (λ (r : Row). r.key.member < s.traffic.members)) new
-    (new_members s w part.0 fit reached p.first.steps p.first.comes) in
-    let listed : joined (rows_in results) ≡ joined (by_member 0 s.traffic.members rows) =
-    ap joined (p.rows ∙ ap (by_member 0 s.traffic.members) new) in
-    subst (λ l. AreAlike l rows) (sym listed) (listed_alike s.traffic.members rows all)
+    let all = subst (AllIn (λ (r : Row). r.key.member < s.traffic.members))
+    (merge_is_new s w till fit reached within safe results runs rows merge)
+    (new_members s w part.0 fit reached part.1.first.steps part.1.first.comes) in
+    subst (λ l. AreAlike l rows) (sym (ap joined (results_by_member s w till fit reached within safe results runs rows merge)))
+    (listed_alike s.traffic.members rows all)

@@ -32,6 +32,8 @@ pub enum Show {
     Members,
     /// A row for each name that a member lost.
     Losses,
+    /// A row for each name that some member lost.
+    Operations,
     /// A row for each link.
     Links,
     /// A row for each join, and each event that adapts a member's timers.

@@ -17,9 +17,10 @@ use Rattle.srm_cell.specs.Crossings.{crossings}
 use Rattle.srm_cell.specs.Setting.{setting_of, traffic_of}
 use Rattle.srm_model.specs.World.{World, RunMeetsFull}
 use Rattle.srm_options.specs.declared.options.Show.{Show}
-use Rattle.srm_options.specs.declared.options.Show.TheVariants.{Trace, Members, Losses, Links, Timers}
+use Rattle.srm_options.specs.declared.options.Show.TheVariants.{Trace, Members, Losses, Operations, Links, Timers}
 use Rattle.srm_report.specs.Links.{links_table}
 use Rattle.srm_report.specs.Losses.{losses_table}
+use Rattle.srm_report.specs.Operations.{operations_table}
 use Rattle.srm_report.specs.Members.{member_rows, members_table}
 use Rattle.srm_report.specs.Seeds.{with_seed, IsLine, AreLines}
 use Rattle.srm_report.specs.SinkLaws.{count_more}
@@ -28,7 +29,7 @@ use Rattle.srm_report.specs.Tables.{lines_of, table_lines}
 use Rattle.srm_report.specs.Timers.{timers_header, timers_line, timers_rows, timers_rows_by, timers_line_by, timers_table}
 use Rattle.srm_report.specs.Trace.{trace_fields, trace_header, trace_line, trace_of_rows}
 use Rattle.srm_report.proofs.LineLemmas.{decimal_is_plain, role_is_plain, time_is_plain, delay_is_plain, cause_is_plain, ref_is_plain}
-use Rattle.srm_report.proofs.LineLemmas.{told_is_plain, sent_is_plain}
+use Rattle.srm_report.proofs.LineLemmas.{last_delay_is_plain, last_is_plain, told_is_plain, sent_is_plain}
 use Rattle.srm_program.specs.declared.fault.LabFault.{LabFault}
 use Rattle.srm_program.specs.declared.fault.LabFault.TheVariants.{BadCut, BadWidth, ShareFull, NoMemory, CountFull, WriteFault}
 use Rattle.srm_program.specs.Reports.{report_of, shown, failures_after_run, EndsIn, TellsReport}
@@ -59,10 +60,12 @@ timers_all (r ∷ rows) =
 
 pub shown_by_rows : (show : Show) (p : PlainScenario) (net : Network) (rows : List Row) (totals : List ℕ)
     → shown show p net rows totals ≡ table_lines (columns_shown show) (rows_shown show p net rows totals)
-unfolding table_lines trace_of_rows trace_header trace_line members_table losses_table links_table timers_table timers_header
+unfolding table_lines trace_of_rows trace_header trace_line members_table losses_table operations_table links_table timers_table
+    timers_header
 shown_by_rows Trace p net rows totals = ap (λ l. trace_header ++ l) (lines_mapped trace_fields rows)
 shown_by_rows Members p net rows totals = refl
 shown_by_rows Losses p net rows totals = refl
+shown_by_rows Operations p net rows totals = refl
 shown_by_rows Links p net rows totals = refl
 shown_by_rows Timers p net rows totals = ap (λ l. timers_header ++ l) (timers_all rows)
 
@@ -112,6 +115,12 @@ rows_are_lines Losses p net rows totals =
     let d = decimal_is_plain in
     let t = time_is_plain in
     mapped_lines _ (λ k. (d _, (d _, (d _, (d _, (t _, (t _, (delay_is_plain _ _ _, tt)))))))) _
+rows_are_lines Operations p net rows totals =
+    let d = decimal_is_plain in
+    let t = time_is_plain in
+    let l = last_is_plain in
+    let w = last_delay_is_plain net in
+    mapped_lines _ (λ n. (d _, (d _, (d _, (d _, (d _, (d _, (t _, (t _, (d _, (d _, (l _, (w _ _, tt))))))))))))) _
 rows_are_lines Links p net rows totals =
     let d = decimal_is_plain in
     mapped_lines _ (λ l. (d _, (d _, (d _, (d _, (d _, (d _, tt))))))) _
@@ -121,6 +130,7 @@ pub columns_are_line : (show : Show) → IsLine (columns_shown show)
 columns_are_line Trace = (refl, (refl, (refl, (refl, (refl, (refl, (refl, tt)))))))
 columns_are_line Members = (refl, (refl, (refl, (refl, (refl, (refl, (refl, (refl, (refl, (refl, (refl, (refl, (refl, tt)))))))))))))
 columns_are_line Losses = (refl, (refl, (refl, (refl, (refl, (refl, (refl, tt)))))))
+columns_are_line Operations = (refl, (refl, (refl, (refl, (refl, (refl, (refl, (refl, (refl, (refl, (refl, (refl, tt))))))))))))
 columns_are_line Links = (refl, (refl, (refl, (refl, (refl, (refl, tt))))))
 columns_are_line Timers = (refl, (refl, (refl, (refl, (refl, (refl, (refl, (refl, (refl, (refl, (refl, (refl, tt))))))))))))
 
@@ -177,6 +187,7 @@ pub whole_told : (T : Type 0) (v : T) (breaks : LabFault → World → Type 0) (
 whole_told T v breaks p net seed Trace old new h = h
 whole_told T v breaks p net seed Members old new h = h
 whole_told T v breaks p net seed Losses old new h = h
+whole_told T v breaks p net seed Operations old new h = h
 whole_told T v breaks p net seed Links old new h = h
 whole_told T v breaks p net seed Timers old new h = h
 

@@ -16,10 +16,11 @@ use Rattle.srm_model.specs.World.{World, RunMeetsFull}
 use Rattle.srm_options.specs.declared.options.Engine.TheVariants.{Step}
 use Rattle.srm_options.specs.declared.options.Options.{Options}
 use Rattle.srm_options.specs.declared.options.Show.{Show}
-use Rattle.srm_options.specs.declared.options.Show.TheVariants.{Trace, Members, Losses, Links, Timers}
+use Rattle.srm_options.specs.declared.options.Show.TheVariants.{Trace, Members, Losses, Operations, Links, Timers}
 use Rattle.srm_report.specs.Links.{link_columns, link_rows}
 use Rattle.srm_report.specs.Losses.{loss_columns, loss_cmp, loss_row, losses_in}
 use Rattle.srm_report.specs.Members.{member_columns, member_rows}
+use Rattle.srm_report.specs.Operations.{names_lost, operation_columns, operation_row}
 use Rattle.srm_report.specs.Seeds.{with_seed}
 use Rattle.srm_report.specs.Standings.{GrewBy}
 use Rattle.srm_report.specs.Tables.{lines_of, table_lines}
@@ -37,6 +38,7 @@ abbrev pub columns_shown : Show → List (List ℕ)
 columns_shown Trace = trace_columns
 columns_shown Members = member_columns
 columns_shown Losses = loss_columns
+columns_shown Operations = operation_columns
 columns_shown Links = link_columns
 columns_shown Timers = timers_columns
 
@@ -45,6 +47,7 @@ abbrev pub rows_shown : Show → PlainScenario → Network → List Row → List
 rows_shown Trace p net rows totals = map trace_fields rows
 rows_shown Members p net rows totals = member_rows rows 0 p.members
 rows_shown Losses p net rows totals = map (loss_row net rows) (ordered loss_cmp (losses_in rows))
+rows_shown Operations p net rows totals = map (operation_row net rows) (names_lost rows)
 rows_shown Links p net rows totals = link_rows totals
 rows_shown Timers p net rows totals = flat_map timers_rows rows
 

@@ -9,6 +9,7 @@ use Rattle.srm_cell.specs.Setting.{setting_of, traffic_of}
 use Rattle.srm_model.specs.World.{World, IsReached, IsLast, RunMeetsFull}
 use Rattle.srm_report.specs.Links.{links_table}
 use Rattle.srm_report.specs.Losses.{losses_table}
+use Rattle.srm_report.specs.Operations.{operations_table}
 use Rattle.srm_report.specs.Members.{members_table}
 use Rattle.srm_report.specs.Timers.{timers_table}
 use Rattle.srm_report.specs.Trace.{trace_of_rows}
@@ -17,13 +18,14 @@ use Rattle.srm_program.specs.declared.fault.LabFault.{LabFault}
 use Rattle.srm_program.specs.declared.fault.LabFault.TheVariants.{BadCut, BadWidth, ShareFull, NoMemory, CountFull}
 use Rattle.srm_program.specs.declared.fault.LabFault.TheVariants.{WriteFault}
 use Rattle.srm_options.specs.declared.options.Show.{Show}
-use Rattle.srm_options.specs.declared.options.Show.TheVariants.{Trace, Members, Losses, Links, Timers}
+use Rattle.srm_options.specs.declared.options.Show.TheVariants.{Trace, Members, Losses, Operations, Links, Timers}
 
 -- what is shown of a run of a scenario on its network that left these rows and totals
 abbrev pub shown : Show → PlainScenario → Network → List Row → List ℕ → List ℕ
 shown Trace p net rows totals = trace_of_rows rows
 shown Members p net rows totals = members_table p rows
 shown Losses p net rows totals = losses_table net rows
+shown Operations p net rows totals = operations_table net rows
 shown Links p net rows totals = links_table totals
 shown Timers p net rows totals = timers_table rows
 
@@ -112,6 +114,7 @@ TellsReport breaks p net seed Trace old new r =
     TellsListing trace_of_rows most_gathered breaks p net seed old new r
 TellsReport breaks p net seed Members old new r = TellsTable p net seed Members old new r
 TellsReport breaks p net seed Losses old new r = TellsTable p net seed Losses old new r
+TellsReport breaks p net seed Operations old new r = TellsTable p net seed Operations old new r
 TellsReport breaks p net seed Links old new r = TellsTable p net seed Links old new r
 TellsReport breaks p net seed Timers old new r =
     TellsListing timers_table most_gathered breaks p net seed old new r

@@ -39,6 +39,9 @@ const MEMBERS: &[u8] =
 
 const LOSSES: &[u8] = b"seed,member,source,page,number,detected,recovered,delay\n";
 
+const OPERATIONS: &[u8] =
+    b"seed,source,page,number,losers,recovered,left,detected,asked,requests,repairs,last,delay\n";
+
 const LINKS: &[u8] = b"seed,link,data,requests,repairs,sessions,dropped\n";
 
 const TIMERS: &[u8] =
@@ -52,6 +55,7 @@ fn header(show: Show) -> &'static [u8]
         Show::Trace => TRACE,
         Show::Members => MEMBERS,
         Show::Losses => LOSSES,
+        Show::Operations => OPERATIONS,
         Show::Links => LINKS,
         Show::Timers => TIMERS,
     }

@@ -18,6 +18,7 @@ use srm_report::links::links_text;
 use srm_report::losses_sink::LossesSink;
 use srm_report::members_sink::MembersSink;
 use srm_report::no_rows::NoRows;
+use srm_report::operations_sink::OperationsSink;
 use srm_report::outlet::Outlet;
 use srm_report::timers::TimersListing;
 use srm_report::trace::TraceListing;
@@ -76,6 +77,7 @@ pub fn run<R: Threads + Wait + Sync, O: Outlet>(
         Show::Trace => write_listing(rt, alloc, &asked, TraceListing, members, outlet),
         Show::Members => write_members(rt, alloc, &asked, members, outlet),
         Show::Losses => write_losses(rt, alloc, &asked, members, outlet),
+        Show::Operations => write_operations(rt, alloc, &asked, members, outlet),
         Show::Links => write_links(rt, alloc, &asked, members, outlet),
         Show::Timers => write_listing(rt, alloc, &asked, TimersListing, members, outlet),
     }
@@ -126,6 +128,32 @@ fn write_losses<R: Threads + Wait + Sync, O: Outlet>(
         → TellsRefusedFor asked.now.scenario.now asked.now.net.now seed asked.now.options result }
 {
     let mut sink = LossesSink::new(alloc);
+    match hand_rows(rt, alloc, asked, members, &mut sink) {
+        Ok(_) => write_text(sink.text(alloc, asked.net), outlet),
+        Err(fault) => Err(fault),
+    }
+}
+
+// Finds what became of each operation that was lost, and writes the table of operations at the end.
+fn write_operations<R: Threads + Wait + Sync, O: Outlet>(
+    rt: &R,
+    alloc: Global,
+    asked: &Asked,
+    members: Vec<Box<dyn Member>>,
+    outlet: &mut O,
+) -> Result<(), LabFault>
+    requires accepted { IsAccepted asked.now.scenario.now }
+    requires network { asked.now.net.now ≡ network_of asked.now.scenario.now }
+    requires boxes { (seed : ℕ) × HoldOpeningRecords asked.now.scenario.now asked.now.net.now seed (map (λ b. plain b) members.items) }
+    requires workers { MayShareBag asked.now.options.workers }
+    requires count { O.failures outlet.old < 2 ^ 64 - 1 }
+    ensures failures { O.failures outlet.new ≡ failures_after_run result (O.failures outlet.old) }
+    ensures table { (seed : ℕ) → HoldOpeningRecords asked.now.scenario.now asked.now.net.now seed (map (λ b. plain b) members.items)
+        → TellsTable asked.now.scenario.now asked.now.net.now seed Show.Operations (O.taken outlet.old) (O.taken outlet.new) result }
+    ensures asked { (seed : ℕ) → HoldOpeningRecords asked.now.scenario.now asked.now.net.now seed (map (λ b. plain b) members.items)
+        → TellsRefusedFor asked.now.scenario.now asked.now.net.now seed asked.now.options result }
+{
+    let mut sink = OperationsSink::new(alloc);
     match hand_rows(rt, alloc, asked, members, &mut sink) {
         Ok(_) => write_text(sink.text(alloc, asked.net), outlet),
         Err(fault) => Err(fault),

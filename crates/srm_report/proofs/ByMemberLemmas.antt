@@ -20,13 +20,16 @@ use Rattle.srm_report.specs.declared.course.Course.{Course}
 use Rattle.srm_report.specs.declared.loss.Loss.{Loss}
 use Rattle.srm_report.specs.declared.losses_sink.LossesSink.{LossesSink}
 use Rattle.srm_report.specs.declared.members_sink.MembersSink.{MembersSink}
+use Rattle.srm_report.specs.declared.operations_sink.OperationsSink.{OperationsSink}
 use Rattle.srm_report.specs.Courses.{TellLosses, LoseInTurn, course_of}
 use Rattle.srm_report.specs.Losses.{loss_cmp, losses_in, detected_at, recovered_at}
 use Rattle.srm_report.specs.LossesSinks.{FindsLosses}
 use Rattle.srm_report.specs.Members.{counts_of}
 use Rattle.srm_report.specs.MembersSinks.{CountsRows}
+use Rattle.srm_report.specs.OperationsSinks.{FindsOperations}
 use Rattle.srm_report.specs.Rows.{is_name, row_time}
 use Rattle.srm_report.proofs.CourseLemmas.{loss_total, losses_apart}
+use Rattle.srm_report.proofs.SendingLemmas.{left_alike, sent_alike}
 
 -- ---- losses in turn
 
@@ -157,6 +160,15 @@ pub finds_alike : (a b : LossesSink) (xs ys : List Row) → AreAlike xs ys → F
 finds_alike a b xs ys alike found before after o was =
     tell_alike (before ++ xs) (before ++ ys) b.losses (alike_after before xs ys alike)
     (found before after (turn_alike (before ++ xs ++ after) (before ++ ys ++ after) (alike_within before xs ys after alike) o) was)
+
+pub operations_alike : (a b : OperationsSink) (xs ys : List Row) → AreAlike xs ys → FindsOperations a xs b → FindsOperations a ys b
+operations_alike a b xs ys alike found before after o was =
+    let t = found before after (turn_alike (before ++ xs ++ after) (before ++ ys ++ after) (alike_within before xs ys after alike) o) was in
+    let more = alike_after before xs ys alike in record {
+      lost = tell_alike (before ++ xs) (before ++ ys) b.losses more t.lost;
+      asked = λ n. t.asked n ∙ sent_alike n (before ++ xs) (before ++ ys) more;
+      gone = λ m. t.gone m ∙ left_alike m (before ++ xs) (before ++ ys) more;
+    }
 
 pub counts_alike : (a b : MembersSink) (xs ys : List Row) → AreAlike xs ys → CountsRows a xs b → CountsRows a ys b
 counts_alike a b xs ys alike counted before was m =

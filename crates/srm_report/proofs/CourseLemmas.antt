@@ -1,14 +1,14 @@
 -- What became of losses, row by row.
 use Rattle.std.proofs.Common.{◌≡◌, ◌∙◌, ℕ, zero, suc, ◌<◌, ◌≢◌, ◌⊎◌, inl, inr, Bool, true, false, cond, T, ◌&&◌, ◌||◌, List, [], ◌∷◌, ◌++◌}
 use Rattle.std.proofs.Common.{length, map, Option, Some, None, is_some, refl, ap, sym, subst, append-nil, append_assoc, ◌==◌, eqb-true}
-use Rattle.std.proofs.Common.{eq-eqb, true≢false, arith, Less, Equal, Greater, is_lt, get_or}
+use Rattle.std.proofs.Common.{eq-eqb, true≢false, arith, Equal, get_or}
 use Rattle.std.specs.List.{Contains, list_any}
 use Rattle.std.specs.List as lists
 use Rattle.std.specs.Option.{option_map, option_map_or, option_or}
-use Rattle.std.specs.Ordering.{eq_by_cmp, is_eq, ordering_reverse}
+use Rattle.std.specs.Ordering.{eq_by_cmp, is_eq}
 use Rattle.std.specs.Cmp.{IsTotalOrder, on_total}
 use Rattle.std.specs.Cmp.Lexicographic.{nat_list_cmp_total}
-use Rattle.std.specs.FinMap.Entries.{put, find, find-put, is_some-find, is_sorted, is_sorted-put, below_all, by_order}
+use Rattle.std.specs.FinMap.Entries.{put, find, find-put, is_some-find, is_sorted, is_sorted-put}
 use Rattle.std.proofs.lemmas.List.Folds.{find-append}
 use Rattle.std.proofs.lemmas.Grind.{flat_map-append}
 use Rattle.std.proofs.lemmas.List.{map-append}
@@ -17,12 +17,11 @@ use Rattle.std.proofs.lemmas.Map.Views.{Contains-from_any}
 use Rattle.std.proofs.lemmas.Bool.{and_from, and_right, or_right, false_from_ne_true}
 use Rattle.srm_net.specs.declared.packet.Name.{Name}
 use Rattle.srm_net.specs.Orders.{place, ordered}
-use Rattle.srm_net.proofs.Basics.{T_first, T_second, T_less, or_turn}
+use Rattle.srm_net.proofs.Basics.{T_first, T_second}
 use Rattle.srm_member.specs.declared.told.Told.{Told}
 use Rattle.srm_member.specs.declared.told.Told.TheVariants.{Fixed}
 use Rattle.srm_member.specs.declared.row.Row.{Row}
 use Rattle.srm_member.specs.Orderly.{LostIn, FixedIn, brought}
-use Rattle.srm_member.proofs.OrderLemmas.{place-comm}
 use Rattle.srm_member.proofs.TableChanges.{same_names, name_is}
 use Rattle.srm_member.specs.Kinds.{is_fixed}
 use Rattle.srm_report.specs.declared.course.Course.{Course}
@@ -30,6 +29,7 @@ use Rattle.srm_report.specs.declared.loss.Loss.{Loss}
 use Rattle.srm_report.specs.Courses.{TellLosses, after_fix, fixed_at, course_of, losing, name_fixed}
 use Rattle.srm_report.specs.Losses.{loss_cmp, numbers_of_loss, losses_in, detects, fixes, detected_at, recovered_at}
 use Rattle.srm_report.specs.Rows.{is_name, row_time}
+use Rattle.srm_report.proofs.EntryLemmas.{any_ordered, below_none, keys_put, keys_same, ordered_push}
 use Rattle.std.proofs.lemmas.List.Folds.{list_any-append}
 
 -- ---- losses that tie are the same
@@ -59,18 +59,6 @@ pub second_true : (a b : Bool) → (a && b) ≡ true → b ≡ true
 second_true true b h = h
 second_true false b h = absurd (true≢false (sym h))
 
-first_false : (a b : Bool) → (a || b) ≡ false → a ≡ false
-first_false true b h = h
-first_false false b h = refl
-
-second_false : (a b : Bool) → (a || b) ≡ false → b ≡ false
-second_false true b h = absurd (true≢false h)
-second_false false b h = h
-
-T_both : (a b : Bool) → T a → T b → T (a && b)
-T_both true b p q = q
-T_both false b p q = p
-
 pub told_is : (t : Told) → is_fixed t ≡ true → t ≡ Fixed
 told_is t h = grind arith
 
@@ -90,52 +78,6 @@ in_named n (x ∷ xs) (suc i, l, e) = or_right (is_name n x) (list_any (is_name 
 
 -- ---- entries
 
-abbrev keys : List (Loss × Course) → List Loss
-keys es = map (λ e. e.0) es
-
--- a new entry takes its place among the losses
-keys_put : (k : Loss) (c : Course) (es : List (Loss × Course)) → find loss_cmp k es ≡ None → keys (put loss_cmp k c es)
-    ≡ place loss_cmp k (keys es)
-keys_put k c [] none = refl
-keys_put k c (e ∷ es) none =
-    elim (loss_cmp k e.0) as (λ o. loss_cmp k e.0 ≡ o → keys (by_order o ((k, c) ∷ e ∷ es) ((e.0, c) ∷ es) (e ∷ put loss_cmp k c es))
-    ≡ place loss_cmp k (e.0 ∷ keys es)) [
-      | Less ↦ λ q. ap (λ b. cond b (e.0 ∷ place loss_cmp k (keys es)) (k ∷ e.0 ∷ keys es))
-          (sym (ap is_lt (loss_total.antisymm e.0 k ∙ ap ordering_reverse q)))
-      | Equal ↦ λ q. let n : Some e.1 ≡ None = sym (ap (λ o. cond (is_eq o) (Some e.1) (find loss_cmp k es)) q) ∙ none in cc
-      | Greater ↦ λ q.
-          ap (λ ks. e.0 ∷ ks) (keys_put k c es (sym (ap (λ o. cond (is_eq o) (Some e.1) (find loss_cmp k es)) q) ∙ none))
-          ∙ ap (λ b. cond b (e.0 ∷ place loss_cmp k (keys es)) (k ∷ e.0 ∷ keys es))
-          (sym (ap is_lt (loss_total.antisymm e.0 k ∙ ap ordering_reverse q)))
-    ] refl
-
-below_less : (k x : Loss) (es : List (Loss × Course)) → loss_cmp k x ≡ Less → T (below_all loss_cmp x es) → T (below_all loss_cmp k es)
-below_less k x [] q h = tt
-below_less k x (e ∷ es) q h =
-    T_both _ _ (subst (λ o. T (is_lt o)) (sym (loss_total.trans k x e.0 q (T_less _ (T_first _ _ h)))) tt)
-    (below_less k x es q (T_second _ _ h))
-
-below_none : (k : Loss) (es : List (Loss × Course)) → T (below_all loss_cmp k es) → find loss_cmp k es ≡ None
-below_none k [] h = refl
-below_none k (e ∷ es) h = ap (λ o. cond (is_eq o) (Some e.1) (find loss_cmp k es)) (T_less _ (T_first _ _ h))
-    ∙ below_none k es (T_second _ _ h)
-
--- an entry put in anew leaves the losses as they are
-keys_same : (k : Loss) (c : Course) (es : List (Loss × Course)) → T (is_sorted loss_cmp es) → (old : Course) → find loss_cmp k es ≡ Some old
-    → keys (put loss_cmp k c es) ≡ keys es
-keys_same k c [] s old h = cc
-keys_same k c (e ∷ es) s old h =
-    elim (loss_cmp k e.0) as (λ o. loss_cmp k e.0 ≡ o → keys (by_order o ((k, c) ∷ e ∷ es) ((e.0, c) ∷ es) (e ∷ put loss_cmp k c es))
-    ≡ e.0 ∷ keys es) [
-      | Less ↦ λ q.
-          let none = below_none k es (below_less k e.0 es q (T_first _ _ s)) in
-          let n : None ≡ Some old = sym none ∙ sym (ap (λ o. cond (is_eq o) (Some e.1) (find loss_cmp k es)) q) ∙ h in
-          cc
-      | Equal ↦ λ q. refl
-      | Greater ↦ λ q. ap (λ ks. e.0 ∷ ks) (keys_same k c es (T_second _ _ s) old
-          (sym (ap (λ o. cond (is_eq o) (Some e.1) (find loss_cmp k es)) q) ∙ h))
-    ] refl
-
 -- each entry is found
 pub found : (es : List (Loss × Course)) → T (is_sorted loss_cmp es) → (i : ℕ) (d : Loss × Course) → i < length es
     → find loss_cmp (get_or es i d).0 es ≡ Some (get_or es i d).1
@@ -144,34 +86,11 @@ found (e ∷ es) s zero d l = ap (λ b. cond b (Some e.1) (find loss_cmp e.0 es)
 found (e ∷ es) s (suc i) d l = elim (losses_apart (get_or es i d).0 e.0) [
   | inl same ↦
       let rest : find loss_cmp (get_or es i d).0 es ≡ Some (get_or es i d).1 = found es (T_second _ _ s) i d (omega arith) in
-      let none : find loss_cmp e.0 es ≡ None = below_none e.0 es (T_first _ _ s) in
+      let none : find loss_cmp e.0 es ≡ None = below_none loss_cmp loss_total e.0 es (T_first _ _ s) in
       let n : None ≡ Some (get_or es i d).1 = sym none ∙ ap (λ k. find loss_cmp k es) (sym same) ∙ rest in
       cc
   | inr ne ↦ ap (λ b. cond b (Some e.1) (find loss_cmp (get_or es i d).0 es)) ne ∙ found es (T_second _ _ s) i d (omega arith)
 ]
-
--- ---- order
-
-ordered_push : (xs : List Loss) (x : Loss) → list_any (eq_by_cmp loss_cmp x) xs ≡ false → ordered loss_cmp (xs ++ x ∷ [])
-    ≡ place loss_cmp x (ordered loss_cmp xs)
-ordered_push [] x h = refl
-ordered_push (y ∷ ys) x h =
-    ap (place loss_cmp y) (ordered_push ys x (second_false (eq_by_cmp loss_cmp x y) _ h))
-    ∙ place-comm loss_cmp loss_total y x
-    (λ e. true≢false (sym (ap is_eq (loss_total.antisymm x y ∙ ap ordering_reverse e)) ∙ first_false _ _ h)) (ordered loss_cmp ys)
-
-any_cond : (p : Loss → Bool) (b : Bool) (x y : Loss) (xs ys : List Loss) → list_any p xs ≡ (p x || list_any p ys)
-    → list_any p (cond b (y ∷ xs) (x ∷ y ∷ ys)) ≡ (p x || (p y || list_any p ys))
-any_cond p true x y xs ys h = ap (λ b. p y || b) h ∙ or_turn (p y) (p x) (list_any p ys)
-any_cond p false x y xs ys h = refl
-
-any_place : (p : Loss → Bool) (x : Loss) (ys : List Loss) → list_any p (place loss_cmp x ys) ≡ (p x || list_any p ys)
-any_place p x [] = refl
-any_place p x (y ∷ ys) = any_cond p (is_lt (loss_cmp y x)) x y (place loss_cmp x ys) ys (any_place p x ys)
-
-any_ordered : (p : Loss → Bool) (xs : List Loss) → list_any p (ordered loss_cmp xs) ≡ list_any p xs
-any_ordered p [] = refl
-any_ordered p (x ∷ xs) = any_place p x (ordered loss_cmp xs) ∙ ap (λ b. p x || b) (any_ordered p xs)
 
 -- ---- one row more
 
@@ -268,7 +187,8 @@ module _ (rows : List Row) (r : Row) (front : List Name) (n : Name) (es : List (
 
   not_among : list_any (eq_by_cmp loss_cmp k) (losses_in (rows ++ q0 ∷ [])) ≡ false
   not_among =
-      sym (any_ordered (eq_by_cmp loss_cmp k) (losses_in (rows ++ q0 ∷ []))) ∙ ap (list_any (eq_by_cmp loss_cmp k)) (sym was.losses)
+      sym (any_ordered loss_cmp loss_total (eq_by_cmp loss_cmp k) (losses_in (rows ++ q0 ∷ [])))
+      ∙ ap (list_any (eq_by_cmp loss_cmp k)) (sym was.losses)
       ∙ sym (is_some-find loss_cmp k es) ∙ ap is_some none
 
   lost_now : course_of (rows ++ q1 ∷ []) k ≡ Some (record { detected = r.key.time; recovered = None })
@@ -296,9 +216,9 @@ module _ (rows : List Row) (r : Row) (front : List Name) (n : Name) (es : List (
   one_more = record {
     sorted = is_sorted-put loss_cmp loss_total k (record { detected = r.key.time; recovered = None }) es was.sorted;
     losses =
-        keys_put k (record { detected = r.key.time; recovered = None }) es none
+        keys_put loss_cmp loss_total k (record { detected = r.key.time; recovered = None }) es none
         ∙ ap (place loss_cmp k) was.losses
-        ∙ sym (ordered_push (losses_in (rows ++ q0 ∷ [])) k not_among)
+        ∙ sym (ordered_push loss_cmp loss_total (losses_in (rows ++ q0 ∷ [])) k not_among)
         ∙ ap (ordered loss_cmp) (sym grown);
     courses = λ j. find-put loss_cmp loss_total j k (record { detected = r.key.time; recovered = None }) es ∙ elim (losses_apart j k) [
       | inl e ↦ subst (λ x. cond (eq_by_cmp loss_cmp x k) (Some (record { detected = r.key.time; recovered = None })) (find loss_cmp x es)
@@ -379,7 +299,8 @@ module _ (rows : List Row) (r : Row) (es : List (Loss × Course)) (was : TellLos
     put_now : TellLosses (rows ++ r ∷ []) (put loss_cmp k2 mended es)
     put_now = record {
       sorted = is_sorted-put loss_cmp loss_total k2 mended es was.sorted;
-      losses = keys_same k2 mended es was.sorted _ (was.courses k2 ∙ before_fix) ∙ was.losses ∙ ap (ordered loss_cmp) losses_stay;
+      losses = keys_same loss_cmp loss_total k2 mended es was.sorted _ (was.courses k2 ∙ before_fix) ∙ was.losses
+          ∙ ap (ordered loss_cmp) losses_stay;
       courses = λ j. find-put loss_cmp loss_total j k2 mended es ∙ elim (losses_apart j k2) [
         | inl e ↦ subst (λ x. cond (eq_by_cmp loss_cmp x k2) (Some mended) (find loss_cmp x es) ≡ course_of (rows ++ r ∷ []) x) (sym e)
             (ap (λ b. cond b (Some mended) (find loss_cmp k2 es)) (loss_is k2) ∙ sym after)

@@ -3,12 +3,18 @@ pub mod ByMemberLemmas
 pub mod Compare
 pub mod CountLemmas
 pub mod CourseLemmas
+pub mod EntryLemmas
+mod CutLemmas
 pub mod LineLemmas
 pub mod LinkLemmas
 pub mod ListingLemmas
 pub mod LossLemmas
 pub mod MemberLemmas
+pub mod OperationLemmas
 pub mod PieceLemmas
 pub mod SeedLemmas
+pub mod SendingLemmas
 pub mod SinkLemmas
 pub mod TableLemmas
+pub mod TallyLemmas
+mod TurnLemmas

@@ -11,13 +11,17 @@ use Rattle.srm_net.specs.declared.packet.Name.{Name}
 use Rattle.srm_net.specs.declared.packet.Packet.{Packet}
 use Rattle.srm_net.specs.declared.packet.PacketId.{PacketId}
 use Rattle.srm_net.specs.declared.role.Role.{Role}
+use Rattle.srm_net.specs.Network.{Network}
+use Rattle.srm_net.specs.Paths.{round}
 use Rattle.srm_member.specs.declared.told.Told.{Told}
 use Rattle.srm_member.specs.declared.row.Word.{Word}
 use Rattle.srm_member.specs.declared.row.About.{About}
 use Rattle.srm_report.specs.declared.line.Line.{Line}
+use Rattle.srm_report.specs.declared.recovery.Recovery.{Recovery}
 use Rattle.srm_report.specs.Lines.{line_text, line_written}
 use Rattle.srm_report.specs.Losses.{delay_text, ratio}
 use Rattle.srm_report.specs.Members.{role_word}
+use Rattle.srm_report.specs.Operations.{last_delay_text, last_text}
 use Rattle.srm_report.specs.Rows.{time_text}
 pub use Rattle.srm_report.specs.Seeds.{IsPlain, ArePlain}
 use Rattle.srm_report.specs.Trace.{cause_word, name_text, packet_text, ref_text, sent_text, told_word}
@@ -110,6 +114,14 @@ time_is_plain (Some at) = decimal_is_plain at
 
 pub delay_is_plain : (trip : ℕ) (detected recovered : Option ℕ) → IsPlain (delay_text trip detected recovered)
 delay_is_plain trip detected recovered = grind (arith, ratio_is_plain)
+
+pub last_is_plain : (o : Option Recovery) → IsPlain (last_text o)
+last_is_plain None = refl
+last_is_plain (Some r) = decimal_is_plain r.member
+
+pub last_delay_is_plain : (net : Network) (source : ℕ) (o : Option Recovery) → IsPlain (last_delay_text net source o)
+last_delay_is_plain net source None = refl
+last_delay_is_plain net source (Some r) = delay_is_plain (round net r.member source) (Some r.detected) (Some r.recovered)
 
 pub role_is_plain : (r : Role) → IsPlain (role_word r)
 role_is_plain r = grind arith

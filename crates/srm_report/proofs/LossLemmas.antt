@@ -85,7 +85,7 @@ detect_all rows r i es e was = subst (λ l. TellLosses (rows ++ losing r l ∷ [
 -- ---- entries
 
 -- what an entry says of its loss
-told : (rows : List Row) (k : Loss) (c : Course) → course_of rows k ≡ Some c → (detected_at rows k ≡ Some c.detected)
+pub told : (rows : List Row) (k : Loss) (c : Course) → course_of rows k ≡ Some c → (detected_at rows k ≡ Some c.detected)
     × (recovered_at rows k ≡ c.recovered)
 told rows k c e = grind arith
 

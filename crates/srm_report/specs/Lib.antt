@@ -1,6 +1,7 @@
 pub mod Counted
 pub mod Courses
 pub mod Devices
+pub mod KeptLines
 pub mod Lines
 pub mod Links
 pub mod ListingSinks
@@ -10,11 +11,16 @@ pub mod LossesSinks
 pub mod Members
 pub mod MembersSinks
 pub mod NoRows
+pub mod OperationLaws
+pub mod Operations
+pub mod OperationsSinks
 pub mod Pieces
 pub mod Rows
 pub mod Seeds
+pub mod Sendings
 pub mod Standings
 pub mod Tables
+pub mod Tallies
 pub mod Texts
 pub mod Timers
 pub mod Trace

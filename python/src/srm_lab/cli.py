@@ -6,12 +6,12 @@ import sys
 from collections.abc import Callable, Iterator, Sequence
 from contextlib import contextmanager
 from dataclasses import replace
+from functools import cache
 
 from . import graphs, losses, tree
 from .errors import ScenarioError
 from .graphs import Delays
 from .limits import MOST_NUMBERS, MOST_TIME, NEWEST, within
-from .page import command as page_command
 from .parts import CONSTANTS, Member, Session
 from .scenario import DELAY, DRAWS, EVERY, Scenario, Ticks, from_router_map, place_members, thousandths
 from .setting import setting
@@ -243,6 +243,7 @@ def common_options() -> argparse.ArgumentParser:
     return common
 
 
+@cache
 def parser() -> argparse.ArgumentParser:
     """The command line's parser."""
     common = common_options()
@@ -276,20 +277,30 @@ def parser() -> argparse.ArgumentParser:
     return whole
 
 
-def text_of(words: Sequence[str]) -> str:
-    """The scenario file of the words of a command line, which it names."""
+def options_of(kind: str) -> set[str]:
+    """The keys that are options of the generator of a kind of network."""
+    kinds = next(action for action in parser()._actions if isinstance(action, argparse._SubParsersAction))
+    if kind not in kinds.choices:
+        raise ScenarioError(f"there is no kind {kind!r}: there are {', '.join(kinds.choices)}")
+    return {action.dest for action in kinds.choices[kind]._actions} - {"help", "seed", "path"}
+
+
+def scenario_of(words: Sequence[str]) -> Scenario:
+    """The scenario of the words of a command line, which its file names."""
     scenario = build(parser().parse_args(words))
     command = shlex.join(words).encode("unicode_escape").decode()  # one line, whatever the words have
-    return replace(scenario, comments=(f"made by: srm-scenarios {command}",)).text()
+    return replace(scenario, comments=(f"made by: srm-scenarios {command}",))
 
 
 def main(words: Sequence[str] | None = None) -> int:
     """Writes the scenario of the words, or says on standard error why there is none and ends with status 1."""
     words = sys.argv[1:] if words is None else words
     if words[:1] == ["page"]:
+        from .page import command as page_command  # which loads what reads traces
+
         return page_command.main(words[1:])
     try:
-        sys.stdout.write(text_of(words))
+        sys.stdout.write(scenario_of(words).text())
     except ScenarioError as fault:
         sys.stderr.write(f"srm-scenarios: {fault}\n")
         return 1

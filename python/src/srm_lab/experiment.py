@@ -1,14 +1,11 @@
 """The experiments and figures of a configuration: what they ask for, and whether that can be done."""
-import argparse
 from collections.abc import Collection, Iterable, Mapping
 from itertools import product
 from typing import Any, NamedTuple
 
-from .cli import build, parser
 from .errors import ScenarioError, perhaps
 from .limits import MOST_SEED, within
-from .measures import OperationsTable
-from .one_run import function_of
+from .metrics import function_of
 
 OWN = ("kind", "losses", "seeds", "metrics", "agent", "path")
 AGENTS = ("srm_lab", "ns2")
@@ -17,7 +14,8 @@ FIGURE = ("draw", "of", "x", "y", "by", "over")
 LISTED = ("join", "leave", "outage", "drop_packet")
 FLAGS = ("adaptive", "any_packet", "no_session")
 NAME = ("source", "page", "number")
-COLUMNS = tuple(column for column in OperationsTable.columns if column not in NAME)
+# what the recovery of an operation took, with the least and greatest delays of those that recovered, and of the last one
+COLUMNS = ("losers", "left", "open", "requests", "repairs", "least_delay", "greatest_delay", "last_delay", "last_round_trip")
 
 
 class Needs(NamedTuple):
@@ -69,9 +67,10 @@ class Experiment:
         """The columns of its table that a figure may draw."""
         return [*(key for key in self.config if key != "seeds"), *COLUMNS, "ratio", *self.metrics]
 
-    def runs(self) -> list[tuple[str, int]]:
-        """Each (point's name, seed), in order."""
-        return [(label, seed) for label in self.points for seed in self.seeds]
+    @property
+    def parts(self) -> list[list[int]]:
+        """The seeds of each job of a point: all in one process, and of ns-2, whose runs take seconds, one."""
+        return [self.seeds] if self.agent == AGENTS[0] else [[seed] for seed in self.seeds]
 
     def words(self, label: str, seed: int) -> list[str]:
         """The words of `srm-scenarios` for a point and a seed."""
@@ -88,6 +87,8 @@ class Experiment:
 
     def check(self) -> None:
         """Refuses a key that is no option of the generators, and a point that is no scenario."""
+        from .cli import build, options_of, parser  # a table is put together without these
+
         for kind in sorted({str(point["kind"]) for point in self.points.values()}):
             known = options_of(kind)
             for key in self.config:
@@ -125,14 +126,6 @@ def option(key: str, value: Any) -> list[str]:
     if key in LISTED:
         return [word for one in str(value).split() for word in (name, one)]
     return [name, str(value)]
-
-
-def options_of(kind: str) -> set[str]:
-    """The keys that are options of the generator of a kind of network."""
-    kinds = next(action for action in parser()._actions if isinstance(action, argparse._SubParsersAction))
-    if kind not in kinds.choices:
-        raise ScenarioError(f"there is no kind {kind!r}: there are {', '.join(kinds.choices)}")
-    return {action.dest for action in kinds.choices[kind]._actions} - {"help", "seed", "path"}
 
 
 def safe(value: Any) -> str:

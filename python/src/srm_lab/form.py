@@ -1,6 +1,7 @@
 """The keys of a scenario file, with their types and ranges, as docs/FORMATS.md has them."""
 from collections.abc import Callable, Iterator
 from dataclasses import dataclass
+from functools import cache
 from typing import Any
 
 from .errors import ScenarioError, perhaps
@@ -64,6 +65,7 @@ def one_each(things: object, of: Check) -> Check:
     return check
 
 
+@cache
 def elements(limits: Limits) -> dict[str, dict[str, Key]]:
     """The keys of the elements of each part."""
     node = Key(number(0, limits.nodes - 1))

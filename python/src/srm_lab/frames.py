@@ -1,63 +1,106 @@
-"""Tables as DataFrames: made of what was measured, kept in a cache, and saved with what they are of."""
+"""Tables as DataFrames: read from what the program writes, and saved with what they are of."""
 import json
-import os
-import tempfile
-from collections.abc import Callable
+from collections.abc import Callable, Iterable, Sequence
+from dataclasses import dataclass
+from io import BytesIO
 from pathlib import Path
+from typing import Any
 
 import numpy
 import pandas
 
-from .constants import CONSTANTS_TABLE
+from . import timers
 from .errors import ScenarioError
-from .measures import TABLES, Measure
+from .parts import CONSTANTS
 from .scenario import Scenario
+from .tables import HEADER
 
-COLUMNS = {**{name: table.columns for name, table in TABLES.items()}, "constants": CONSTANTS_TABLE}
+WORDS = ("role", "cause", "ref", "result", "sent", "kind", "how")  # columns without numbers
+# what the program writes, or for `timers` the package; a delay is told as `delay/round trip`, in its last column
+WRITTEN: dict[str, tuple[str, ...]] = {
+    "losses": ("member", "source", "page", "number", "detected", "recovered", "delay", "round_trip"),
+    "operations": ("source", "page", "number", "losers", "recovered", "left", "detected", "asked", "requests", "repairs",
+                   "last", "delay", "round_trip"),
+    "members": ("member", "role", "node", "joined", "left", "drawn", "heard", "lost", "fixed", "open", "requests",
+                "repairs", "sessions"),
+    "links": ("link", "data", "requests", "repairs", "sessions", "dropped"),
+    "timers": timers.COLUMNS,
+    "trace": tuple(HEADER.split(",")),
+    "constants": ("time", "member", "cause", "ref", *CONSTANTS, "ave_dup_req", "ave_req_delay", "ave_dup_rep",
+                  "ave_rep_delay"),
+}
+# what the scenario tells besides
+ADDED = {"losses": ("ended", "node"), "links": ("a", "b"), "constants": ("node",)}
+COLUMNS = {name: (*columns, *ADDED.get(name, ())) for name, columns in WRITTEN.items()}
 Frames = dict[str, pandas.DataFrame]
 
 
-def frame_of(name: str, measured: Measure) -> pandas.DataFrame:
-    """A table as a DataFrame, with numbers as numbers."""
-    return pandas.DataFrame(list(measured.rows()), columns=list(measured.columns)).astype(TABLES[name].columns)
+@dataclass(frozen=True)
+class Text:
+    """A table of runs of one scenario as it is written, with the seed in front; `number` is the scenario's."""
+
+    number: int
+    given: Scenario
+    text: bytes
 
 
-def framed(given: Scenario, measured: list[tuple[int, dict[str, Measure]]]) -> Frames:
-    """The tables of some seeds as DataFrames."""
-    return joined(given, [(seed, {name: frame_of(name, one) for name, one in tables.items()})
-                          for seed, tables in measured])
-
-
-def joined(given: Scenario, parts: list[tuple[int, Frames]]) -> Frames:
-    """The tables of all seeds as one of each name, with the seed in front; nodes without names are numbers."""
-    whole = {name: pandas.concat([with_number("seed", seed, tables[name]) for seed, tables in parts], ignore_index=True)
-             for name in parts[0][1]}
-    if given.tree.names:
-        return whole
-    return {name: frame.astype({column: "Int64" for column in ("node", "a", "b") if column in frame})
-            for name, frame in whole.items()}
-
-
-def with_number(column: str, number: int, frame: pandas.DataFrame) -> pandas.DataFrame:
-    """The frame with a number in front of each row."""
-    frame.insert(0, column, numpy.full(len(frame), number))
+def frame_of(name: str, texts: Sequence[Text]) -> pandas.DataFrame:
+    """The rows of a table of several scenarios, with their numbers and the seeds in front."""
+    bodies = [one.text.partition(b"\n")[2] for one in texts]
+    counts = [body.count(b"\n") for body in bodies]
+    frame = _read(name, b"".join(bodies))
+    scenarios = numpy.repeat(numpy.arange(len(texts)), counts)
+    given = [one.given for one in texts]
+    if name == "losses":
+        _add_ends(frame, given, scenarios)
+    if "node" in COLUMNS[name]:
+        nodes = [[one.tree.name(member.node) for member in one.members] for one in given]
+        frame["node"] = _looked_up(given, nodes, scenarios, frame["member"])
+    if name == "links":
+        for end in ("a", "b"):
+            ends = [[one.tree.name(getattr(link, end)) for link in one.tree.links] for one in given]
+            frame[end] = _looked_up(given, ends, scenarios, frame["link"])
+    frame.insert(0, "scenario", numpy.repeat([one.number for one in texts], counts))
     return frame
 
 
-def read(path: Path, name: str) -> pandas.DataFrame:
-    """A table from the cache."""
-    kinds = COLUMNS[name]
-    return pandas.read_csv(path, dtype=kinds, keep_default_na=False, na_values={
-        column: [""] for column, kind in kinds.items() if kind != "str"})
+def _read(name: str, rows: bytes) -> pandas.DataFrame:
+    """The columns that are written; numbers are whole, and may be none."""
+    columns = WRITTEN[name]
+    words = [column for column in columns if column in WORDS]
+    if "round_trip" in columns:
+        rows = rows.replace(b"/", b",").replace(b",-\n", b",-,-\n")
+    read = pandas.read_csv(BytesIO(rows), header=None, names=["seed", *columns], index_col=False, engine="c",
+                           dtype=dict.fromkeys(words, str), keep_default_na=False,
+                           na_values={column: ["-", ""] for column in columns if column not in words})
+    kinds = {"seed": "int64", **{column: "Int64" for column in columns if column not in words}}
+    return read.astype(kinds)
 
 
-def keep(place: Path, tables: Frames) -> None:
-    """Puts tables into the cache, each at once, so that no half of one is ever read."""
-    place.mkdir(parents=True, exist_ok=True)
-    for name, table in tables.items():
-        with tempfile.NamedTemporaryFile("w", dir=place, suffix=".part", delete=False) as part:
-            table.to_csv(part, index=False)
-        os.replace(part.name, place / f"{name}.csv")
+def _add_ends(frame: pandas.DataFrame, given: Sequence[Scenario], scenarios: numpy.ndarray) -> None:
+    """How losses ended, and the round trips of those that did not end with a recovery."""
+    leaves = [[member.leave is not None and member.leave < one.end for member in one.members] for one in given]
+    is_open, members = frame["recovered"].isna(), frame["member"]
+    left = _looked_up(given, leaves, scenarios, members).to_numpy(bool)
+    frame["ended"] = numpy.select([~is_open, left], ["recovered", "left"], "open").astype(object)
+    several = zip(scenarios[is_open], members[is_open], frame["source"][is_open])
+    frame.loc[is_open, "round_trip"] = [given[place].round_trip(member, source) for place, member, source in several]
+
+
+def _looked_up(given: Sequence[Scenario], values: Sequence[Sequence[Any]], scenarios: numpy.ndarray,
+               places: pandas.Series) -> pandas.Series:
+    """For each row the value of its scenario at its place, such as the node of its member; numbers where all are."""
+    starts = numpy.cumsum([0, *map(len, values)])[:-1]
+    is_named = any(one.tree.names for one in given)
+    flat = numpy.array([one for several in values for one in several], dtype=object if is_named else int)
+    found = flat[starts[scenarios] + places.to_numpy(int)] if len(places) else flat[:0]
+    return pandas.Series(found, dtype=object if is_named else "Int64")
+
+
+def joined(frames: Iterable[Frames]) -> Frames:
+    """The rows of the same tables below each other."""
+    several = list(frames)
+    return {name: pandas.concat([one[name] for one in several], ignore_index=True) for name in several[0]}
 
 
 def save(frame: pandas.DataFrame, path: str | Path) -> Path:

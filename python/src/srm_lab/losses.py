@@ -66,12 +66,14 @@ def bernoulli(given: "Scenario", rate: float, link: int | None, rng: random.Rand
               packets: Callable[[int], int]) -> list[Drop]:
     """Each packet of each sender, dropped by each link on its ways (or by one link) with a probability."""
     drops: list[Drop] = []
+    drawn = rng.random
     nodes = [member.node for member in given.members]
     for sender, member in enumerate(given.members):
         used = sorted(links_in_use(given.tree, member.node, nodes)) if member.role == "sender" else []
+        counts = range(packets(sender)) if used else ()
         for one in used:
             if link in (None, one):
-                drops += [Drop(one, sender, count) for count in range(packets(sender)) if rng.random() < rate]
+                drops += [Drop(one, sender, count) for count in counts if drawn() < rate]
     return drops
 
 

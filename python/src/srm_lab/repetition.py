@@ -20,7 +20,9 @@ def steps(part: str, every: int) -> dict[str, int]:
 
 def times_of(element: object) -> int:
     """For how many an element counts: one whose `times` is none of the format's counts once."""
-    times = element.get("times", 1) if isinstance(element, dict) else 1
+    if not isinstance(element, dict) or "times" not in element:
+        return 1
+    times = element["times"]
     is_number = isinstance(times, int) and not isinstance(times, bool)
     return times if is_number and 1 <= times <= NEWEST.elements else 1
 

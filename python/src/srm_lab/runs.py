@@ -1,15 +1,15 @@
-"""Runs of the program: each is run once, and its tables are computed from its trace while that is written."""
+"""Runs of the program: its tables of many seeds and scenarios, kept in a cache."""
 import hashlib
 import json
 import os
 import sys
+import tempfile
 from collections.abc import Callable, Iterable, Iterator, Sequence
-from concurrent.futures import ProcessPoolExecutor
+from concurrent.futures import ProcessPoolExecutor, ThreadPoolExecutor
 from dataclasses import dataclass, field
 from functools import cached_property
-from itertools import groupby
 from multiprocessing import get_context
-from operator import index, itemgetter
+from operator import index
 from pathlib import Path
 from typing import Any
 
@@ -17,20 +17,19 @@ import pandas
 import tqdm
 
 from . import __version__
-from .constants import constants_of
 from .errors import RefusedError, ScenarioError, perhaps
-from .frames import COLUMNS, Frames, frame_of, joined, keep, read, save, with_number
+from .frames import COLUMNS, Frames, Text, frame_of, joined, save
 from .limits import MOST_SEED, within
-from .measures import TABLES, measure
 from .scenario import Scenario
 from .statistics import Statistic, evaluated, summarise
-from .traces import find_program, trace_of, version_of
+from .timers import COLUMNS as TIMERS, timers_of
+from .traces import find_program, table_text, trace_of, version_of
 
-LAYOUT = 1  # of the tables; a cache of another layout is not read
+LAYOUT = 2  # of what the cache keeps; a cache of another layout is not read
 CACHE = "cache"
 MOST_IN_CHUNK = 16
 MOST_WORKERS = 1024
-Unit = tuple[int, int]  # a run: the number of its scenario, and its seed
+Job = tuple[int, tuple[int, ...]]  # runs of one scenario: its number, and their seeds
 
 
 @dataclass(frozen=True)
@@ -47,67 +46,85 @@ class Asked:
         """The digest of the program's bytes."""
         return hashlib.sha256(self.program.read_bytes()).hexdigest()
 
-    def place(self, scenario: str, seed: int) -> Path | None:
-        """Where the cache has the tables of a run: they depend on scenario, seed, program and its other options."""
+    def place(self, given: Scenario, table: str, seeds: Sequence[int]) -> Path | None:
+        """Where the cache has a table of runs of a scenario: it depends on these, the program and its other options."""
         if self.cache is None:
             return None
-        words = json.dumps([LAYOUT, scenario, seed, self.digest, *self.options])
-        return self.cache / hashlib.sha256(words.encode()).hexdigest()
+        words = json.dumps([LAYOUT, table, given.digest(), *seeds, self.digest, *self.options])
+        return self.cache / f"{hashlib.sha256(words.encode()).hexdigest()}.csv"
 
 
-def perform(given: Scenario, seeds: Iterable[int], asked: Asked) -> Frames:
-    """The tables of runs of one scenario, with the seed in front: those that the cache has, or of the program."""
-    scenario = given.digest()
-    return joined(given, [(seed, _one(given, seed, asked, asked.place(scenario, seed))) for seed in seeds])
+def perform(given: Scenario, seeds: Sequence[int], asked: Asked, workers: int) -> dict[str, bytes]:
+    """The tables of runs of one scenario as they are written, the seed in front: of the cache, or by so many workers.
+
+    Each table is a process of the program, and all are side by side: to read a trace takes longer than several runs.
+    """
+    def make(name: str) -> bytes:
+        place = asked.place(given, name, seeds)
+        if place is not None and place.exists():
+            return place.read_bytes()
+        made = (timers_text(given, seeds, asked, workers) if name == "timers" else
+                table_text(given.plain_text, name, seeds, asked.program, asked.options, workers))
+        if place is not None:
+            keep(place, made)
+        return made
+
+    own = {name: make(name) for name in asked.tables if name == "timers"}  # before there are threads: it may fork
+    others = [name for name in asked.tables if name not in own]
+    if len(others) < 2 or workers == 1:
+        return own | {name: make(name) for name in others}
+    with ThreadPoolExecutor(len(others)) as pool:
+        return own | dict(zip(others, pool.map(make, others)))
 
 
-def _one(given: Scenario, seed: int, asked: Asked, place: Path | None) -> Frames:
-    """The tables of one run."""
-    if place is not None and all((place / f"{name}.csv").exists() for name in asked.tables):
-        return {name: read(place / f"{name}.csv", name) for name in asked.tables}
-    made: Frames = {}
-    traced = [name for name in asked.tables if name in TABLES]
-    if traced:
-        with trace_of(given, seed, asked.program, asked.options) as rows:
-            made |= {name: frame_of(name, one) for name, one in measure(given, rows, traced).items()}
-    if "constants" in asked.tables:
-        made["constants"] = constants_of(given, seed, asked.program, asked.options)
-    if place is not None:
-        keep(place, made)
-    return made
+def timers_text(given: Scenario, seeds: Sequence[int], asked: Asked, workers: int) -> bytes:
+    """The table of timers, of the trace of each run."""
+    def of_one(seed: int) -> list[str]:
+        with trace_of(given.plain_text, seed, asked.program, asked.options) as rows:
+            return [",".join(map(str, (seed, *row))) for row in timers_of(given, rows)]
+
+    parts = _mapped(of_one, seeds, min(workers, len(seeds)))
+    return "".join(f"{line}\n" for part in ([",".join(("seed", *TIMERS))], *parts) for line in part).encode()
 
 
-def perform_all(make: Callable[[int], Scenario], units: Sequence[Unit], asked: Asked, workers: int | None,
+def keep(place: Path, text: bytes) -> None:
+    """Puts a table into the cache at once, so that no half of one is ever read."""
+    place.parent.mkdir(parents=True, exist_ok=True)
+    with tempfile.NamedTemporaryFile(dir=place.parent, suffix=".part", delete=False) as part:
+        part.write(text)
+    os.replace(part.name, place)
+
+
+def perform_all(make: Callable[[int], Scenario], jobs: Sequence[Job], asked: Asked, workers: int | None,
                 progress: bool | None, said: Callable[[int], str] | None = None) -> tuple[Frames, list[str]]:
     """The tables of many runs, with the number of the scenario in front, and the digest of each scenario in order.
 
-    `make` gives the scenario of a number, and `said` what a refusal tells of it; units of one scenario follow each other.
+    `make` gives the scenario of a number, and `said` what a refusal tells of it.
     """
-    def work(chunk: Sequence[Unit]) -> tuple[dict[int, str], Frames]:
-        digests, parts = {}, []
-        for number, own in groupby(chunk, itemgetter(0)):
+    processors = workers or len(os.sched_getaffinity(0))
+    several = min(len(jobs), processors)
+    if several > 1:
+        make(jobs[0][0]).digest()  # loads what making scenarios needs, before there are several to load it
+
+    def work(chunk: Sequence[Job]) -> tuple[list[str], Frames]:
+        digests, texts = [], []
+        for number, seeds in chunk:
             given = make(number)
-            digests[number] = given.digest()
+            digests.append(given.digest())
             try:
-                frames = perform(given, [seed for _, seed in own], asked)
+                found = perform(given, seeds, asked, processors // several)
             except RefusedError as fault:
                 if said is not None:
                     fault.add_note(f"refused at {said(number)}")
                 raise
-            parts.append({name: with_number("scenario", number, frame) for name, frame in frames.items()})
-        return digests, _stacked(parts)
+            texts.append({name: Text(number, given, text) for name, text in found.items()})
+        return digests, {name: frame_of(name, [one[name] for one in texts]) for name in asked.tables}
 
-    digests: dict[int, str] = {}
-    parts = []
-    for found, frames in in_parallel(work, units, workers, progress):
-        digests |= found
+    digests, parts = [], []
+    for found, frames in in_parallel(work, jobs, several, progress):
+        digests += found
         parts.append(frames)
-    return _stacked(parts), list(digests.values())
-
-
-def _stacked(parts: Sequence[Frames]) -> Frames:
-    """The rows of the same tables below each other."""
-    return {name: pandas.concat([part[name] for part in parts], ignore_index=True) for name in parts[0]}
+    return joined(parts), digests
 
 
 _work: list[Callable[[Any], Any]] = []  # what this process does, where it is a worker
@@ -117,23 +134,22 @@ def _do(chunk: Any) -> Any:
     return _work[0](chunk)
 
 
-def in_parallel(work: Callable[[Sequence[Unit]], Any], units: Sequence[Unit], workers: int | None,
+def in_parallel(work: Callable[[Sequence[Job]], Any], jobs: Sequence[Job], several: int,
                 progress: bool | None) -> Iterator[Any]:
-    """What the function gives for each chunk of units, in order, from one pool of workers; a bar counts the units.
+    """What the function gives for each chunk of jobs, in order, from one pool of workers; a bar counts the runs.
 
     Workers are forked, so that the function need not be one that can be sent to them: it may hold a user's lambda.
     """
-    several = min(len(units), workers or len(os.sched_getaffinity(0)))
-    size = max(1, min(MOST_IN_CHUNK, len(units) // (8 * several)))
-    chunks = [units[place:place + size] for place in range(0, len(units), size)]
+    size = max(1, min(MOST_IN_CHUNK, len(jobs) // (4 * several)))
+    chunks = [jobs[place:place + size] for place in range(0, len(jobs), size)]
     is_shown = sys.stderr.isatty() if progress is None else progress
-    with tqdm.tqdm(total=len(units), unit="run", disable=not is_shown) as bar:
+    with tqdm.tqdm(total=sum(len(seeds) for _, seeds in jobs), unit="run", disable=not is_shown) as bar:
         for chunk, found in zip(chunks, _mapped(work, chunks, several)):
-            bar.update(len(chunk))
+            bar.update(sum(len(seeds) for _, seeds in chunk))
             yield found
 
 
-def _mapped(work: Callable[[Any], Any], chunks: list[Sequence[Unit]], several: int) -> Iterator[Any]:
+def _mapped(work: Callable[[Any], Any], chunks: Sequence[Any], several: int) -> Iterator[Any]:
     if several == 1:
         yield from map(work, chunks)
         return
@@ -196,12 +212,14 @@ def run(given: Scenario, seeds: int | Iterable[int] = 1, tables: str | Iterable[
         progress: bool | None = None, options: Iterable[str] = ()) -> Runs:
     """Runs a scenario with each seed, and gives the tables of all runs; `seeds=5` are 0 to 4.
 
-    The program is run once for each seed, and once more for the table `constants`, on `workers` processors (by default
-    on all); a bar shows the progress where standard error is a terminal, or where `progress` says so. What a run gave
-    is kept in the folder `cache` (by default the user's, srm_lab in XDG_CACHE_HOME), and read from there where the
-    scenario, the seed and the program are the same; with None nothing is kept. The program is `program`, or SRM_LAB of
-    the environment, or the one of the package's wheel, or srm_lab on the path; `options` are more words of its command
-    line that leave the trace as it is, such as `--engine` and `window`. What a table is of stands in its `attrs`.
+    Of each table the program makes all runs of neighbouring seeds in one process, on `workers` processors (by default
+    on all); `timers` alone are put together from the trace of each run. A bar counts the runs where standard error is a
+    terminal, or where `progress` says so; it moves as scenarios end, and not from seed to seed of one. A table is kept
+    in the folder `cache` (by default the user's, srm_lab in XDG_CACHE_HOME), and read from there where scenario, seeds
+    and program are the same; with None nothing is kept. The program is `program`, or SRM_LAB of the environment, or the
+    one of the package's wheel, or srm_lab on the path; `options` are more words of its command line that leave the
+    tables as they are, such as `--engine` and `window`: with them each seed is a process. What a table is of stands in
+    its `attrs`.
 
     Raises RefusedError with the program's line where it refuses a run, and ScenarioError or TypeError with a sentence
     where something else was asked for.
@@ -211,7 +229,7 @@ def run(given: Scenario, seeds: int | Iterable[int] = 1, tables: str | Iterable[
                         "reads a file")
     numbers, asked = seeds_of(seeds), asked_of(tables, program, cache, options)
     given.check()
-    frames, (digest,) = perform_all(lambda _: given, [(0, seed) for seed in numbers], asked, workers_of(workers), progress)
+    frames, (digest,) = perform_all(lambda _: given, [(0, numbers)], asked, workers_of(workers), progress)
     for name, frame in frames.items():
         del frame["scenario"]
         frame.attrs = {**origin(name, numbers, asked), "scenario": digest}
@@ -220,8 +238,8 @@ def run(given: Scenario, seeds: int | Iterable[int] = 1, tables: str | Iterable[
 
 def origin(table: str, seeds: tuple[int, ...], asked: Asked) -> dict[str, Any]:
     """What every table of runs says of itself."""
-    return {"table": table, "seeds": list(seeds), "program": version_of(asked.program), "package": __version__,
-            "options": list(asked.options)}
+    return {"table": table, "seeds": list(seeds), "program": version_of(asked.program),
+            "program_sha256": asked.digest, "package": __version__, "options": list(asked.options)}
 
 
 def seeds_of(given: int | Iterable[int]) -> tuple[int, ...]:

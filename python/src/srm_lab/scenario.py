@@ -104,7 +104,7 @@ class Scenario:
         given = any(getattr(self, name) is not None for name in LIMITS) or self.backoff != 2
         return given or max(self.c1, self.c2, self.d1, self.d2) > VERSIONS[2].constant
 
-    @property
+    @cached_property
     def least_version(self) -> int:
         """The first version of the format that has room for this scenario."""
         for version, limits in VERSIONS.items():
@@ -167,6 +167,10 @@ class Scenario:
 
     def check(self) -> "Scenario":
         """This scenario, or ScenarioError with the first thing that the format refuses."""
+        return self._checked
+
+    @cached_property
+    def _checked(self) -> "Scenario":
         check_keys(writing.keys_of(self))
         check_rules(self)
         return self
@@ -181,7 +185,12 @@ class Scenario:
 
     def digest(self) -> str:
         """The SHA-256 of the scenario file, but for `comments`: what tells scenarios apart."""
-        return hashlib.sha256(replace(self, comments=()).text().encode()).hexdigest()
+        return hashlib.sha256(self.plain_text).hexdigest()
+
+    @cached_property
+    def plain_text(self) -> bytes:
+        """The scenario file without `comments`."""
+        return (replace(self, comments=()) if self.comments else self).text().encode()
 
     def write(self, path: str | Path) -> Path:
         """Writes the scenario file, and gives its path."""
@@ -192,7 +201,14 @@ class Scenario:
     # ---- verbs -----------------------------------------------------------------
 
     def _with(self, **changes: Any) -> "Scenario":
-        return replace(self, **changes).check()
+        """This scenario with changes; elements that were checked already, and stay, are not checked again."""
+        made = replace(self, **changes)
+        if "_checked" in vars(self) and made.least_version == self.least_version:
+            changed = {one.removesuffix("s") for one in changes} | ({"link"} if "tree" in changes else set())
+            check_keys(writing.keys_of(made, changed))
+            check_rules(made)
+            vars(made)["_checked"] = made
+        return made.check()
 
     def _rng(self, verb: str, seed: int | None) -> random.Random:
         return random.Random(f"{verb} {self.seed if seed is None else seed}")

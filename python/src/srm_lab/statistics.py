@@ -6,7 +6,7 @@ from typing import TYPE_CHECKING, Union
 
 import numpy
 import pandas
-from scipy import stats
+from scipy import special
 
 from .errors import ScenarioError, perhaps
 
@@ -42,7 +42,9 @@ def interval(values: "pandas.Series | Sequence[float]", method: str = "t", level
     if len(data) < 2:
         return Interval(mean, math.nan, math.nan)
     if method == "t":
-        return _students(mean, float(stats.sem(data)), len(data) - 1, level)
+        return _students(mean, error_of(data), len(data) - 1, level)
+    from scipy import stats  # takes as long to load as all else, and is needed here alone
+
     found = stats.bootstrap((data,), numpy.mean, n_resamples=RESAMPLES, confidence_level=level, method="percentile",
                             random_state=0).confidence_interval
     return Interval(mean, float(found.low), float(found.high))
@@ -57,8 +59,13 @@ def _check(method: str, level: float) -> None:
 
 def _students(mean: float, error: float, freedom: float, level: float) -> Interval:
     """Student's interval of a mean with a standard error."""
-    low, high = stats.t.interval(level, freedom, mean, error) if error else (mean, mean)
-    return Interval(mean, float(low), float(high))
+    half = error * float(special.stdtrit(freedom, (1 + level) / 2)) if error else 0.0
+    return Interval(mean, mean - half, mean + half)
+
+
+def error_of(data: numpy.ndarray) -> float:
+    """The standard error of the mean of independent values."""
+    return float(data.std(ddof=1) / math.sqrt(len(data)))
 
 
 def difference(first: Sequence[float], second: Sequence[float], level: float = 0.95) -> Interval:
@@ -71,7 +78,7 @@ def difference(first: Sequence[float], second: Sequence[float], level: float = 0
     if min(map(len, samples)) < 2:
         return Interval(mean, math.nan, math.nan)
     # scipy's ttest_ind tells this interval from version 1.11 on
-    parts = [float(stats.sem(values))**2 for values in samples]
+    parts = [error_of(values)**2 for values in samples]
     lost = sum(part**2 / (len(values) - 1) for part, values in zip(parts, samples))
     return _students(mean, math.sqrt(sum(parts)), sum(parts)**2 / lost if lost else math.inf, level)
 

@@ -11,7 +11,7 @@ import pandas
 from .errors import ScenarioError, perhaps
 from .frames import COLUMNS, Frames
 from .parts import CONSTANTS, LIMITS
-from .runs import CACHE, asked_of, origin, perform_all, seeds_of, workers_of
+from .runs import CACHE, Job, asked_of, origin, perform_all, seeds_of, workers_of
 from .scenario import Scenario
 
 Maker = Scenario | Callable[..., Scenario] | None
@@ -47,7 +47,7 @@ def sweep(parameters: Parameters, make: Maker = None, seeds: int | Iterable[int]
     """
     numbers, asked = seeds_of(seeds), asked_of(tables, program, cache, options)
     grid = Grid(parameters, make, numbers, asked.tables)
-    frames, digests = perform_all(grid.scenario, grid.units(), asked, workers_of(workers), progress, grid.said)
+    frames, digests = perform_all(grid.scenario, grid.jobs(), asked, workers_of(workers), progress, grid.said)
     whole = digests[0] if len(digests) == 1 else hashlib.sha256("".join(digests).encode()).hexdigest()
     for name in asked.tables:
         frames[name] = grid.labelled(frames[name])
@@ -75,10 +75,10 @@ class Grid:
         self.seeds = seeds
         self.each = len(seeds) if self.is_seeded else 1
 
-    def units(self) -> list[tuple[int, int]]:
-        """Each run: the number of its scenario, and its seed."""
-        return [(place * self.each + number % self.each, seed) for place in range(len(self.points))
-                for number, seed in enumerate(self.seeds)]
+    def jobs(self) -> list[Job]:
+        """The runs of each scenario: its number, and their seeds."""
+        each: list[tuple[int, ...]] = [(seed,) for seed in self.seeds] if self.is_seeded else [self.seeds]
+        return [(place * self.each + number, seeds) for place in range(len(self.points)) for number, seeds in enumerate(each)]
 
     def scenario(self, number: int) -> Scenario:
         """The scenario of a number."""

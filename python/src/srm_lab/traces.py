@@ -1,16 +1,14 @@
-"""Runs of the program: their traces."""
+"""Runs of the program: its tables, and its traces row by row."""
 import os
 import shutil
 import subprocess
 import tempfile
 from collections.abc import Iterable, Iterator, Sequence
 from contextlib import contextmanager
-from importlib.metadata import PackageNotFoundError, distribution
 from pathlib import Path
 from typing import IO
 
 from .errors import RefusedError, ScenarioError
-from .scenario import Scenario
 from .tables import Row, read_trace
 
 
@@ -27,6 +25,8 @@ def find_program(program: str | Path | None = None) -> Path:
 
 def _of_the_wheel() -> Path | None:
     """The program that was installed with this package, and not with another of its name."""
+    from importlib.metadata import PackageNotFoundError, distribution  # takes as long to load as most else
+
     try:
         installed = distribution("srm_lab")
     except PackageNotFoundError:
@@ -41,27 +41,65 @@ def version_of(program: Path) -> str:
     return subprocess.run([program, "--version"], capture_output=True, text=True, check=False).stdout.strip()
 
 
+# the names of tables that the program calls otherwise
+SHOWN = {"constants": "timers"}
+
+
+def table_text(text: bytes, table: str, seeds: Sequence[int], program: Path, options: Sequence[str] = (),
+               workers: int = 1) -> bytes:
+    """What the program writes of a table of runs of one scenario, the seed in front; RefusedError where it refuses one.
+
+    Seeds that follow each other are one process. With `options`, more words of the command line, each seed is one.
+    """
+    words = ["--show", SHOWN.get(table, table), *options]
+    parts = []
+    for first, count in neighbours(seeds):
+        if options:
+            parts += [_with_seed(seed, written(text, [*words, "--seed", str(seed)], program))
+                      for seed in range(first, first + count)]
+        else:
+            parts.append(written(text, [*words, "--seed", str(first), "--replications", str(count), "--workers", str(workers)],
+                                 program))
+    return parts[0] + b"".join(part.partition(b"\n")[2] for part in parts[1:])
+
+
+def neighbours(seeds: Sequence[int]) -> Iterator[tuple[int, int]]:
+    """Each run of seeds that rise by one: its first seed, and how many they are."""
+    begin = 0
+    for place, seed in enumerate(seeds, 1):
+        if place == len(seeds) or seeds[place] != seed + 1:
+            yield seeds[begin], place - begin
+            begin = place
+
+
+def _with_seed(seed: int, table: bytes) -> bytes:
+    """A table of one run as the program writes it of several."""
+    header, *rows = table.splitlines(keepends=True)
+    return b"".join([b"seed," + header, *(b"%d," % seed + row for row in rows)])
+
+
+def written(text: bytes, words: Sequence[str], program: Path) -> bytes:
+    """What the program writes of a scenario; RefusedError where it refuses it."""
+    done = subprocess.run([program, "--explain", *words], input=text, capture_output=True, check=False)
+    if done.returncode:
+        raise _refusal(done.stderr, done.returncode)
+    return done.stdout
+
+
 @contextmanager
-def trace_of(given: Scenario, seed: int, program: Path, options: Sequence[str] = ()) -> Iterator[Iterator[Row]]:
+def trace_of(text: bytes, seed: int, program: Path, options: Sequence[str] = ()) -> Iterator[Iterator[Row]]:
     """The rows of a run, while the program writes them; RefusedError where it refuses the run.
 
     `options` are more words of the program's command line, which has to write the trace with them.
     """
-    with lines_of(given, seed, program, options) as lines:
-        yield read_trace(lines)
-
-
-@contextmanager
-def lines_of(given: Scenario, seed: int, program: Path, options: Sequence[str] = ()) -> Iterator[Iterator[str]]:
-    """The lines that the program writes of a run, while it writes them; after them RefusedError where it refuses it."""
     with tempfile.TemporaryFile() as scenario, tempfile.TemporaryFile() as told:
-        scenario.write(given.text().encode())
+        scenario.write(text)
         scenario.seek(0)
         with subprocess.Popen([program, "--explain", "--seed", str(seed), *options], stdin=scenario,
                               stdout=subprocess.PIPE, stderr=told, encoding="ascii") as running:
             assert running.stdout is not None
             try:
-                yield _lines(running.stdout, running, told)
+                yield read_trace(_lines(running.stdout, running, told))
             finally:
                 running.kill()
 
@@ -71,5 +109,9 @@ def _lines(lines: Iterable[str], running: subprocess.Popen, told: IO[bytes]) -> 
     yield from lines
     if running.wait():
         told.seek(0)
-        line, _, explanation = told.read().decode(errors="replace").partition("\n")
-        raise RefusedError(line.strip(), running.returncode, explanation.rstrip("\n"))
+        raise _refusal(told.read(), running.returncode)
+
+
+def _refusal(told: bytes, status: int) -> RefusedError:
+    line, _, explanation = told.decode(errors="replace").partition("\n")
+    return RefusedError(line.strip(), status, explanation.rstrip("\n"))

@@ -45,7 +45,7 @@ class Tree:
         """The node that hosts no member, or None."""
         return 0 if self.shorthand.get("topology") == "star" else None
 
-    @property
+    @cached_property
     def is_even(self) -> bool:
         """Whether every link takes as long in either direction."""
         return all(link.is_even for link in self.links)

@@ -1,8 +1,10 @@
 """Scenario files: writing them."""
 import json
+from collections.abc import Callable, Collection
 from typing import TYPE_CHECKING, Any
 
 from .errors import ScenarioError
+from .form import PARTS
 from .limits import NEWEST
 from .parts import CONSTANTS, LIMITS
 from .repetition import APART, folded
@@ -23,25 +25,25 @@ def table_of(given: "Scenario") -> dict[str, Any]:
     return table | {part: folded(part, table[part]) for part in APART if part in table} if given.is_large else table
 
 
-def keys_of(given: "Scenario") -> dict[str, Any]:
-    """The keys and values of a scenario, with each of its elements."""
+def keys_of(given: "Scenario", wanted: Collection[str] = PARTS) -> dict[str, Any]:
+    """The keys and values of a scenario, with each of the elements of the parts that are wanted."""
     top: dict[str, Any] = {"version": given.least_version if given.version is None else given.version,
                            "until": given.end}
     top |= {name: getattr(given, name) for name in CONSTANTS}
     top |= {name: value for name in LIMITS if (value := getattr(given, name)) is not None}
     top |= {"backoff": given.backoff} if given.backoff != 2 else {}
     top |= given.tree.shorthand or {"nodes": given.tree.nodes}
-    parts = {
-        "link": [] if given.tree.shorthand else [
+    parts: dict[str, Callable[[], list[dict[str, Any]]]] = {
+        "link": lambda: [] if given.tree.shorthand else [
             {"a": link.a, "b": link.b, "delay": link.delay, **({} if link.is_even else {"back": link.back})}
             for link in given.tree.links],
-        "member": [_member(dict(vars(member))) for member in given.members],
-        "draw": [dict(vars(draw)) for draw in given.draws],
-        "session": [dict(vars(session)) for session in given.sessions],
-        "drop": [dict(vars(drop)) for drop in given.drops],
-        "outage": [{"link": one.link, "from": one.first, "to": one.end} for one in given.outages],
+        "member": lambda: [_member(dict(vars(member))) for member in given.members],
+        "draw": lambda: [dict(vars(draw)) for draw in given.draws],
+        "session": lambda: [dict(vars(session)) for session in given.sessions],
+        "drop": lambda: [dict(vars(drop)) for drop in given.drops],
+        "outage": lambda: [{"link": one.link, "from": one.first, "to": one.end} for one in given.outages],
     }
-    return top | {name: elements for name, elements in parts.items() if elements}
+    return top | {name: elements for name in PARTS if name in wanted and (elements := parts[name]())}
 
 
 def _member(keys: dict[str, Any]) -> dict[str, Any]:

@@ -14,6 +14,10 @@ pub returns-in-Losses : goal.returns-in-Losses
 unfolding fields_text is_blank
 returns-in-Losses c = rw c.in-Losses.is refl
 
+pub returns-in-Operations : goal.returns-in-Operations
+unfolding fields_text is_blank
+returns-in-Operations c = rw c.in-Operations.is refl
+
 pub returns-in-Links : goal.returns-in-Links
 unfolding fields_text is_blank
 returns-in-Links c = rw c.in-Links.is refl

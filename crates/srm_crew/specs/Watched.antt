@@ -1,0 +1,23 @@
+-- A watched job, advanced.
+use Rattle.std.specs.Prelude.{List, Result, Ok, Err}
+use Rattle.srm_net.specs.Network.{Network}
+use Rattle.srm_scenario.specs.Plain.{PlainScenario}
+use Rattle.srm_member.specs.declared.row.Row.{Row}
+use Rattle.srm_member.specs.Record.{Record}
+use Rattle.srm_cell.specs.declared.job.Done as job
+use Rattle.srm_cell.specs.declared.fault.CellFault.{CellFault}
+use Rattle.srm_cell.specs.declared.fault.CellFault.TheVariants as fault
+use Rattle.srm_cell.specs.Jobs.{Advances}
+use Rattle.srm_interfaces.specs.declared.watched.WatchedJob.{WatchedJob}
+use Rattle.srm_interfaces.specs.declared.watched.WatchedDone.{WatchedDone}
+use Rattle.srm_interfaces.specs.Watches.{Watches, job_in}
+
+module _ {M K : Type 0} where
+  -- what advancing one watched job tells: what is left of what is done of it; or why not, as without a watch, but
+  -- that memory may run out for the watch too
+  abbrev pub AdvanceOne : (M → Record) → (K → List Row → Type 0) → PlainScenario → Network → WatchedJob M K
+      → Result (WatchedDone M K) CellFault → Type 0
+  AdvanceOne f keeps k net j (Ok e) =
+      (d : job.Done M) × Advances f k net (job_in j) (Ok d) × Watches keeps k net j.kept.items d e
+  AdvanceOne f keeps k net j (Err fault.NoMemory) = Unit {0}
+  AdvanceOne f keeps k net j (Err e) = Advances f k net (job_in j) (Err e)

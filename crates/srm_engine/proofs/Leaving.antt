@@ -1,0 +1,103 @@
+-- What is left of what a crew that keeps rows did.
+use Rattle.std.proofs.Common.{◌≡◌, ◌⊎◌, inl, inr, List, [], ◌∷◌, ◌++◌, All, sym, subst, length, append_assoc, append-nil}
+use Rattle.std.specs.List.{AllZip}
+use Rattle.std.proofs.lemmas.List.Elements.{All-head, All-tail}
+use Rattle.srm_net.specs.Network.{Network}
+use Rattle.srm_scenario.specs.Plain.{PlainScenario}
+use Rattle.srm_member.specs.Record.{Record}
+use Rattle.srm_member.specs.declared.row.Row.{Row}
+use Rattle.srm_cell.specs.declared.job.Done as job
+use Rattle.srm_cell.specs.Jobs.{IsDone, MayAdvance, PlainJob}
+use Rattle.srm_cell.specs.Setting.{Traffic}
+use Rattle.srm_interfaces.specs.Crews.{AreJobs}
+use Rattle.srm_interfaces.specs.declared.watched.WatchedJob.{WatchedJob}
+use Rattle.srm_interfaces.specs.declared.watched.WatchedDone.{WatchedDone}
+use Rattle.srm_interfaces.specs.Watches.{HaveKept, WatchEach, Watches, job_in, jobs_in}
+use Rattle.srm_interfaces.proofs.WatchLemmas.{as_many_kept, sent_below}
+use Rattle.srm_engine.specs.ByRows.{LeftEach, MayLeave, kept_in}
+
+module _ {M K : Type 0} (f : M → Record) (k : PlainScenario) (t : Traffic) where
+  -- what watched jobs are seen as
+  abbrev plains : (js : List (WatchedJob M K)) → All (λ j. MayAdvance f (length k.members) j) (jobs_in js) → List PlainJob
+  plains [] a = []
+  plains (j ∷ js) a =
+      (All-head (λ j. MayAdvance f (length k.members) j) (job_in j) (jobs_in js) a).plain_job
+      ∷ plains js (All-tail (λ j. MayAdvance f (length k.members) j) (job_in j) (jobs_in js) a)
+
+  are_plains : (js : List (WatchedJob M K)) (a : All (λ j. MayAdvance f (length k.members) j) (jobs_in js))
+      → AreJobs f (jobs_in js) (plains js a)
+  are_plains [] a = tt
+  are_plains (j ∷ js) a = (
+    (All-head (λ j. MayAdvance f (length k.members) j) (job_in j) (jobs_in js) a).is,
+    are_plains js (All-tail (λ j. MayAdvance f (length k.members) j) (job_in j) (jobs_in js) a),
+  )
+
+  each_may : (js : List (WatchedJob M K)) (ds : List (job.Done M)) (a : All (λ j. MayAdvance f (length k.members) j) (jobs_in js))
+      → All HaveKept js → AllZip (λ p d. IsDone f t p d) (plains js a) ds → MayLeave k (kept_in js) ds
+  each_may [] [] a h z = tt
+  each_may [] (d ∷ ds) a h z = absurd z
+  each_may (j ∷ js) [] a h z = absurd z
+  each_may (j ∷ js) (d ∷ ds) a h z =
+      let may = All-head (λ j. MayAdvance f (length k.members) j) (job_in j) (jobs_in js) a in (
+        as_many_kept f (length k.members) t j d may (All-head HaveKept j js h) z.0,
+        sent_below f (length k.members) t j d may z.0,
+        each_may js ds (All-tail (λ j. MayAdvance f (length k.members) j) (job_in j) (jobs_in js) a) (All-tail HaveKept j js h) z.1,
+      )
+
+  pub some_jobs : (js : List (WatchedJob M K)) → All (λ j. MayAdvance f (length k.members) j) (jobs_in js)
+      → (ps : List PlainJob) × AreJobs f (jobs_in js) ps
+  some_jobs js a = (plains js a, are_plains js a)
+
+  -- what is done of jobs that may be advanced may be left
+  pub may_leave : (js : List (WatchedJob M K)) (ds : List (job.Done M)) → All (λ j. MayAdvance f (length k.members) j) (jobs_in js)
+      → All HaveKept js → ((ps : List PlainJob) → AreJobs f (jobs_in js) ps → AllZip (λ p d. IsDone f t p d) ps ds)
+      → MayLeave k (kept_in js) ds
+  may_leave js ds a h done = each_may js ds a h (done (plains js a) (are_plains js a))
+
+module _ {M K : Type 0} (keeps : K → List Row → Type 0) (k : PlainScenario) (net : Network) where
+  pub left_of_jobs : (js : List (WatchedJob M K)) (ds : List (job.Done M)) (es : List (WatchedDone M K))
+      → LeftEach keeps k net (kept_in js) ds es → WatchEach keeps k net js ds es
+  left_of_jobs [] [] [] h = tt
+  left_of_jobs [] [] (e ∷ es) h = absurd h
+  left_of_jobs [] (d ∷ ds) es h = absurd h
+  left_of_jobs (j ∷ js) [] es h = absurd h
+  left_of_jobs (j ∷ js) (d ∷ ds) [] h = absurd h
+  left_of_jobs (j ∷ js) (d ∷ ds) (e ∷ es) h = (h.0, left_of_jobs js ds es h.1)
+
+  -- this is left so far, and the others may be left
+  pub record LeftSoFar (olds : List (List K)) (ds : List (job.Done M)) (es : List (WatchedDone M K)) (others : List (List K))
+      (rest : List (job.Done M)) : Type 0 where
+    pub may : MayLeave k others rest
+    pub left : (more : List (WatchedDone M K)) → LeftEach keeps k net others rest more → LeftEach keeps k net olds ds (es ++ more)
+
+  pub left_none : (olds : List (List K)) (ds : List (job.Done M)) → MayLeave k olds ds → LeftSoFar olds ds [] olds ds
+  left_none olds ds h = record { may = h; left = λ more l. l }
+
+  pub next_may : (os : List (List K)) (rs : List (job.Done M)) (old : List K) (others : List (List K)) (d : job.Done M)
+      (rest : List (job.Done M)) → os ≡ old ∷ others → rs ≡ d ∷ rest → MayLeave k os rs → MayLeave k (old ∷ others) (d ∷ rest)
+  next_may os rs old others d rest e g h =
+      subst (λ l. MayLeave k l (d ∷ rest)) e (subst (λ l. MayLeave k os l) g h)
+
+  pub left_more : (olds : List (List K)) (ds : List (job.Done M)) (es : List (WatchedDone M K)) (os : List (List K))
+      (rs : List (job.Done M)) (old : List K) (others : List (List K)) (d : job.Done M) (rest : List (job.Done M)) (e : WatchedDone M K)
+      → os ≡ old ∷ others → rs ≡ d ∷ rest → LeftSoFar olds ds es os rs → Watches keeps k net old d e
+      → LeftSoFar olds ds (es ++ e ∷ []) others rest
+  left_more olds ds es os rs old others d rest e is are so w =
+      let s = subst (λ l. LeftSoFar olds ds es l (d ∷ rest)) is (subst (λ l. LeftSoFar olds ds es os l) are so) in
+      record {
+        may = s.may.2;
+        left = λ more l. subst (λ xs. LeftEach keeps k net olds ds xs) (sym (append_assoc es (e ∷ []) more)) (s.left (e ∷ more) (w, l));
+      }
+
+  over : (others : List (List K)) (rest : List (job.Done M)) → MayLeave k others rest → (others ≡ []) ⊎ (rest ≡ [])
+      → LeftEach keeps k net others rest []
+  over [] [] h e = tt
+  over [] (d ∷ rest) h e = absurd h
+  over (old ∷ others) [] h e = absurd h
+  over (old ∷ others) (d ∷ rest) h (inl e) = cc
+  over (old ∷ others) (d ∷ rest) h (inr e) = cc
+
+  pub left_all : (olds : List (List K)) (ds : List (job.Done M)) (es : List (WatchedDone M K)) (others : List (List K))
+      (rest : List (job.Done M)) → LeftSoFar olds ds es others rest → (others ≡ []) ⊎ (rest ≡ []) → LeftEach keeps k net olds ds es
+  left_all olds ds es others rest s none =
+      subst (λ xs. LeftEach keeps k net olds ds xs) (append-nil es) (s.left [] (over others rest s.may none))

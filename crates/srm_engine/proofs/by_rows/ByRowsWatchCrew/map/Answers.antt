@@ -1,0 +1,60 @@
+use Rattle.std.proofs.Common.{◌≡◌, ◌∙◌, List, [], ◌∷◌, length, map, All, refl, ap, sym, subst}
+use Rattle.std.specs.List.{range_with_len}
+use Rattle.std.proofs.lemmas.List.{length-map}
+use Rattle.srm_cell.specs.declared.job.Job.{Job}
+use Rattle.srm_cell.specs.Jobs.{MayAdvance, PlainJob}
+use Rattle.srm_cell.specs.Setting.{traffic_of}
+use Rattle.srm_interfaces.specs.declared.watched.WatchedJob.{WatchedJob}
+use Rattle.srm_interfaces.specs.Crews.{AreJobs}
+use Rattle.srm_interfaces.specs.Watches.{jobs_in, job_in}
+use Rattle.srm_engine.specs.ByRows.{LeftEach}
+use Rattle.srm_engine.proofs.Leaving.{left_of_jobs, may_leave, some_jobs}
+use Rattle.srm_engine.proofs.by_rows.ByRowsWatchCrew.map.Goals as goal
+
+places_in : {M K : Type 0} (js : List (WatchedJob M K))
+    → map (λ (j : Job M). j.place) (jobs_in js) ≡ map (λ (j : WatchedJob M K). j.place) js
+places_in [] = refl
+places_in (j ∷ js) = ap (λ l. j.place ∷ l) (places_in js)
+
+pub returns-in_default-clause-done : goal.returns-in_default-clause-done
+returns-in_default-clause-done g c = record { tells = λ ps h. tt }
+
+pub map-requires-clause-places : goal.map-requires-clause-places
+map-requires-clause-places g c =
+    let js = c.args.jobs.items in
+    ap (λ (l : List (Job _)). map (λ j. j.place) l) c.in-Ok.ensures.jobs ∙ places_in js ∙ c.requires.places
+    ∙ ap (λ n. range_with_len 0 n) (sym (ap (λ (l : List (Job _)). length l) c.in-Ok.ensures.jobs ∙ length-map js job_in))
+
+pub leave-requires-clause-may : goal.leave-requires-clause-may
+leave-requires-clause-may g c =
+    let js = c.args.jobs.items in
+    let f = g.M.Participant.plain in
+    let k = c.args.scenario.now in
+    let hosts : length c.args.net.now.hosts ≡ length k.members =
+    ap (λ n. length n.hosts) c.requires.network ∙ length-map k.members (λ m. m.node) in
+    rw c.in-Ok.ensures.kept
+    (may_leave f k (traffic_of k c.args.net.now) js c.in-Ok-map.done.0.items
+    (subst (λ n. All (λ j. MayAdvance f n j) (jobs_in js)) hosts c.requires.jobs) c.requires.kept
+    (λ ps h. (c.in-Ok-map.ensures.done.tells ps (subst (λ l. AreJobs f l ps) (sym c.in-Ok.ensures.jobs) h)).0))
+
+pub returns-clause-done : goal.returns-clause-done
+returns-clause-done g c = record { tells = λ ps h. tt }
+
+pub returns-in-Ok-leave-clause-done : goal.returns-in-Ok-leave-clause-done
+returns-in-Ok-leave-clause-done g c =
+    let js = c.args.jobs.items in
+    let f = g.M.Participant.plain in
+    let k = c.args.scenario.now in
+    let net = c.args.net.now in
+    let keeps = g.W.Watch.keeps c.args.watch in
+    let ds = c.in-Ok-map.done.0.items in
+    let hosts : length net.hosts ≡ length k.members = ap (λ n. length n.hosts) c.requires.network ∙ length-map k.members (λ m. m.node) in
+    let some = some_jobs f k (traffic_of k net) js (subst (λ n. All (λ j. MayAdvance f n j) (jobs_in js)) hosts c.requires.jobs) in
+    let as_crew : (ps : List PlainJob) → AreJobs f (jobs_in js) ps → AreJobs f c.in-Ok.jobs.items ps =
+    λ ps h. subst (λ l. AreJobs f l ps) (sym c.in-Ok.ensures.jobs) h in (
+      ds,
+      record { are = λ ps h. (c.in-Ok-map.ensures.done.tells ps (as_crew ps h)).0 },
+      (c.in-Ok-map.ensures.done.tells some.0 (as_crew some.0 some.1)).1,
+      left_of_jobs keeps k net js ds c.in-Ok-leave.left.items
+          (subst (λ l. LeftEach keeps k net l ds c.in-Ok-leave.left.items) c.in-Ok.ensures.kept c.in-Ok-leave.ensures),
+    )

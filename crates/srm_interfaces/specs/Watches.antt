@@ -1,0 +1,82 @@
+-- What is kept of the rows of jobs.
+use Rattle.std.specs.Prelude.{◌≡◌, List, [], ◌∷◌, ◌++◌, All, length, map, Result, Ok, Err}
+use Rattle.std.specs.List.{AllZip}
+use Rattle.std.specs.Global.{Vec}
+use Rattle.srm_net.specs.Network.{Network}
+use Rattle.srm_scenario.specs.Plain.{PlainScenario}
+use Rattle.srm_member.specs.declared.row.Row.{Row}
+use Rattle.srm_member.specs.Record.{Record}
+use Rattle.srm_ledger.specs.Seats.{SeatView}
+use Rattle.srm_cell.specs.declared.job.Job.{Job}
+use Rattle.srm_cell.specs.declared.job.Done as job
+use Rattle.srm_cell.specs.declared.fault.CellFault.{CellFault}
+use Rattle.srm_cell.specs.Crossings.{crossings, joined, packets_of}
+use Rattle.srm_cell.specs.Hearing.{IsSent, packets_in}
+use Rattle.srm_cell.specs.Jobs.{IsDone, PlainJob}
+use Rattle.srm_cell.specs.Setting.{traffic_of}
+use Rattle.srm_interfaces.specs.declared.fault.CrewFault.{CrewFault}
+use Rattle.srm_interfaces.specs.declared.watched.WatchedJob.{WatchedJob}
+use Rattle.srm_interfaces.specs.declared.watched.WatchedDone.{WatchedDone}
+use Rattle.srm_interfaces.specs.Crews.{AdvanceEach, AreJobs, HasGrown, Maps, counted_in, rows_of}
+
+-- of each cell this is kept: what was kept before, of whichever rows, and these rows
+abbrev pub KeepEach : {K : Type 0} → (K → List Row → Type 0) → List K → List (List Row) → List K → Type 0
+KeepEach keeps [] [] [] = Unit {0}
+KeepEach keeps (a ∷ old) (rows ∷ more) (b ∷ new) =
+    ((before : List Row) → keeps a before → keeps b (before ++ rows)) × KeepEach keeps old more new
+KeepEach keeps old more new = ⊥
+
+module _ {M : Type 0} where
+  -- this is done of the jobs, of all jobs that they may be seen as
+  pub record AreDone
+      (f : M → Record) (k : PlainScenario) (net : Network) (js : List (Job M)) (ds : List (job.Done M)) : Type 0 where
+    pub are : (ps : List PlainJob) → AreJobs f js ps → AllZip (λ p d. IsDone f (traffic_of k net) p d) ps ds
+
+module _ {M K : Type 0} where
+  -- the job without what is kept
+  abbrev pub job_in : WatchedJob M K → Job M
+  job_in j = record { place = j.place; till = j.till; cells = j.cells }
+
+  abbrev pub jobs_in : List (WatchedJob M K) → List (Job M)
+  jobs_in js = map job_in js
+
+  -- something is kept of each cell
+  abbrev pub HaveKept : WatchedJob M K → Type 0
+  HaveKept j = length j.kept.items ≡ length j.cells.items
+
+  -- this is what is left of what is done of a job: of the rows what is kept of them, where this was kept before, and
+  -- their packets
+  pub record Watches (keeps : K → List Row → Type 0) (k : PlainScenario) (net : Network) (old : List K)
+      (d : job.Done M) (e : WatchedDone M K) : Type 0 where
+    pub place : e.place ≡ d.place
+    pub cells : e.cells ≡ d.cells
+    pub kept : KeepEach keeps old d.rows.items e.kept.items
+    pub packets : packets_in e.sent.items ≡ packets_of (joined d.rows.items)
+    pub sent : All (λ x. IsSent k net x) e.sent.items
+    pub crossings : e.crossings ≡ d.crossings
+
+  -- so of each job
+  abbrev pub WatchEach : (K → List Row → Type 0) → PlainScenario → Network → List (WatchedJob M K)
+      → List (job.Done M) → List (WatchedDone M K) → Type 0
+  WatchEach keeps k net [] [] [] = Unit {0}
+  WatchEach keeps k net (j ∷ js) (d ∷ ds) (e ∷ es) =
+      Watches keeps k net j.kept.items d e × WatchEach keeps k net js ds es
+  WatchEach keeps k net js ds es = ⊥
+
+  -- what advancing watched jobs tells: what is left of what is done of them; or why not, as without a watch
+  abbrev pub AdvanceWatched : (M → Record) → (K → List Row → Type 0) → PlainScenario → Network → List (WatchedJob M K)
+      → Result (Vec (WatchedDone M K)) CellFault → Type 0
+  AdvanceWatched f keeps k net js (Ok w) =
+      (ds : List (job.Done M)) × AreDone f k net (jobs_in js) ds × WatchEach keeps k net js ds w.items
+  AdvanceWatched f keeps k net js (Err e) = AdvanceEach f k net (jobs_in js) (Err e)
+
+  -- what a crew's call tells: what is left of what is done of the jobs, and a seat grown by the crossings of all
+  -- their rows; or why not, as a crew that keeps the rows
+  abbrev pub MapsWatched : (M → Record) → (K → List Row → Type 0) → PlainScenario → Network → SeatView
+      → List (WatchedJob M K)
+      → Result (Vec (WatchedDone M K) × SeatView) CrewFault → Type 0
+  MapsWatched f keeps k net seat js (Ok w) =
+      (ds : List (job.Done M)) × AreDone f k net (jobs_in js) ds
+      × HasGrown (counted_in (crossings (traffic_of k net) (rows_of ds))) seat w.1
+      × WatchEach keeps k net js ds w.0.items
+  MapsWatched f keeps k net seat js (Err e) = Maps f k net seat (jobs_in js) (Err e)

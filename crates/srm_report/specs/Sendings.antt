@@ -1,0 +1,28 @@
+-- Requests and repairs that are counted as the rows come, and members that leave.
+use Rattle.std.specs.Prelude.{◌≡◌, ℕ, ◌+◌, Bool, false, List, [], Some, get_or}
+use Rattle.std.specs.Option.{unwrap_or}
+use Rattle.std.specs.FinMap.Entries.{find}
+use Rattle.srm_net.specs.declared.packet.Name.{Name}
+use Rattle.srm_net.specs.Names.{name_cmp}
+use Rattle.srm_member.specs.declared.row.Row.{Row}
+use Rattle.srm_report.specs.declared.sending.Sending.{Sending}
+use Rattle.srm_report.specs.Operations.{has_left, sending_of, sooner}
+
+-- what these entries tell of a name
+abbrev pub sending_in : List (Name × Sending) → Name → Sending
+sending_in es n = unwrap_or (find name_cmp n es) (sending_of [] n)
+
+-- the entries tell what was sent for each name, as these rows do
+abbrev pub TellSent : List Row → List (Name × Sending) → Type 0
+TellSent rows es = (n : Name) → sending_in es n ≡ sending_of rows n
+
+-- the list tells of each member whether it left, as these rows do
+abbrev pub TellLeft : List Row → List Bool → Type 0
+TellLeft rows left = (m : ℕ) → get_or left m false ≡ has_left rows m
+
+-- what was sent, after a request at this time; and after a repair
+abbrev pub requested : ℕ → Sending → Sending
+requested at s = record s { asked = sooner s.asked (Some at); requests = s.requests + 1 }
+
+abbrev pub repaired : Sending → Sending
+repaired s = record s { repairs = s.repairs + 1 }

@@ -1,0 +1,109 @@
+//! What was sent for names, and who left, row by row.
+ghost use Rattle.std.specs.Prelude.{◌≡◌, ◌<◌, ◌++◌, ◌∷◌, [], ℕ, List, Some, OnOk, length, get_or, false};
+ghost use Rattle.std.specs.FinMap.Entries.{put};
+ghost use Rattle.srm_net.specs.Names.{name_cmp};
+ghost use Rattle.srm_member.specs.declared.row.Row.{Row as R};
+ghost use Rattle.srm_report.specs.Operations.{sooner};
+ghost use Rattle.srm_report.specs.Sendings.{repaired, requested, sending_in, TellLeft, TellSent};
+
+use crate::sending::Sending;
+use srm_member::named::Named;
+use srm_member::row::{About, Row, Word};
+use srm_member::told::Told;
+use srm_net::packet::Name;
+use std::alloc::AllocError;
+
+// Takes in what one more row says of requests and repairs. It answers no memory also where a count would be too great for its number.
+pub(crate) fn note_sent(sent: &mut Named<Sending>, row: &Row) -> Result<(), AllocError>
+    ensures { (rows : List R) → TellSent rows sent.old → OnOk result (TellSent (rows ++ row.now ∷ []) sent.new) }
+{
+    let About::Named { name } = row.about else {
+        return Ok(());
+    };
+    if row.told != Told::Sent {
+        return Ok(());
+    }
+    match row.cause {
+        Word::Ask => count_request(sent, name, row.key.time),
+        Word::Answer => count_repair(sent, name),
+        _ => Ok(()),
+    }
+}
+
+// What was sent for a name so far.
+pub(crate) fn sending(sent: &Named<Sending>, name: Name) -> Sending
+    ensures { result ≡ sending_in sent.now name }
+{
+    match sent.get(name) {
+        Some(sending) => sending,
+        None => Sending {
+            asked: None,
+            requests: 0,
+            repairs: 0,
+        },
+    }
+}
+
+// A request was sent for a name at this time.
+fn count_request(sent: &mut Named<Sending>, name: Name, at: u64) -> Result<(), AllocError>
+    ensures { OnOk result (sent.new ≡ put name_cmp name (requested at (sending_in sent.old name)) sent.old) }
+{
+    let before = sending(sent, name);
+    let Some(requests) = before.requests.checked_add(1) else {
+        return Err(AllocError);
+    };
+    let asked = sooner_of(before.asked, at);
+    sent.put(
+        name,
+        Sending {
+            asked,
+            requests,
+            ..before
+        },
+    )
+}
+
+// The sooner of two times, where the first is one.
+pub(crate) fn sooner_of(known: Option<u64>, at: u64) -> Option<u64>
+    ensures { result ≡ sooner known (Some at) }
+{
+    match known {
+        None => Some(at),
+        Some(known) => Some(known.min(at)),
+    }
+}
+
+// A repair was sent for a name.
+fn count_repair(sent: &mut Named<Sending>, name: Name) -> Result<(), AllocError>
+    ensures { OnOk result (sent.new ≡ put name_cmp name (repaired (sending_in sent.old name)) sent.old) }
+{
+    let before = sending(sent, name);
+    let Some(repairs) = before.repairs.checked_add(1) else {
+        return Err(AllocError);
+    };
+    sent.put(name, Sending { repairs, ..before })
+}
+
+// Takes in whether the member of one more row left.
+pub(crate) fn note_left(left: &mut Vec<bool>, row: &Row) -> Result<(), AllocError>
+    ensures { (rows : List R) → TellLeft rows left.old.items → OnOk result (TellLeft (rows ++ row.now ∷ []) left.new.items) }
+{
+    if row.cause != Word::Leave {
+        return Ok(());
+    }
+    let member = usize::from(row.key.member);
+    reach(left, member)?;
+    left[member] = true;
+    Ok(())
+}
+
+// Makes room for a member.
+fn reach(left: &mut Vec<bool>, member: usize) -> Result<(), AllocError>
+    ensures room { OnOk result (member < length left.new.items) }
+    ensures same { (m : ℕ) → get_or left.new.items m false ≡ get_or left.old.items m false }
+{
+    while left.len() <= member {
+        left.push(false)?;
+    }
+    Ok(())
+}
