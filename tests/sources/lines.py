@@ -18,9 +18,9 @@ PAGE = TOP / "docs" / "FORMATS.md"
 COMMAND_LINE = "command line refused"
 NUMBERED = {
     f"refused: {line}"
-    for line in ("bad-key", "bad-member", "bad-draw", "bad-session", "bad-drop", "bad-outage", "write-fault")
+    for line in ("bad-key", "bad-member", "bad-draw", "bad-session", "bad-drop", "bad-outage", "bad-loss", "write-fault")
 }
-PARTS = ["top", "link", "member", "draw", "session", "drop", "outage"]
+PARTS = ["top", "link", "member", "draw", "session", "drop", "outage", "loss"]
 
 
 def in_words(name: str) -> str:
@@ -33,8 +33,8 @@ def faults(definition: str, page: str) -> Iterator[str]:
     lines = re.findall(r"^(\w+)_line \(?\w+\.(\w+)[^=]*= codes \"([^\"]*)\"", definition, re.M)
     table = set(re.findall(r"`(refused: [^`]*|" + COMMAND_LINE + ")`", page))
     shown = {re.sub(r"(?<=bad-key )draw [0-9]+$|[0-9]+$", "", line) for line in table}
-    if len(lines) != 20:
-        yield f"the definition has {len(lines)} lines, and not 20"
+    if len(lines) != 21:
+        yield f"the definition has {len(lines)} lines, and not 21"
     for kind, name, line in lines:
         must = COMMAND_LINE if name in ("Line", "BadWord") else f"refused: {in_words(name)}"
         if line.rstrip(" ") != must or line != must and must not in NUMBERED:

@@ -3,6 +3,7 @@ use Rattle.std.specs.Prelude.{◌≡◌, ℕ, ◌+◌, ◌<◌, List, ◌++◌, 
 use Rattle.toml.specs.Data.{Data}
 use Rattle.srm_net.specs.declared.link.DropSpec.{DropSpec}
 use Rattle.srm_net.specs.declared.link.OutageSpec.{OutageSpec}
+use Rattle.srm_net.specs.declared.link.LossSpec.{LossSpec}
 use Rattle.srm_scenario.specs.declared.draft.Draft.{Draft}
 use Rattle.srm_scenario.specs.declared.entry.MemberEntry.{MemberEntry}
 use Rattle.srm_scenario.specs.declared.parts.DrawSpec.{DrawSpec}
@@ -34,6 +35,9 @@ drop_numbers d = codes "count " ++ decimal d.id.count
 abbrev pub outage_numbers : OutageSpec → List ℕ
 outage_numbers o = codes "from " ++ (decimal o.from ++ (codes ", to " ++ decimal o.to))
 
+abbrev pub loss_numbers : LossSpec → List ℕ
+loss_numbers o = codes "link " ++ decimal o.link
+
 -- the same of the element of a fault
 abbrev pub TellsNumbers : Draft → ScenarioFault → List ℕ → Type 0
 TellsNumbers l (fault.BadMember place) told =
@@ -46,6 +50,8 @@ TellsNumbers l (fault.BadDrop place) told =
     (d : DropSpec) × (slice_get l.drops.items place ≡ Some d) × (told ≡ drop_numbers d)
 TellsNumbers l (fault.BadOutage place) told =
     (o : OutageSpec) × (slice_get l.outages.items place ≡ Some o) × (told ≡ outage_numbers o)
+TellsNumbers l (fault.BadLoss place) told =
+    (o : LossSpec) × (slice_get l.losses.items place ≡ Some o) × (told ≡ loss_numbers o)
 TellsNumbers l f told = ⊥
 
 -- what is said of a copy that has these numbers

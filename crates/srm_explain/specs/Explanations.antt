@@ -19,7 +19,7 @@ use Rattle.srm_scenario.specs.Drafts.{IsDraft}
 use Rattle.srm_scenario.specs.declared.fault.ScenarioFault.{ScenarioFault}
 use Rattle.srm_scenario.specs.declared.fault.ScenarioFault.TheVariants.{NoMemory, ReadFault, TooLong, NotToml, BadKey}
 use Rattle.srm_scenario.specs.declared.fault.ScenarioFault.TheVariants.{NotTree, BadMember, BadDraw, BadSession}
-use Rattle.srm_scenario.specs.declared.fault.ScenarioFault.TheVariants.{BadDrop, BadOutage}
+use Rattle.srm_scenario.specs.declared.fault.ScenarioFault.TheVariants.{BadDrop, BadOutage, BadLoss}
 
 -- a sentence as it stands below a line: with two spaces in front, and its line feed
 abbrev pub note : List ℕ → List ℕ
@@ -44,6 +44,7 @@ general_sentence (BadDraw place) = codes "a draw is by a sender that is present"
 general_sentence (BadSession place) = codes "a session message is by a member that is present and no listener"
 general_sentence (BadDrop place) = codes "a drop is of a link and a member that there are"
 general_sentence (BadOutage place) = codes "an outage is of a link that there is, and ends after it begins"
+general_sentence (BadLoss place) = codes "a loss is of a link that there is, and ends after it begins"
 general_sentence NoMemory = codes "there was no memory left"
 
 -- lines tell what is wrong at this place of a part of a document; of what stands above them nothing is said
@@ -112,4 +113,5 @@ Explains (BadDraw place) text told = ExplainsMisfit (BadDraw place) part.Draw pl
 Explains (BadSession place) text told = ExplainsMisfit (BadSession place) part.Session place text told
 Explains (BadDrop place) text told = ExplainsMisfit (BadDrop place) part.Drop place text told
 Explains (BadOutage place) text told = ExplainsMisfit (BadOutage place) part.Outage place text told
+Explains (BadLoss place) text told = ExplainsMisfit (BadLoss place) part.Loss place text told
 Explains fault text told = told ≡ note (general_sentence fault)

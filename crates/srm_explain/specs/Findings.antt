@@ -17,11 +17,11 @@ use Rattle.srm_scenario.specs.declared.rule.Rule.{Rule}
 use Rattle.srm_scenario.specs.declared.rule.Words.TheVariants.{Roles, Topologies, TopologiesAndParents}
 use Rattle.srm_scenario.specs.Keys.{name_of}
 use Rattle.srm_scenario.specs.Rules.{is_kind, is_whole, has_only, link_rules, member_rules, draw_rules, session_rules}
-use Rattle.srm_scenario.specs.Rules.{drop_rules, outage_rules, times_repeated, top_rules}
+use Rattle.srm_scenario.specs.Rules.{drop_rules, outage_rules, loss_rules, times_repeated, top_rules}
 use Rattle.srm_scenario.specs.Described.{array_at, array_of, constants_of, every_of, form_of, names_parents, number}
 use Rattle.srm_scenario.specs.Described.{version_of}
 use Rattle.srm_scenario.specs.declared.version.Version.{Version}
-use Rattle.srm_scenario.specs.declared.version.Version.TheVariants.{Two, Three}
+use Rattle.srm_scenario.specs.declared.version.Version.TheVariants.{Two, Three, Four}
 use Rattle.srm_explain.specs.declared.finding.Finding.{Finding}
 use Rattle.srm_explain.specs.declared.finding.Finding.TheVariants as finding
 
@@ -40,6 +40,7 @@ rules_for version part.Draw top = draw_rules version
 rules_for version part.Session top = session_rules version
 rules_for version part.Drop top = drop_rules version
 rules_for version part.Outage top = outage_rules version
+rules_for version part.Loss top = loss_rules version
 
 -- the same, in the version that the top table names
 abbrev pub rules_in : Part → Members → List Rule
@@ -54,6 +55,7 @@ array_key part.Draw = Some key.Draw
 array_key part.Session = Some key.Session
 array_key part.Drop = Some key.Drop
 array_key part.Outage = Some key.Outage
+array_key part.Loss = Some key.Loss
 
 -- the elements of the array at a key; none where there is no key
 abbrev pub elements_of : Option Key → Members → List Data
@@ -83,11 +85,23 @@ rise_of key.From every = Some every
 rise_of key.To every = Some every
 rise_of k every = None
 
+-- the same of a loss
+abbrev pub loss_rise_of : Key → ℕ → Option ℕ
+loss_rise_of key.Link every = Some every
+loss_rise_of k every = None
+
+-- the same in a table: that of a loss has a rate, and no other has one
+abbrev pub rise_in : Members → Key → Option ℕ
+rise_in ms k =
+    if is_some (get_member (codes "rate") ms)
+    then loss_rise_of k (every_of (table ms))
+    else rise_of k (every_of (table ms))
+
 -- this is one of the copies for which a table stands, and in it this number stands at the rule's key, and passes the
 -- rule's range
 abbrev pub PassesRange : Rule → Members → ℕ → ℕ → Type 0
 PassesRange r ms copy n =
-    (rise : ℕ) × (rise_of r.key (every_of (table ms)) ≡ Some rise)
+    (rise : ℕ) × (rise_in ms r.key ≡ Some rise)
     × (low : ℕ) × (last : ℕ) × (r.kind ≡ Whole low last)
     × (nat_lt copy (times_repeated (table ms)) ≡ true)
     × (n ≡ number (name_of r.key) ms + copy * rise) × (nat_lt last n ≡ true)
@@ -179,11 +193,12 @@ is_for_parents key.Delays = true
 is_for_parents key.Backs = true
 is_for_parents key = false
 
--- why a key is not allowed, where these are the rules that versions 2 and 3 have for its part
-abbrev pub IsReasonAmong : List Rule → List Rule → Members → Key → List ℕ → Type 0
-IsReasonAmong second third top key reason =
+-- why a key is not allowed, where these are the rules that versions 2, 3 and 4 have for its part
+abbrev pub IsReasonAmong : List Rule → List Rule → List Rule → Members → Key → List ℕ → Type 0
+IsReasonAmong second third fourth top key reason =
     ((reason ≡ codes " in version 1; version 2 has it") × (allows second key ≡ true))
     ⊎ ((reason ≡ codes " in this version; version 3 has it") × (allows second key ≡ false) × (allows third key ≡ true))
+    ⊎ ((reason ≡ codes " in this version; version 4 has it") × (allows third key ≡ false) × (allows fourth key ≡ true))
     ⊎ ((reason ≡ codes " unless topology is \"parents\", which version 3 has") × (is_for_parents key ≡ true)
     × (names_parents top ≡ false))
     ⊎ ((reason ≡ codes " without topology") × (is_shaped top ≡ false))
@@ -191,7 +206,8 @@ IsReasonAmong second third top key reason =
 
 -- why a key of this part is not allowed
 abbrev pub IsReason : Part → Members → Key → List ℕ → Type 0
-IsReason p top key reason = IsReasonAmong (rules_for Two p top) (rules_for Three p top) top key reason
+IsReason p top key reason =
+    IsReasonAmong (rules_for Two p top) (rules_for Three p top) (rules_for Four p top) top key reason
 
 -- what is said besides of a value that is not of this kind: of a topology that a later version has, that it has it
 abbrev pub IsReasonOfKind : Members → Kind → List ℕ → Type 0

@@ -4,6 +4,7 @@ use Rattle.std.specs.Prelude.{codes, decimal}
 use Rattle.srm_net.specs.declared.link.DropSpec.{DropSpec}
 use Rattle.srm_net.specs.declared.link.LinkSpec.{LinkSpec}
 use Rattle.srm_net.specs.declared.link.OutageSpec.{OutageSpec}
+use Rattle.srm_net.specs.declared.link.LossSpec.{LossSpec}
 use Rattle.srm_net.specs.Roles.{is_sender, is_late, is_listener}
 use Rattle.srm_scenario.specs.declared.draft.Draft.{Draft}
 use Rattle.srm_scenario.specs.declared.entry.MemberEntry.{MemberEntry}
@@ -13,7 +14,7 @@ use Rattle.srm_scenario.specs.declared.parts.SessionSpec.{SessionSpec}
 use Rattle.srm_scenario.specs.declared.fault.ScenarioFault.{ScenarioFault}
 use Rattle.srm_scenario.specs.declared.fault.ScenarioFault.TheVariants as fault
 use Rattle.srm_scenario.specs.Drafts.{links_listed}
-use Rattle.srm_scenario.specs.Faults.{is_star, fits_member, fits_draw, fits_session, fits_drop, fits_outage}
+use Rattle.srm_scenario.specs.Faults.{is_star, fits_member, fits_draw, fits_session, fits_drop, fits_outage, fits_loss}
 use Rattle.srm_explain.specs.declared.misfit.Misfit.{Misfit}
 use Rattle.srm_explain.specs.declared.misfit.Misfit.TheVariants as misfit
 
@@ -72,6 +73,12 @@ BreaksOutage links o (misfit.NoLink n) = (n ≡ links) × (links ≤ o.link)
 BreaksOutage links o (misfit.EndsEarly from) = (from ≡ o.from) × (o.to ≤ from)
 BreaksOutage links o m = ⊥
 
+-- a loss breaks this rule, of so many links
+abbrev pub BreaksLoss : ℕ → LossSpec → Misfit → Type 0
+BreaksLoss links o (misfit.NoLink n) = (n ≡ links) × (links ≤ o.link)
+BreaksLoss links o (misfit.StopsEarly from) = (from ≡ o.from) × (to : ℕ) × (o.to ≡ Some to) × (to ≤ from)
+BreaksLoss links o m = ⊥
+
 -- ---- what is found
 
 -- the members of a draft, and its links
@@ -100,6 +107,9 @@ Breaks l (fault.BadDrop place) m =
 Breaks l (fault.BadOutage place) m =
     (o : OutageSpec) × (slice_get l.outages.items place ≡ Some o) × (fits_outage (length (links_of l)) o ≡ false)
     × BreaksOutage (length (links_of l)) o m
+Breaks l (fault.BadLoss place) m =
+    (o : LossSpec) × (slice_get l.losses.items place ≡ Some o) × (fits_loss (length (links_of l)) o ≡ false)
+    × BreaksLoss (length (links_of l)) o m
 Breaks l f m = ⊥
 
 -- ---- what is said of it
@@ -126,3 +136,4 @@ misfit_sentence (misfit.BeforeJoin join) = codes "its member is not there yet: i
 misfit_sentence (misfit.AfterLeave leave) = codes "its member is there no more: it leaves at " ++ decimal leave
 misfit_sentence (misfit.AfterEnd until) = codes "the run is over by then: until is " ++ decimal until
 misfit_sentence (misfit.EndsEarly from) = codes "an outage ends after it begins, which is at " ++ decimal from
+misfit_sentence (misfit.StopsEarly from) = codes "a loss ends after it begins, which is at " ++ decimal from

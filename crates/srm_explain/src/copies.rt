@@ -1,11 +1,11 @@
 //! Which copies of the elements of a text the elements of a scenario are.
 ghost use Rattle.std.specs.Prelude.{◌≡◌, IfOk, IfSome, map, string_bytes};
 ghost use Rattle.toml.specs.View.{view};
-ghost use Rattle.srm_scenario.specs.declared.fault.ScenarioFault.TheVariants.{BadMember, BadDraw, BadSession, BadDrop, BadOutage};
-ghost use Rattle.srm_explain.specs.Copies.{copy_sentence, draw_numbers, drop_numbers, member_numbers, outage_numbers, session_numbers, IsCopied, TellsNumbers};
+ghost use Rattle.srm_scenario.specs.declared.fault.ScenarioFault.TheVariants.{BadMember, BadDraw, BadSession, BadDrop, BadOutage, BadLoss};
+ghost use Rattle.srm_explain.specs.Copies.{copy_sentence, draw_numbers, drop_numbers, loss_numbers, member_numbers, outage_numbers, session_numbers, IsCopied, TellsNumbers};
 
 use crate::element::element;
-use srm_net::link::{DropSpec, OutageSpec};
+use srm_net::link::{DropSpec, LossSpec, OutageSpec};
 use srm_scenario::draft::Draft;
 use srm_scenario::entry::MemberEntry;
 use srm_scenario::fault::ScenarioFault;
@@ -79,6 +79,7 @@ pub(crate) fn risen_numbers(
         ScenarioFault::BadSession { place } => told_of_session(alloc, draft, place),
         ScenarioFault::BadDrop { place } => told_of_drop(alloc, draft, place),
         ScenarioFault::BadOutage { place } => told_of_outage(alloc, draft, place),
+        ScenarioFault::BadLoss { place } => told_of_loss(alloc, draft, place),
         _ => Ok(None),
     }
 }
@@ -138,6 +139,17 @@ fn told_of_outage(alloc: Global, draft: &Draft, place: usize) -> Result<Option<S
     Ok(Some(told))
 }
 
+// The numbers of the loss at a place that rise from copy to copy, if there is one.
+fn told_of_loss(alloc: Global, draft: &Draft, place: usize) -> Result<Option<String>, AllocError>
+    ensures { IfOk result (λ told. IfSome told (λ s. TellsNumbers draft.now (BadLoss place) (string_bytes s))) }
+{
+    let Some(loss) = element(&draft.losses, place) else {
+        return Ok(None);
+    };
+    let told = loss_numbers(alloc, loss)?;
+    Ok(Some(told))
+}
+
 // The numbers of a member that rise from copy to copy.
 fn member_numbers(alloc: Global, entry: &MemberEntry) -> Result<String, AllocError>
     ensures { IfOk result (λ s. string_bytes s ≡ member_numbers entry.now) }
@@ -178,4 +190,12 @@ fn outage_numbers(alloc: Global, outage: &OutageSpec) -> Result<String, AllocErr
     let from = outage.from;
     let to = outage.to;
     format!(in alloc; "from {from}, to {to}")
+}
+
+// The number of a loss that rises from copy to copy.
+fn loss_numbers(alloc: Global, loss: &LossSpec) -> Result<String, AllocError>
+    ensures { IfOk result (λ s. string_bytes s ≡ loss_numbers loss.now) }
+{
+    let link = loss.link;
+    format!(in alloc; "link {link}")
 }

@@ -63,6 +63,7 @@ pub fn explain(alloc: Global, fault: ScenarioFault, text: &[u8]) -> Result<Strin
             place,
             text,
         ),
+        ScenarioFault::BadLoss { place } => explain_misfit(alloc, fault, Part::Loss, place, text),
         _ => general(alloc, fault),
     }
 }

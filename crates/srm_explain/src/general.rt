@@ -23,6 +23,8 @@ pub(crate) fn general_sentence(fault: ScenarioFault) -> &'static str
         ScenarioFault::BadDrop { .. } => "a drop is of a link and a member that there are",
         ScenarioFault::BadOutage { .. } =>
             "an outage is of a link that there is, and ends after it begins",
+        ScenarioFault::BadLoss { .. } =>
+            "a loss is of a link that there is, and ends after it begins",
         ScenarioFault::NoMemory => "there was no memory left",
     }
 }

@@ -73,6 +73,7 @@ pub(crate) fn array_key(part: Part) -> Option<Key>
         Part::Session => Some(Key::Session),
         Part::Drop => Some(Key::Drop),
         Part::Outage => Some(Key::Outage),
+        Part::Loss => Some(Key::Loss),
     }
 }
 

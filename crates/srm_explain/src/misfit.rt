@@ -58,8 +58,13 @@ pub enum Misfit {
         /// When the run ends, in ticks.
         until: u64,
     },
-    /// It does not end after it begins.
+    /// An outage does not end after it begins.
     EndsEarly {
+        /// When it begins, in ticks.
+        from: u64,
+    },
+    /// A loss does not end after it begins.
+    StopsEarly {
         /// When it begins, in ticks.
         from: u64,
     },
@@ -78,7 +83,7 @@ impl Misfit {
             Misfit::NotLate => Key::Pages,
             Misfit::BeforeJoin { .. } | Misfit::AfterLeave { .. } | Misfit::AfterEnd { .. } =>
                 Key::At,
-            Misfit::EndsEarly { .. } => Key::To,
+            Misfit::EndsEarly { .. } | Misfit::StopsEarly { .. } => Key::To,
         }
     }
 }

@@ -62,5 +62,8 @@ pub(crate) fn misfit_sentence(alloc: Global, misfit: Misfit) -> Result<String, A
         Misfit::EndsEarly { from } => {
             format!(in alloc; "an outage ends after it begins, which is at {from}")
         }
+        Misfit::StopsEarly { from } => {
+            format!(in alloc; "a loss ends after it begins, which is at {from}")
+        }
     }
 }

@@ -1,14 +1,14 @@
 //! Which rule an element of a draft breaks beside the rest of it.
 ghost use Rattle.std.specs.Prelude.{◌≡◌, ◌≤◌, true, false, Some, IfSome, MatchOption, length, option_map, slice_get};
 ghost use Rattle.srm_scenario.specs.declared.entry.MemberEntry.{MemberEntry};
-ghost use Rattle.srm_scenario.specs.declared.fault.ScenarioFault.TheVariants.{BadMember, BadDraw, BadSession, BadDrop, BadOutage};
-ghost use Rattle.srm_scenario.specs.Faults.{fits_draw, fits_drop, fits_member, fits_outage, fits_session, is_star, is_taken};
-ghost use Rattle.srm_explain.specs.Misfits.{links_of, members_of, Breaks, BreaksDraw, BreaksDrop, BreaksMember, BreaksOutage, BreaksSession, IsAway};
+ghost use Rattle.srm_scenario.specs.declared.fault.ScenarioFault.TheVariants.{BadMember, BadDraw, BadSession, BadDrop, BadOutage, BadLoss};
+ghost use Rattle.srm_scenario.specs.Faults.{fits_draw, fits_drop, fits_loss, fits_member, fits_outage, fits_session, is_star, is_taken};
+ghost use Rattle.srm_explain.specs.Misfits.{links_of, members_of, Breaks, BreaksDraw, BreaksDrop, BreaksLoss, BreaksMember, BreaksOutage, BreaksSession, IsAway};
 ghost use Rattle.srm_scenario.specs.Presence.{is_present};
 
 use crate::element::element;
 use crate::misfit::Misfit;
-use srm_net::link::{DropSpec, OutageSpec};
+use srm_net::link::{DropSpec, LossSpec, OutageSpec};
 use srm_net::role::Role;
 use srm_scenario::draft::Draft;
 use srm_scenario::entry::MemberEntry;
@@ -36,6 +36,10 @@ pub(crate) fn misfit_of(draft: &Draft, fault: ScenarioFault) -> Option<Misfit>
         },
         ScenarioFault::BadOutage { place } => match element(&draft.outages, place) {
             Some(outage) => of_outage(links_of(draft), outage),
+            None => None,
+        },
+        ScenarioFault::BadLoss { place } => match element(&draft.losses, place) {
+            Some(loss) => of_loss(links_of(draft), loss),
             None => None,
         },
         _ => None,
@@ -219,6 +223,22 @@ fn of_outage(links: usize, outage: &OutageSpec) -> Option<Misfit>
     }
     if outage.to <= outage.from {
         return Some(Misfit::EndsEarly { from: outage.from });
+    }
+    None
+}
+
+// Which rule a loss breaks, of so many links.
+fn of_loss(links: usize, loss: &LossSpec) -> Option<Misfit>
+    ensures { MatchOption result (fits_loss links loss.now ≡ true)
+        (λ m. (fits_loss links loss.now ≡ false) × BreaksLoss links loss.now m) }
+{
+    if usize::from(loss.link) >= links {
+        return Some(Misfit::NoLink { links });
+    }
+    if let Some(to) = loss.to {
+        if to <= loss.from {
+            return Some(Misfit::StopsEarly { from: loss.from });
+        }
     }
     None
 }

@@ -1,12 +1,12 @@
 //! Which of the copies of an element passes a range.
 ghost use Rattle.std.specs.Prelude.{◌≡◌, ◌+◌, ◌*◌, ◌≤◌, ◌^◌, ◌-◌, true, IfSome, nat_lt};
 ghost use Rattle.toml.specs.View.{table_view};
-ghost use Rattle.srm_explain.specs.Findings.{rise_of, IsBroken, IsFinding};
+ghost use Rattle.srm_explain.specs.Findings.{rise_in, IsBroken, IsFinding};
 
 use crate::finding::Finding;
 use srm_scenario::key::Key;
 use srm_scenario::rule::{Kind, Rule};
-use srm_scenario::table::{every_in, number, times_in};
+use srm_scenario::table::{every_in, has_key, number, times_in};
 use toml::Table;
 
 /// The first of these rules whose range the number at its key passes in one of the copies for which a table stands, if one is, and
@@ -27,7 +27,7 @@ pub(crate) fn passed_in(table: &Table, rules: &[Rule]) -> Option<Finding>
 fn passed_at(table: &Table, rule: Rule) -> Option<Finding>
     ensures { IfSome result (IsBroken rule (table_view table.now)) }
 {
-    let rise = rise_of(rule.key, every_in(table))?;
+    let rise = rise_in(table, rule.key)?;
     let Kind::Whole(_, last) = rule.kind else {
         return None;
     };
@@ -37,10 +37,14 @@ fn passed_at(table: &Table, rule: Rule) -> Option<Finding>
     Some(Finding::Passed { rule, copy, number })
 }
 
-// By how much the number at a key rises from copy to copy, if it rises, where copies are so far apart.
-fn rise_of(key: Key, every: u64) -> Option<u64>
-    ensures { result ≡ rise_of key every }
+// By how much the number at a key of a table rises from copy to copy, if it rises. Of a loss, which alone has a rate, the link does.
+fn rise_in(table: &Table, key: Key) -> Option<u64>
+    ensures { result ≡ rise_in (table_view table.now) key }
 {
+    let every = every_in(table);
+    if has_key(table, Key::Rate) {
+        return matches!(key, Key::Link).then_some(every);
+    }
     match key {
         Key::Node | Key::At | Key::Count | Key::From | Key::To => Some(every),
         Key::Stream => Some(1),

@@ -10,7 +10,8 @@ use srm_scenario::fault::Part;
 use srm_scenario::key::Key;
 use srm_scenario::rule::{Kind, Need, Rule, Words};
 use srm_scenario::rules::{
-    draw_rules, drop_rules, link_rules, member_rules, outage_rules, session_rules, top_rules,
+    draw_rules, drop_rules, link_rules, loss_rules, member_rules, outage_rules, session_rules,
+    top_rules,
 };
 use srm_scenario::table::{has_key, number, says};
 use srm_scenario::top::{constants_of, form_of};
@@ -47,6 +48,7 @@ fn rules_for(
         Part::Session => Vec::from_slice(alloc, &session_rules(version)),
         Part::Drop => Vec::from_slice(alloc, &drop_rules(version)),
         Part::Outage => Vec::from_slice(alloc, &outage_rules(version)),
+        Part::Loss => Vec::from_slice(alloc, &loss_rules(version)),
     }
 }
 
@@ -112,14 +114,22 @@ fn topology_reason(top: &Table, key: Key) -> &'static str
     }
 }
 
-// Why a key is not allowed, where the rules of versions 2 and 3 for its part are these.
-fn reason_among(second: &[Rule], third: &[Rule], top: &Table, key: Key) -> &'static str
-    ensures { IsReasonAmong second.now third.now (table_view top.now) key result.now }
+// Why a key is not allowed, where the rules of versions 2, 3 and 4 for its part are these.
+fn reason_among(
+    second: &[Rule],
+    third: &[Rule],
+    fourth: &[Rule],
+    top: &Table,
+    key: Key,
+) -> &'static str
+    ensures { IsReasonAmong second.now third.now fourth.now (table_view top.now) key result.now }
 {
     if allows(second, key) {
         " in version 1; version 2 has it"
     } else if allows(third, key) {
         " in this version; version 3 has it"
+    } else if allows(fourth, key) {
+        " in this version; version 4 has it"
     } else if is_for_parents(key) && !says(top, Key::Topology, "parents") {
         " unless topology is \"parents\", which version 3 has"
     } else if !has_key(top, Key::Topology) {
@@ -135,5 +145,6 @@ fn reason_for(alloc: Global, part: Part, top: &Table, key: Key) -> Result<&'stat
 {
     let second = rules_for(alloc, Version::Two, part, top)?;
     let third = rules_for(alloc, Version::Three, part, top)?;
-    Ok(reason_among(&second, &third, top, key))
+    let fourth = rules_for(alloc, Version::Four, part, top)?;
+    Ok(reason_among(&second, &third, &fourth, top, key))
 }

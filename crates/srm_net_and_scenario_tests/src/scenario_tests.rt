@@ -153,6 +153,46 @@ fn a_scenario_lists_its_drops(rt: HostRuntime) -> Result<(), Fail> {
     Ok(())
 }
 
+// A loss of each of two links, by words of stream 54.
+const LOSSY: &str = "version = 4\nuntil = 100\nc1 = 1000\nc2 = 0\nd1 = 1000\nd2 = 0
+topology = \"chain\"
+size = 4
+delay = 1
+loss = [{ link = 1, rate = 601955, stream = 54, from = 5, to = 9, times = 2 }]
+";
+
+// Whether a link of that scenario takes out the first packet of member 0 at a tick, by the words of a seed, or of the one that the
+// scenario has when it is read.
+fn takes_out(alloc: Global, seed: Option<u64>, link: u16, at: u64) -> Result<bool, Fail> {
+    let s = read_scenario(alloc, &mut ReadFeed::new(LOSSY.as_bytes()))?;
+    let s = match seed {
+        Some(seed) => s.with_seed(seed),
+        None => s,
+    };
+    Ok(s.drops().takes_out(packet(0, 0), link, at))
+}
+
+#[test]
+fn a_scenario_has_its_losses(rt: HostRuntime) -> Result<(), Fail> {
+    for (seed, link, at, want) in [
+        (Some(42), 1, 4, false),
+        (Some(42), 1, 5, true),
+        (Some(42), 1, 8, true),
+        (Some(42), 1, 9, false),
+        (Some(43), 1, 5, false),
+        (Some(42), 2, 5, false),
+        (Some(44), 2, 5, true),
+        (Some(44), 0, 5, false),
+        (None, 1, 5, true),
+        (Some(0), 1, 5, true),
+        (Some(2), 1, 5, false),
+    ] {
+        let told = takes_out(rt.alloc(), seed, link, at)?;
+        assert_eq!(rt; told, want, "seed {seed:?}, link {link} at {at}");
+    }
+    Ok(())
+}
+
 #[test]
 fn network_of_a_scenario(rt: HostRuntime) -> Result<(), Fail> {
     let s = sample(rt.alloc())?;

@@ -36,5 +36,7 @@ told_of_given T asks message given text told (fault.Scenario (scenario.BadDrop n
     same asks message given text told (fault.Scenario (scenario.BadDrop n)) kept h
 told_of_given T asks message given text told (fault.Scenario (scenario.BadOutage n)) kept h =
     same asks message given text told (fault.Scenario (scenario.BadOutage n)) kept h
+told_of_given T asks message given text told (fault.Scenario (scenario.BadLoss n)) kept h =
+    same asks message given text told (fault.Scenario (scenario.BadLoss n)) kept h
 told_of_given T asks message given text told (fault.Scenario scenario.NoMemory) kept h =
     same asks message given text told (fault.Scenario scenario.NoMemory) kept h

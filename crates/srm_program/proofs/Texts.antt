@@ -7,7 +7,7 @@ use Rattle.srm_net.specs.Network.{Network}
 use Rattle.srm_scenario.specs.declared.fault.ScenarioFault.{ScenarioFault}
 use Rattle.srm_scenario.specs.declared.fault.ScenarioFault.TheVariants as scenario
 use Rattle.srm_scenario.specs.declared.fault.ScenarioFault.TheVariants.{ReadFault, TooLong, NotToml, BadKey, NotTree, BadMember}
-use Rattle.srm_scenario.specs.declared.fault.ScenarioFault.TheVariants.{BadDraw, BadSession, BadDrop, BadOutage}
+use Rattle.srm_scenario.specs.declared.fault.ScenarioFault.TheVariants.{BadDraw, BadSession, BadDrop, BadOutage, BadLoss}
 use Rattle.srm_scenario.specs.Plain.{PlainScenario, network_of}
 use Rattle.srm_scenario.specs.Faults.{scenario_of_text, AnswersText, RefusesText}
 use Rattle.srm_scenario.proofs.Texts.{count_stays}
@@ -88,4 +88,5 @@ whole_read {T} text seed o old new (Err (Scenario f)) few told = by f told
     by (BadSession n) h = (h, refl)
     by (BadDrop n) h = (h, refl)
     by (BadOutage n) h = (h, refl)
+    by (BadLoss n) h = (h, refl)
     by scenario.NoMemory h = (h, refl)

@@ -20,6 +20,7 @@ part_word part.Draw = codes "draw"
 part_word part.Session = codes "session"
 part_word part.Drop = codes "drop"
 part_word part.Outage = codes "outage"
+part_word part.Loss = codes "loss"
 
 -- the line of a command line for which nothing is run; where help is asked for there is none
 abbrev pub command_line : LineFault → List ℕ
@@ -40,6 +41,7 @@ scenario_line (scenario.BadDraw place) = codes "refused: bad-draw " ++ decimal p
 scenario_line (scenario.BadSession place) = codes "refused: bad-session " ++ decimal place
 scenario_line (scenario.BadDrop place) = codes "refused: bad-drop " ++ decimal place
 scenario_line (scenario.BadOutage place) = codes "refused: bad-outage " ++ decimal place
+scenario_line (scenario.BadLoss place) = codes "refused: bad-loss " ++ decimal place
 scenario_line scenario.NoMemory = codes "refused: no-memory"
 
 -- the line of a run that is refused

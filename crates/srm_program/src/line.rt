@@ -60,6 +60,7 @@ fn line_of_scenario_fault(alloc: Global, fault: ScenarioFault) -> Result<String,
         ScenarioFault::BadSession { place } => format!(in alloc; "refused: bad-session {place}")?,
         ScenarioFault::BadDrop { place } => format!(in alloc; "refused: bad-drop {place}")?,
         ScenarioFault::BadOutage { place } => format!(in alloc; "refused: bad-outage {place}")?,
+        ScenarioFault::BadLoss { place } => format!(in alloc; "refused: bad-loss {place}")?,
         ScenarioFault::NoMemory => String::from_str(alloc, "refused: no-memory")?,
     };
     Ok(line)
@@ -90,5 +91,6 @@ fn word_of_part(part: Part) -> &'static str
         Part::Session => "session",
         Part::Drop => "drop",
         Part::Outage => "outage",
+        Part::Loss => "loss",
     }
 }

@@ -10,20 +10,21 @@ use Rattle.std.specs.Ordering.{match_ordering}
 use Rattle.std.specs.Prelude.{◌||◌, ◌==◌}
 use Rattle.srm_net.specs.declared.link.DropSpec.{DropSpec}
 use Rattle.srm_net.specs.declared.link.OutageSpec.{OutageSpec}
+use Rattle.srm_net.specs.declared.link.LossSpec.{LossSpec}
 use Rattle.srm_net.specs.DropSets.{with_once, ordered_once}
 use Rattle.srm_net.specs.Network.{HasDelays}
 use Rattle.srm_net.specs.Paths.{drop_cmp}
 use Rattle.srm_net.proofs.DropLemmas.{drops_ascend}
 use Rattle.srm_scenario.specs.declared.entry.MemberEntry.{MemberEntry}
 use Rattle.srm_scenario.specs.declared.fault.ScenarioFault.{ScenarioFault}
-use Rattle.srm_scenario.specs.declared.fault.ScenarioFault.TheVariants.{NotTree, BadDraw, BadSession, BadDrop, BadOutage}
+use Rattle.srm_scenario.specs.declared.fault.ScenarioFault.TheVariants.{NotTree, BadDraw, BadSession, BadDrop, BadOutage, BadLoss}
 use Rattle.srm_scenario.specs.declared.parts.DrawSpec.{DrawSpec}
 use Rattle.srm_scenario.specs.declared.parts.MemberSpec.{MemberSpec}
 use Rattle.srm_scenario.specs.declared.parts.SessionSpec.{SessionSpec}
-use Rattle.srm_scenario.specs.Accepted.{IsMember, IsDraw, IsSession, IsDrop, IsOutage, IsAccepted}
+use Rattle.srm_scenario.specs.Accepted.{IsMember, IsDraw, IsSession, IsDrop, IsOutage, IsLoss, IsAccepted}
 use Rattle.srm_net.specs.Roles.{is_late}
 use Rattle.srm_scenario.specs.Faults.{faults_by, fault_unless, leaves_after, is_taken, member_faults}
-use Rattle.srm_scenario.specs.Faults.{fits_draw, fits_session, fits_drop, fits_outage, meaning_faults}
+use Rattle.srm_scenario.specs.Faults.{fits_draw, fits_session, fits_drop, fits_outage, fits_loss, meaning_faults}
 use Rattle.srm_scenario.specs.Plain.{PlainScenario, network_of}
 use Rattle.srm_scenario.specs.Ranges.{MemberInRange, HasItsPages, InRange}
 use Rattle.srm_scenario.specs.Trees.{is_tree}
@@ -64,6 +65,9 @@ drop_fits s d h = grind arith
 
 outage_fits : (s : PlainScenario) (o : OutageSpec) → fits_outage (length s.links) o ≡ true → IsOutage s o
 outage_fits s o h = grind arith
+
+loss_fits : (s : PlainScenario) (o : LossSpec) → fits_loss (length s.links) o ≡ true → IsLoss s o
+loss_fits s o h = grind arith
 
 all_matched : {A : Type 0} (P : A → Type 0) (o : Ordering) (xs ys zs : List A) → AllByRecursion P xs → AllByRecursion P ys
     → AllByRecursion P zs → AllByRecursion P (match_ordering o xs ys zs)
@@ -172,6 +176,7 @@ accepted_from s star entries listed range its members drops h =
     let (told, h4) = empty_parts (faults_by BadSession (fits_session s.until s.members) 0 s.sessions) _ h3 in
     let (dropped, h5) = empty_parts (faults_by BadDrop (fits_drop (length s.links) (length s.members)) 0 listed) _ h4 in
     let (out, h6) = empty_parts (faults_by BadOutage (fits_outage (length s.links)) 0 s.drops.outages) _ h5 in
+    let (lost, h7) = empty_parts (faults_by BadLoss (fits_loss (length s.links)) 0 s.drops.losses) _ h6 in
     let ranges : AllByRecursion MemberInRange (map (λ e. e.spec) entries) =
     subst (λ (l : List MemberSpec). AllByRecursion MemberInRange l) members range.members in
     let fit : AllByRecursion (IsMember s.until) s.members = subst (λ (l : List MemberSpec). AllByRecursion (IsMember s.until) l)
@@ -205,4 +210,7 @@ accepted_from s star entries listed range its members drops h =
       outages = All-from_recursion (IsOutage s) s.drops.outages
           (all_weaker _ (IsOutage s) (outage_fits s) s.drops.outages
           (none_by BadOutage (fits_outage (length s.links)) 0 s.drops.outages out));
+      losses = All-from_recursion (IsLoss s) s.drops.losses
+          (all_weaker _ (IsLoss s) (loss_fits s) s.drops.losses
+          (none_by BadLoss (fits_loss (length s.links)) 0 s.drops.losses lost));
     }

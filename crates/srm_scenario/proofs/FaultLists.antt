@@ -10,7 +10,7 @@ use Rattle.srm_scenario.specs.Rules.{fits_rules}
 use Rattle.srm_scenario.specs.Described.{array_at, version_of}
 use Rattle.srm_scenario.specs.Faults.{first, IsFault, fault_unless, rules_of_top, top_faults, key_faults}
 use Rattle.srm_scenario.specs.Faults.{faults_of_links, faults_of_members, faults_of_draws, faults_of_sessions, faults_of_drops}
-use Rattle.srm_scenario.specs.Faults.{faults_of_outages}
+use Rattle.srm_scenario.specs.Faults.{faults_of_outages, faults_of_losses}
 
 pub first-left : (xs ys : List ScenarioFault) (e : ScenarioFault) → first xs ≡ Some e → first (xs ++ ys) ≡ Some e
 first-left [] ys e h = cc
@@ -61,6 +61,9 @@ module _ (ms : Members) where
   abbrev outages : List ScenarioFault
   outages = faults_of_outages (version_of ms) (array_at (codes "outage") ms)
 
+  abbrev losses : List ScenarioFault
+  losses = faults_of_losses (version_of ms) (array_at (codes "loss") ms)
+
   no_top_fault : fits_rules (rules_of_top ms) ms ≡ true → top_faults ms ≡ []
   no_top_fault h = ap (λ b. fault_unless b (BadKey part.Top 0)) h
 
@@ -102,7 +105,15 @@ module _ (ms : Members) where
       later (top_faults ms) _ e (no_top_fault top)
       (later links _ e l (later members _ e m (later draws _ e d (later sessions _ e s (later drops _ e p (here outages _ e h))))))
 
-  pub no_key_fault : fits_rules (rules_of_top ms) ms ≡ true → links ≡ [] → members ≡ [] → draws ≡ [] → sessions ≡ [] → drops ≡ []
-      → outages ≡ [] → key_faults ms ≡ []
+  pub loss_fault : (e : ScenarioFault) → fits_rules (rules_of_top ms) ms ≡ true → links ≡ [] → members ≡ [] → draws ≡ [] → sessions ≡ []
+      → drops ≡ [] → outages ≡ [] → IsFault e losses → IsFault e (key_faults ms)
   unfolding key_faults
-  no_key_fault top l m d s p o = grind arith
+  loss_fault e top l m d s p o h =
+      later (top_faults ms) _ e (no_top_fault top)
+      (later links _ e l (later members _ e m (later draws _ e d (later sessions _ e s (later drops _ e p (later outages _ e o
+      (here losses _ e h)))))))
+
+  pub no_key_fault : fits_rules (rules_of_top ms) ms ≡ true → links ≡ [] → members ≡ [] → draws ≡ [] → sessions ≡ [] → drops ≡ []
+      → outages ≡ [] → losses ≡ [] → key_faults ms ≡ []
+  unfolding key_faults
+  no_key_fault top l m d s p o q = grind arith

@@ -6,12 +6,12 @@ use Rattle.srm_net.specs.declared.link.LinkSpec.{LinkSpec}
 use Rattle.srm_net.specs.Network.{plain_network}
 use Rattle.srm_net.specs.DropRules.{DropRules}
 use Rattle.srm_scenario.specs.declared.fault.ScenarioFault.{ScenarioFault}
-use Rattle.srm_scenario.specs.declared.fault.ScenarioFault.TheVariants.{NoMemory, NotTree, BadDraw, BadSession, BadDrop, BadOutage}
+use Rattle.srm_scenario.specs.declared.fault.ScenarioFault.TheVariants.{NoMemory, NotTree, BadDraw, BadSession, BadDrop, BadOutage, BadLoss}
 use Rattle.srm_scenario.specs.declared.draft.Draft.{Draft}
 use Rattle.srm_scenario.specs.declared.parts.MemberSpec.{MemberSpec}
 use Rattle.srm_scenario.specs.Accepted.{IsAccepted}
 use Rattle.srm_scenario.specs.Faults.{first, IsFault, fault_unless, faults_by, is_star, member_faults, fits_draw, fits_session, fits_drop}
-use Rattle.srm_scenario.specs.Faults.{fits_outage, meaning_faults}
+use Rattle.srm_scenario.specs.Faults.{fits_outage, fits_loss, meaning_faults}
 use Rattle.srm_scenario.specs.Drafts.{links_listed, plain_of, faults_in}
 use Rattle.srm_scenario.specs.Plain.{PlainScenario, drop_rules_of, network_of}
 use Rattle.srm_scenario.specs.Ranges.{InRange, HasItsPages}
@@ -44,9 +44,12 @@ Dropped l links members = faults_by BadDrop (fits_drop (length links) (length me
 abbrev Out : Draft → List LinkSpec → List ScenarioFault
 Out l links = faults_by BadOutage (fits_outage (length links)) 0 l.outages.items
 
+abbrev Lost : Draft → List LinkSpec → List ScenarioFault
+Lost l links = faults_by BadLoss (fits_loss (length links)) 0 l.losses.items
+
 all_faults : Draft → List LinkSpec → List MemberSpec → List ScenarioFault
 all_faults l links members = Tree l
-    ++ (Placed l ++ (Drawn l members ++ (Told l members ++ (Dropped l links members ++ (Out l links ++ [])))))
+    ++ (Placed l ++ (Drawn l members ++ (Told l members ++ (Dropped l links members ++ (Out l links ++ (Lost l links ++ []))))))
 
 -- the faults, by the links and members that were made
 are_all : (l : Draft) (links : List LinkSpec) (members : List MemberSpec) → Made l links members → all_faults l links members ≡ faults_in l
@@ -80,36 +83,44 @@ module _ (l : Draft) (links : List LinkSpec) (e : ScenarioFault) (same : links �
     pub sent_fault : first (Drawn l members ++ Told l members) ≡ Some e → IsFault e (faults_in l)
     unfolding all_faults made
     sent_fault h =
-        let rest : List ScenarioFault = Dropped l links members ++ (Out l links ++ []) in
+        let rest : List ScenarioFault = Dropped l links members ++ (Out l links ++ (Lost l links ++ [])) in
         let sent : IsFault e (Drawn l members ++ (Told l members ++ rest)) = subst (λ (fs : List ScenarioFault). IsFault e fs)
         (append_assoc (Drawn l members) (Told l members) rest) (here (Drawn l members ++ Told l members) rest e (inr h)) in
         let f : IsFault e (all_faults l links members) = later (Tree l) _ e (no_tree_fault l links same tree)
         (later (Placed l) _ e placed sent) in
         subst (λ (fs : List ScenarioFault). IsFault e fs) (are_all l links members made) f
 
-    pub drops_fault : Drawn l members ≡ [] → Told l members ≡ [] → IsFault e (Dropped l links members ++ Out l links)
-        → IsFault e (faults_in l)
-    unfolding all_faults made
-    drops_fault drawn told h =
-        let lost : IsFault e (Dropped l links members ++ (Out l links ++ [])) = subst (λ (fs : List ScenarioFault). IsFault e fs)
-        (append_assoc (Dropped l links members) (Out l links) []) (here (Dropped l links members ++ Out l links) [] e h) in
-        let f : IsFault e (all_faults l links members) = later (Tree l) _ e (no_tree_fault l links same tree)
-        (later (Placed l) _ e placed (later (Drawn l members) _ e drawn (later (Told l members) _ e told lost))) in
-        subst (λ (fs : List ScenarioFault). IsFault e fs) (are_all l links members made) f
+    module _ (drawn : Drawn l members ≡ []) (told : Told l members ≡ []) where
+      lost_fault : IsFault e (Dropped l links members ++ (Out l links ++ (Lost l links ++ []))) → IsFault e (faults_in l)
+      unfolding all_faults made
+      lost_fault h =
+          let f : IsFault e (all_faults l links members) = later (Tree l) _ e (no_tree_fault l links same tree)
+          (later (Placed l) _ e placed (later (Drawn l members) _ e drawn (later (Told l members) _ e told h))) in
+          subst (λ (fs : List ScenarioFault). IsFault e fs) (are_all l links members made) f
+
+      pub dropped_fault : first (Dropped l links members) ≡ Some e → IsFault e (faults_in l)
+      dropped_fault h = lost_fault (here (Dropped l links members) _ e (inr h))
+
+      pub spans_fault : Dropped l links members ≡ [] → first (Out l links ++ Lost l links) ≡ Some e → IsFault e (faults_in l)
+      spans_fault dropped h =
+          lost_fault (later (Dropped l links members) _ e dropped (subst (λ (fs : List ScenarioFault). IsFault e fs)
+          (append_assoc (Out l links) (Lost l links) []) (here (Out l links ++ Lost l links) [] e (inr h))))
 
 pub no_fault : (l : Draft) (links : List LinkSpec) (members : List MemberSpec) → Made l links members
     → is_tree (plain_network l.nodes links []) ≡ true
-    → Placed l ≡ [] → Drawn l members ≡ [] → Told l members ≡ [] → Dropped l links members ≡ [] → Out l links ≡ [] → faults_in l ≡ []
+    → Placed l ≡ [] → Drawn l members ≡ [] → Told l members ≡ [] → Dropped l links members ≡ [] → Out l links ≡ [] → Lost l links ≡ []
+    → faults_in l ≡ []
 unfolding all_faults
-no_fault l links members m tree placed drawn told dropped out =
+no_fault l links members m tree placed drawn told dropped out lost =
     sym (are_all l links members m)
     ∙ no_faults (Tree l) _ (no_tree_fault l links m.links_are tree)
     (no_faults (Placed l) _ placed (no_faults (Drawn l members) _ drawn
-    (no_faults (Told l members) _ told (no_faults (Dropped l links members) _ dropped (no_faults (Out l links) _ out refl)))))
+    (no_faults (Told l members) _ told (no_faults (Dropped l links members) _ dropped
+    (no_faults (Out l links) _ out (no_faults (Lost l links) _ lost refl))))))
 
 -- the scenario that is made is the plain one
 pub plain_made : (l : Draft) (links : List LinkSpec) (members : List MemberSpec) (drops : DropRules) → Made l links members → drops
-    ≡ drop_rules_of l.drops.items l.outages.items
+    ≡ drop_rules_of l.drops.items l.outages.items l.losses.items
     → ◌≡◌ {A = PlainScenario} (record {
       until = l.until;
       constants = l.constants;

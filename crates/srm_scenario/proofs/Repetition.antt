@@ -22,7 +22,7 @@ use Rattle.srm_scenario.specs.declared.rule.Kind.TheVariants.{Whole}
 use Rattle.srm_scenario.specs.declared.rule.Need.TheVariants.{Refused}
 use Rattle.srm_scenario.specs.declared.rule.Rule.{Rule}
 use Rattle.srm_scenario.specs.declared.version.Version.{Version}
-use Rattle.srm_scenario.specs.declared.version.Version.TheVariants.{One, Two, Three}
+use Rattle.srm_scenario.specs.declared.version.Version.TheVariants.{One, Two, Three, Four}
 use Rattle.srm_scenario.specs.KeyLimits.{most_times}
 use Rattle.srm_scenario.specs.Rules.{rule_if, meets, whole_number_of, times_repeated, times_said, fits_element, draw_rules, session_rules}
 use Rattle.srm_scenario.specs.Described.{copies, repeated, every_of, table_of, draw_of, draw_copy, session_message_of, session_copy}
@@ -151,6 +151,7 @@ few_draws One ds few none =
 few_draws Two ds few none =
     few_alone (draw_rules Two) 4 draw_of draw_copy draw_in_range refl ds (none_by (BadKey part.Draw) _ 0 ds none) (few.are refl)
 few_draws Three ds few none = few_together draw_of draw_copy ds (few.stand_for refl)
+few_draws Four ds few none = few_together draw_of draw_copy ds (few.stand_for refl)
 
 -- and session messages
 pub few_sessions : (v : Version) (ds : List Data) → FewElements v ds → faults_of_sessions v ds ≡ []
@@ -162,6 +163,7 @@ few_sessions Two ds few none =
     few_alone (session_rules Two) 2 session_message_of session_copy session_in_range refl ds (none_by (BadKey part.Session) _ 0 ds none)
     (few.are refl)
 few_sessions Three ds few none = few_together session_message_of session_copy ds (few.stand_for refl)
+few_sessions Four ds few none = few_together session_message_of session_copy ds (few.stand_for refl)
 
 -- ---- what holds of each copy
 

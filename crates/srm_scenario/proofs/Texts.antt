@@ -10,7 +10,7 @@ use Rattle.toml.specs.Parse.{parse_document}
 use Rattle.srm_scenario.specs.declared.entry.MemberEntry.{MemberEntry}
 use Rattle.srm_scenario.specs.declared.fault.ScenarioFault.{ScenarioFault}
 use Rattle.srm_scenario.specs.declared.fault.ScenarioFault.TheVariants.{NoMemory, ReadFault, TooLong, NotToml, BadKey, NotTree, BadMember}
-use Rattle.srm_scenario.specs.declared.fault.ScenarioFault.TheVariants.{BadDraw, BadSession, BadDrop, BadOutage}
+use Rattle.srm_scenario.specs.declared.fault.ScenarioFault.TheVariants.{BadDraw, BadSession, BadDrop, BadOutage, BadLoss}
 use Rattle.srm_net.specs.declared.link.DropSpec.{DropSpec}
 use Rattle.srm_scenario.specs.Faults.{fault_unless, faults_by, member_faults, fits_member}
 use Rattle.srm_scenario.specs.Faults.{key_faults, meaning_faults, faults_of}
@@ -60,6 +60,7 @@ IsOfText (BadDraw i) = Unit {0}
 IsOfText (BadSession i) = Unit {0}
 IsOfText (BadDrop i) = Unit {0}
 IsOfText (BadOutage i) = Unit {0}
+IsOfText (BadLoss i) = Unit {0}
 IsOfText NoMemory = Unit {0}
 
 all_append : (xs ys : List ScenarioFault) → AllByRecursion IsOfText xs → AllByRecursion IsOfText ys → AllByRecursion IsOfText (xs ++ ys)

@@ -193,7 +193,7 @@ module _ (ms : Members) (h : fits_rules (rules_of_top ms) ms ≡ true) where
 
   parents_met : (length (array_at (codes "parent") ms) ≤ last_number (version_of ms))
       × (list_all (is_whole 0 (last_number (version_of ms))) (array_at (codes "parent") ms) ≡ true)
-  parents_met = numbers_met (names_parents ms) key.Parent (last_number (version_of ms)) (last_number (version_of ms)) ms (met 27 _ refl)
+  parents_met = numbers_met (names_parents ms) key.Parent (last_number (version_of ms)) (last_number (version_of ms)) ms (met 28 _ refl)
 
   pub few_parents : length (array_at (codes "parent") ms) ≤ most_links
   few_parents =
@@ -251,10 +251,10 @@ module _ (ms : Members) (h : fits_rules (rules_of_top ms) ms ≡ true) where
   delays_fit = delays_by (version_of ms) ms (topology_of ms) delays_listed backs_listed delay_met back_met
 
   pub delays_met : is_met ms (rule_if (names_parents ms) key.Delays (Each (length (array_at (codes "parent") ms)) 1 greatest_delay)) ≡ true
-  delays_met = met 28 _ refl
+  delays_met = met 29 _ refl
 
   pub backs_met : is_met ms (rule_if (names_parents ms) key.Backs (Each (length (array_at (codes "parent") ms)) 1 greatest_delay)) ≡ true
-  backs_met = met 29 _ refl
+  backs_met = met 30 _ refl
 
   -- where parents are given without delays of each link, one delay is given for all
   pub one_delay : names_parents ms ≡ true → is_some (get_member (codes "delays") ms) ≡ false → IsLinkDelay (number (codes "delay") ms)

@@ -3,6 +3,7 @@ use Rattle.std.specs.Prelude.{◌≡◌, ◌≢◌, ℕ, ◌<◌, ◌≤◌, ◌
 use Rattle.srm_net.specs.declared.role.Role.TheVariants.{Sender, Late, Listener}
 use Rattle.srm_net.specs.declared.link.DropSpec.{DropSpec}
 use Rattle.srm_net.specs.declared.link.OutageSpec.{OutageSpec}
+use Rattle.srm_net.specs.declared.link.LossSpec.{LossSpec}
 use Rattle.srm_net.specs.Orders.{Ascends}
 use Rattle.srm_net.specs.Network.{IsNetwork}
 use Rattle.srm_net.specs.Paths.{drop_cmp}
@@ -58,6 +59,10 @@ IsDrop s d = (d.link < length s.links) × (d.id.sender < length s.members)
 abbrev pub IsOutage : PlainScenario → OutageSpec → Type 0
 IsOutage s o = (o.link < length s.links) × (o.from < o.to)
 
+-- a loss is of a link, and ends after it begins, where it ends
+abbrev pub IsLoss : PlainScenario → LossSpec → Type 0
+IsLoss s o = (o.link < length s.links) × ((to : ℕ) → o.to ≡ Some to → o.from < to)
+
 -- an accepted scenario
 pub record IsAccepted (s : PlainScenario) : Type 0 where
   pub some_ticks : 1 ≤ s.until
@@ -72,3 +77,4 @@ pub record IsAccepted (s : PlainScenario) : Type 0 where
   pub drops : All (IsDrop s) s.drops.listed
   pub drops_ascend : Ascends drop_cmp s.drops.listed
   pub outages : All (IsOutage s) s.drops.outages
+  pub losses : All (IsLoss s) s.drops.losses

@@ -9,6 +9,7 @@ use Rattle.srm_net.specs.declared.role.Role.TheVariants.{Sender, Receiver, Late,
 use Rattle.srm_net.specs.declared.link.LinkSpec.{LinkSpec}
 use Rattle.srm_net.specs.declared.link.DropSpec.{DropSpec}
 use Rattle.srm_net.specs.declared.link.OutageSpec.{OutageSpec}
+use Rattle.srm_net.specs.declared.link.LossSpec.{LossSpec}
 use Rattle.srm_scenario.specs.declared.parts.Constants.{Constants}
 use Rattle.srm_scenario.specs.declared.parts.Room.{Room}
 use Rattle.srm_scenario.specs.declared.parts.MemberSpec.{MemberSpec}
@@ -17,7 +18,7 @@ use Rattle.srm_scenario.specs.declared.parts.SessionSpec.{SessionSpec}
 use Rattle.srm_scenario.specs.declared.delays.Delays.{Delays}
 use Rattle.srm_scenario.specs.declared.form.Form.{Form}
 use Rattle.srm_scenario.specs.declared.version.Version.{Version}
-use Rattle.srm_scenario.specs.declared.version.Version.TheVariants.{One, Two, Three}
+use Rattle.srm_scenario.specs.declared.version.Version.TheVariants.{One, Two, Three, Four}
 use Rattle.srm_scenario.specs.declared.topology.Topology.{Topology}
 use Rattle.srm_scenario.specs.declared.topology.Topology.TheVariants.{Chain, Star, Tree}
 use Rattle.srm_scenario.specs.Plain.{PlainScenario, drop_rules_of}
@@ -62,7 +63,10 @@ table_of d = no_members
 -- the version of the format that a file names
 abbrev pub version_of : Members → Version
 version_of ms =
-    if number (codes "version") ms == 3 then Three else if number (codes "version") ms == 2 then Two else One
+    if number (codes "version") ms == 4
+    then Four
+    else if number (codes "version") ms == 3
+    then Three else if number (codes "version") ms == 2 then Two else One
 
 -- ---- elements
 
@@ -119,6 +123,15 @@ outage_of ms = record {
   to = number (codes "to") ms;
 }
 
+abbrev pub loss_of : Members → LossSpec
+loss_of ms = record {
+  link = number (codes "link") ms;
+  rate = number (codes "rate") ms;
+  stream = number (codes "stream") ms;
+  from = number (codes "from") ms;
+  to = optional_number (codes "to") ms;
+}
+
 -- ---- repetition
 
 -- how far apart the elements are for which one stands
@@ -160,6 +173,15 @@ drop_copy k every d = record {
 
 abbrev pub outage_copy : ℕ → ℕ → OutageSpec → OutageSpec
 outage_copy k every o = record { link = o.link; from = o.from + k * every; to = o.to + k * every }
+
+abbrev pub loss_copy : ℕ → ℕ → LossSpec → LossSpec
+loss_copy k every o = record {
+  link = o.link + k * every;
+  rate = o.rate;
+  stream = o.stream;
+  from = o.from;
+  to = o.to;
+}
 
 -- what the elements at a key stand for, one after the other
 abbrev pub repeated_at : {A : Type 0} → List ℕ → (ℕ → ℕ → A → A) → (Members → A) → Members → List A
@@ -268,6 +290,10 @@ listed_drops ms = repeated_at (codes "drop") drop_copy drop_of ms
 abbrev pub outages_in : Members → List OutageSpec
 outages_in ms = repeated_at (codes "outage") outage_copy outage_of ms
 
+-- the losses, in the order in which they are listed
+abbrev pub losses_in : Members → List LossSpec
+losses_in ms = repeated_at (codes "loss") loss_copy loss_of ms
+
 abbrev pub constants_of : Members → Constants
 constants_of ms = record {
   c1 = number (codes "c1") ms;
@@ -311,5 +337,5 @@ described_scenario ms = record {
   members = repeated_at (codes "member") member_copy member_of ms;
   draws = repeated_at (codes "draw") draw_copy draw_of ms;
   sessions = repeated_at (codes "session") session_copy session_message_of ms;
-  drops = drop_rules_of (listed_drops ms) (outages_in ms);
+  drops = drop_rules_of (listed_drops ms) (outages_in ms) (losses_in ms);
 }

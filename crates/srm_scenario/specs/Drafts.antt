@@ -10,6 +10,7 @@ use Rattle.srm_scenario.specs.Accepted.{AreConstants}
 use Rattle.srm_scenario.specs.Plain.{PlainScenario, drop_rules_of}
 use Rattle.srm_scenario.specs.Described.{number, constants_of, room_of, topology_of, delays_of, nodes_in, repeated_at}
 use Rattle.srm_scenario.specs.Described.{draw_of, draw_copy, session_message_of, session_copy, listed_drops, outages_in}
+use Rattle.srm_scenario.specs.Described.{losses_in}
 use Rattle.srm_scenario.specs.Described.{given_links, links_to_parents}
 use Rattle.srm_scenario.specs.Faults.{key_faults, meaning_faults, is_star, entry_of, entry_copy}
 use Rattle.srm_scenario.specs.LookUps.{HasDegree, AreDelays}
@@ -36,6 +37,7 @@ pub record IsDraft (ms : Members) (l : Draft) : Type 0 where
   pub sessions : repeated_at (codes "session") session_copy session_message_of ms ≡ l.sessions.items
   pub drops : listed_drops ms ≡ l.drops.items
   pub outages : outages_in ms ≡ l.outages.items
+  pub losses : losses_in ms ≡ l.losses.items
   pub few_draws : length l.draws.items ≤ most_listed
   pub few_sessions : length l.sessions.items ≤ most_listed
 
@@ -57,7 +59,7 @@ plain_of l = record {
   members = map (λ e. e.spec) l.members.items;
   draws = l.draws.items;
   sessions = l.sessions.items;
-  drops = drop_rules_of l.drops.items l.outages.items;
+  drops = drop_rules_of l.drops.items l.outages.items l.losses.items;
 }
 
 -- the faults of what is listed

@@ -10,12 +10,14 @@ use Rattle.toml.specs.Parse.{parse_document}
 use Rattle.srm_net.specs.Roles.{is_sender, is_late, is_listener}
 use Rattle.srm_net.specs.declared.link.DropSpec.{DropSpec}
 use Rattle.srm_net.specs.declared.link.OutageSpec.{OutageSpec}
+use Rattle.srm_net.specs.declared.link.LossSpec.{LossSpec}
+use Rattle.srm_net.specs.Losses.{is_before_end}
 use Rattle.srm_scenario.specs.declared.fault.Part.{Part}
 use Rattle.srm_scenario.specs.declared.fault.Part.TheVariants as part
 use Rattle.srm_scenario.specs.declared.fault.ScenarioFault.{ScenarioFault}
 use Rattle.srm_scenario.specs.declared.fault.ScenarioFault.TheVariants.{NoMemory, ReadFault, TooLong, NotToml, BadKey}
 use Rattle.srm_scenario.specs.declared.fault.ScenarioFault.TheVariants.{NotTree, BadMember, BadDraw, BadSession}
-use Rattle.srm_scenario.specs.declared.fault.ScenarioFault.TheVariants.{BadDrop, BadOutage}
+use Rattle.srm_scenario.specs.declared.fault.ScenarioFault.TheVariants.{BadDrop, BadOutage, BadLoss}
 use Rattle.srm_scenario.specs.declared.entry.MemberEntry.{MemberEntry}
 use Rattle.srm_scenario.specs.declared.parts.MemberSpec.{MemberSpec}
 use Rattle.srm_scenario.specs.declared.parts.DrawSpec.{DrawSpec}
@@ -26,12 +28,12 @@ use Rattle.srm_scenario.specs.Plain.{PlainScenario, network_of}
 use Rattle.srm_scenario.specs.Trees.{is_tree}
 use Rattle.srm_scenario.specs.declared.rule.Rule.{Rule}
 use Rattle.srm_scenario.specs.Rules.{top_rules, link_rules, member_rules, draw_rules, session_rules, drop_rules}
-use Rattle.srm_scenario.specs.Rules.{outage_rules, fits_rules, fits_element}
+use Rattle.srm_scenario.specs.Rules.{outage_rules, loss_rules, fits_rules, fits_element}
 use Rattle.srm_scenario.specs.Presence.{is_present}
 use Rattle.srm_scenario.specs.Described.{version_of, member_of, array_at, table_of, repeated_at, topology_of, form_of}
 use Rattle.srm_scenario.specs.Described.{constants_of, listed_drops, described_scenario, repeated, member_copy}
 use Rattle.srm_scenario.specs.Described.{draw_of, draw_copy, session_message_of, session_copy, drop_of, drop_copy}
-use Rattle.srm_scenario.specs.Described.{outage_of, outage_copy}
+use Rattle.srm_scenario.specs.Described.{outage_of, outage_copy, loss_of, loss_copy}
 use Rattle.srm_scenario.specs.declared.version.Version.{Version}
 use Rattle.srm_scenario.specs.KeyLimits.{last_count, last_stream}
 use Rattle.srm_net.specs.Limits.{end_of_time, most_links}
@@ -110,6 +112,9 @@ drop_in_range d = nat_le d.id.count last_count
 abbrev pub outage_in_range : OutageSpec → Bool
 outage_in_range o = nat_le o.from end_of_time && nat_le o.to end_of_time
 
+abbrev pub loss_in_range : LossSpec → Bool
+loss_in_range o = nat_le o.link most_links
+
 -- the faults of the elements at a key, in this version
 abbrev pub faults_of_links : Version → List Data → List ScenarioFault
 faults_of_links version ds = element_faults part.Link (link_rules version) ds
@@ -131,6 +136,9 @@ faults_of_drops version ds = repeated_faults part.Drop (drop_rules version) drop
 abbrev pub faults_of_outages : Version → List Data → List ScenarioFault
 faults_of_outages version ds =
     repeated_faults part.Outage (outage_rules version) outage_of outage_copy outage_in_range ds
+
+abbrev pub faults_of_losses : Version → List Data → List ScenarioFault
+faults_of_losses version ds = repeated_faults part.Loss (loss_rules version) loss_of loss_copy loss_in_range ds
 
 -- ---- faults of meaning
 
@@ -190,6 +198,10 @@ fits_drop links members d = nat_lt d.link links && nat_lt d.id.sender members
 abbrev pub fits_outage : ℕ → OutageSpec → Bool
 fits_outage links o = nat_lt o.link links && nat_lt o.from o.to
 
+-- a loss is of a link, and ends after it begins, where it ends
+abbrev pub fits_loss : ℕ → LossSpec → Bool
+fits_loss links o = nat_lt o.link links && is_before_end o.to o.from
+
 -- ---- the answer
 
 -- all lists, one after the other
@@ -208,6 +220,7 @@ key_faults ms =
     ∷ faults_of_sessions (version_of ms) (array_at (codes "session") ms)
     ∷ faults_of_drops (version_of ms) (array_at (codes "drop") ms)
     ∷ faults_of_outages (version_of ms) (array_at (codes "outage") ms)
+    ∷ faults_of_losses (version_of ms) (array_at (codes "loss") ms)
     ∷ [])
 
 -- the faults of what a table describes: a scenario, whether its topology is a star, its members with whether pages are
@@ -221,6 +234,7 @@ meaning_faults s star entries listed =
     ∷ faults_by BadSession (fits_session s.until s.members) 0 s.sessions
     ∷ faults_by BadDrop (fits_drop (length s.links) (length s.members)) 0 listed
     ∷ faults_by BadOutage (fits_outage (length s.links)) 0 s.drops.outages
+    ∷ faults_by BadLoss (fits_loss (length s.links)) 0 s.drops.losses
     ∷ [])
 
 -- all faults of a table, in the order in which they are told

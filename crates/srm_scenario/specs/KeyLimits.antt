@@ -9,6 +9,10 @@ greatest_delay = 1000000
 abbrev pub greatest_limit : ℕ
 greatest_limit = 1024000
 
+-- the greatest rate of a loss, in millionths
+abbrev pub greatest_rate : ℕ
+greatest_rate = 1000000
+
 -- the last number of a page, of an ink, and of a packet of a sender that a drop names
 abbrev pub last_page : ℕ
 last_page = 65535

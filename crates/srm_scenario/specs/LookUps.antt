@@ -53,7 +53,7 @@ pub record FewElements (version : Version) (ds : List Data) : Type 0 where
   pub are : allows_repetition version ≡ false → length ds ≤ most_listed
 
 -- the table's other arrays
-pub record HasArrays (ms : Members) (members draws sessions drops outages : List Data) : Type 0 where
+pub record HasArrays (ms : Members) (members draws sessions drops outages losses : List Data) : Type 0 where
   pub members_are : members ≡ array_at (codes "member") ms
   pub draws_are : draws ≡ array_at (codes "draw") ms
   pub sessions_are : sessions ≡ array_at (codes "session") ms
@@ -61,3 +61,4 @@ pub record HasArrays (ms : Members) (members draws sessions drops outages : List
   pub few_sessions : FewElements (version_of ms) sessions
   pub drops_are : drops ≡ array_at (codes "drop") ms
   pub outages_are : outages ≡ array_at (codes "outage") ms
+  pub losses_are : losses ≡ array_at (codes "loss") ms

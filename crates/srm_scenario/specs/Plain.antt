@@ -6,6 +6,7 @@ use Rattle.std.specs.Cmp.Lexicographic.{slice_cmp}
 use Rattle.srm_net.specs.declared.link.LinkSpec.{LinkSpec}
 use Rattle.srm_net.specs.declared.link.DropSpec.{DropSpec}
 use Rattle.srm_net.specs.declared.link.OutageSpec.{OutageSpec}
+use Rattle.srm_net.specs.declared.link.LossSpec.{LossSpec}
 use Rattle.srm_net.specs.declared.rank.Rank.{Rank}
 use Rattle.srm_net.specs.declared.rank.Rank.TheVariants.{Join, Draw, Report, Leave}
 use Rattle.srm_net.specs.Keys.{rank_number}
@@ -23,7 +24,7 @@ use Rattle.srm_scenario.specs.declared.parts.SessionSpec.{SessionSpec}
 
 -- what a run is given: events before `until` are handled, and members adapt the constants of their timers within their
 -- room. Members, links, draws and sessions are numbered in their lists' order, listed drops stand in rising order, each
--- once, and outages in the order of their list
+-- once, and outages and losses in the order of their lists
 pub record PlainScenario : Type 0 where
   pub until : ℕ
   pub constants : Constants
@@ -35,10 +36,29 @@ pub record PlainScenario : Type 0 where
   pub sessions : List SessionSpec
   pub drops : DropRules
 
--- the rules by which links drop packets, of drops and outages as they are listed: a drop that is listed twice counts
--- once
-abbrev pub drop_rules_of : List DropSpec → List OutageSpec → DropRules
-drop_rules_of drops outages = record { listed = ordered_once drop_cmp drops; outages = outages; losses = []; seed = 0 }
+-- the rules by which links drop packets, of drops, outages and losses as they are listed: a drop that is listed twice
+-- counts once, and the seed of the losses is 0
+abbrev pub drop_rules_of : List DropSpec → List OutageSpec → List LossSpec → DropRules
+drop_rules_of drops outages losses = record {
+  listed = ordered_once drop_cmp drops;
+  outages = outages;
+  losses = losses;
+  seed = 0;
+}
+
+-- the same scenario with the seed of its losses
+abbrev pub with_seed : PlainScenario → ℕ → PlainScenario
+with_seed s seed = record {
+  until = s.until;
+  constants = s.constants;
+  room = s.room;
+  nodes = s.nodes;
+  links = s.links;
+  members = s.members;
+  draws = s.draws;
+  sessions = s.sessions;
+  drops = Rattle.srm_net.specs.DropRules.with_seed s.drops seed;
+}
 
 -- the network of a scenario
 abbrev pub network_of : PlainScenario → Network

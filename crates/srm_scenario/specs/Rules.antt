@@ -5,7 +5,7 @@ use Rattle.std.specs.List.{list_any, list_all}
 use Rattle.std.specs.Option.{option_and_then}
 use Rattle.std.specs.Str.{bytes_eq}
 use Rattle.srm_scenario.specs.declared.version.Version.{Version}
-use Rattle.srm_scenario.specs.declared.version.Version.TheVariants.{One, Two, Three}
+use Rattle.srm_scenario.specs.declared.version.Version.TheVariants.{One, Two, Three, Four}
 use Rattle.toml.specs.Data.{Data, Items, Members, integer, string, array, table, no_items, item, no_members, member}
 use Rattle.toml.specs.Data.{get_member}
 use Rattle.srm_net.specs.Limits.{end_of_time, greatest_constant}
@@ -21,7 +21,8 @@ use Rattle.srm_scenario.specs.declared.rule.Rule.{Rule}
 use Rattle.srm_scenario.specs.declared.rule.Words.{Words}
 use Rattle.srm_scenario.specs.declared.rule.Words.TheVariants.{Roles, Topologies, TopologiesAndParents}
 use Rattle.srm_scenario.specs.Keys.{name_of}
-use Rattle.srm_scenario.specs.KeyLimits.{greatest_delay, greatest_limit, last_count, last_ink, last_page, last_stream}
+use Rattle.srm_scenario.specs.KeyLimits.{greatest_delay, greatest_limit, greatest_rate, last_count, last_ink, last_page}
+use Rattle.srm_scenario.specs.KeyLimits.{last_stream}
 use Rattle.srm_scenario.specs.KeyLimits.{most_pages, most_times}
 
 -- the words of a set, one of which a key may hold
@@ -41,52 +42,68 @@ abbrev pub most_nodes_in : Version → ℕ
 most_nodes_in One = 256
 most_nodes_in Two = 1024
 most_nodes_in Three = 65535
+most_nodes_in Four = 65535
 
 -- the last number that a node, a link or a member may have
 abbrev pub last_number : Version → ℕ
 last_number version = most_nodes_in version - 1
 
--- how many draws there are at most, and how many session messages, drops and outages, of each kind
+-- how many draws there are at most, and how many session messages, drops, outages and losses, of each
+-- kind
 abbrev pub most_listed_in : Version → ℕ
 most_listed_in One = 4096
 most_listed_in Two = 4096
 most_listed_in Three = 65535
+most_listed_in Four = 65535
 
 -- whether links may have a second delay
 abbrev pub allows_back : Version → Bool
 allows_back One = false
 allows_back Two = true
 allows_back Three = true
+allows_back Four = true
 
 -- whether links may have outages
 abbrev pub allows_outages : Version → Bool
 allows_outages One = false
 allows_outages Two = true
 allows_outages Three = true
+allows_outages Four = true
+
+-- whether links may lose packets at random
+abbrev pub allows_losses : Version → Bool
+allows_losses One = false
+allows_losses Two = false
+allows_losses Three = false
+allows_losses Four = true
 
 -- whether members may adapt the constants of their timers
 abbrev pub allows_limits : Version → Bool
 allows_limits One = false
 allows_limits Two = false
 allows_limits Three = true
+allows_limits Four = true
 
 -- whether the parents of nodes may be given in place of links
 abbrev pub allows_parents : Version → Bool
 allows_parents One = false
 allows_parents Two = false
 allows_parents Three = true
+allows_parents Four = true
 
 -- whether an element may stand for several
 abbrev pub allows_repetition : Version → Bool
 allows_repetition One = false
 allows_repetition Two = false
 allows_repetition Three = true
+allows_repetition Four = true
 
 -- the greatest first value of a constant of timers, in thousandths
 abbrev pub greatest_constant_in : Version → ℕ
 greatest_constant_in One = greatest_constant
 greatest_constant_in Two = greatest_constant
 greatest_constant_in Three = greatest_limit
+greatest_constant_in Four = greatest_limit
 
 -- ---- the table of the format
 
@@ -101,7 +118,7 @@ constant_rule k version = rule k (Whole 0 (greatest_constant_in version)) Requir
 -- numbers of the top table
 abbrev pub number_rules : Version → List Rule
 number_rules version =
-    rule key.Version (Whole 1 3) Required
+    rule key.Version (Whole 1 4) Required
     ∷ rule key.Until (Whole 1 end_of_time) Required
     ∷ constant_rule key.C1 version
     ∷ constant_rule key.C2 version
@@ -181,6 +198,7 @@ array_rules version =
     ∷ rule key.Session (listed_in version) Optional
     ∷ rule key.Drop (listed_in version) Optional
     ∷ rule_if (allows_outages version) key.Outage (listed_in version)
+    ∷ rule_if (allows_losses version) key.Loss (listed_in version)
     ∷ []
 
 -- the top table, of this form and with these first values of the constants
@@ -248,6 +266,15 @@ outage_rules version =
     index_rule key.Link version
     ∷ rule key.From (Whole 0 end_of_time) Required
     ∷ rule key.To (Whole 1 end_of_time) Required
+    ∷ repeat_rules version
+
+abbrev pub loss_rules : Version → List Rule
+loss_rules version =
+    index_rule key.Link version
+    ∷ rule key.Rate (Whole 1 greatest_rate) Required
+    ∷ rule key.Stream (Whole 0 last_stream) Optional
+    ∷ rule key.From (Whole 0 end_of_time) Optional
+    ∷ rule key.To (Whole 1 end_of_time) Optional
     ∷ repeat_rules version
 
 -- ---- whether a table meets rules

@@ -1,14 +1,14 @@
 //! Whether the parts of a scenario fit one another.
 ghost use Rattle.std.specs.Prelude.{◌≡◌, ◌<◌, ◌≤◌, List, [], Some, MatchResult, length};
-ghost use Rattle.srm_scenario.specs.declared.fault.ScenarioFault.TheVariants.{BadDraw, BadSession, BadDrop, BadOutage};
+ghost use Rattle.srm_scenario.specs.declared.fault.ScenarioFault.TheVariants.{BadDraw, BadSession, BadDrop, BadOutage, BadLoss};
 ghost use Rattle.srm_scenario.specs.declared.entry.MemberEntry.{MemberEntry};
-ghost use Rattle.srm_scenario.specs.Faults.{first, IsFault, faults_by, is_taken, member_faults, fits_member, fits_draw, fits_session, fits_drop, fits_outage};
+ghost use Rattle.srm_scenario.specs.Faults.{first, IsFault, faults_by, is_taken, member_faults, fits_member, fits_draw, fits_session, fits_drop, fits_outage, fits_loss};
 ghost use Rattle.srm_scenario.specs.Taken.{MarksNodes};
 
 use crate::entry::MemberEntry;
 use crate::fault::ScenarioFault;
 use crate::parts::{DrawSpec, MemberSpec, SessionSpec};
-use srm_net::link::{DropSpec, LinkSpec, OutageSpec};
+use srm_net::link::{DropSpec, LinkSpec, LossSpec, OutageSpec};
 use srm_net::role::Role;
 use std::alloc::Global;
 
@@ -99,6 +99,31 @@ pub(crate) fn check_outages(links: &[LinkSpec], outages: &[OutageSpec]) -> Resul
         let fits = (outage.link as usize) < links.len() && outage.from < outage.to;
         if !fits {
             return Err(ScenarioFault::BadOutage { place });
+        }
+    }
+    Ok(())
+}
+
+/// Whether a loss is of a link, and ends after it begins where it ends.
+fn fits_loss(links: usize, loss: &LossSpec) -> bool
+    ensures { result ≡ fits_loss links loss.now }
+{
+    let ends_later = match loss.to {
+        Some(to) => loss.from < to,
+        None => true,
+    };
+    (loss.link as usize) < links && ends_later
+}
+
+/// The first loss that is of no link, or does not end after it begins, is a fault.
+pub(crate) fn check_losses(links: &[LinkSpec], losses: &[LossSpec]) -> Result<(), ScenarioFault>
+    ensures { MatchResult result
+        (λ _. faults_by BadLoss (fits_loss (length links.now)) 0 losses.now ≡ [])
+        (λ e. first (faults_by BadLoss (fits_loss (length links.now)) 0 losses.now) ≡ Some e) }
+{
+    for (place, loss) in losses.iter().enumerate() {
+        if !fits_loss(links.len(), loss) {
+            return Err(ScenarioFault::BadLoss { place });
         }
     }
     Ok(())

@@ -13,7 +13,7 @@ use crate::parts::{Constants, DrawSpec, Room, SessionSpec};
 use crate::repeated::read_repeated;
 use crate::top::top_of;
 use crate::topology::Topology;
-use srm_net::link::{DropSpec, LinkSpec, OutageSpec};
+use srm_net::link::{DropSpec, LinkSpec, LossSpec, OutageSpec};
 use std::alloc::Global;
 use toml::Table;
 
@@ -44,6 +44,8 @@ pub struct Draft {
     pub drops: Vec<DropSpec>,
     /// The outages.
     pub outages: Vec<OutageSpec>,
+    /// The losses.
+    pub losses: Vec<LossSpec>,
 }
 
 impl Draft {
@@ -68,6 +70,7 @@ impl Draft {
         let sessions = read_repeated(alloc, Part::Session, version, top.arrays.sessions)?;
         let drops = read_repeated(alloc, Part::Drop, version, top.arrays.drops)?;
         let outages = read_repeated(alloc, Part::Outage, version, top.arrays.outages)?;
+        let losses = read_repeated(alloc, Part::Loss, version, top.arrays.losses)?;
         let links = given_links(alloc, table, listed)?;
         Ok(Draft {
             until: top.numbers.until,
@@ -82,6 +85,7 @@ impl Draft {
             sessions,
             drops,
             outages,
+            losses,
         })
     }
 }

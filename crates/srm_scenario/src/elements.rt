@@ -1,19 +1,19 @@
-//! What the elements of links, draws, session messages, drops and outages hold.
+//! What the elements of links, draws, session messages, drops, outages and losses hold.
 ghost use Rattle.std.specs.Prelude.{◌≡◌};
 ghost use Rattle.toml.specs.View.{table_view};
-ghost use Rattle.srm_scenario.specs.Rules.{link_rules, draw_rules, session_rules, drop_rules, outage_rules};
-ghost use Rattle.srm_scenario.specs.Described.{link_of, draw_of, session_message_of, drop_of, outage_of};
+ghost use Rattle.srm_scenario.specs.Rules.{link_rules, draw_rules, session_rules, drop_rules, outage_rules, loss_rules};
+ghost use Rattle.srm_scenario.specs.Described.{link_of, draw_of, session_message_of, drop_of, outage_of, loss_of};
 ghost use Rattle.srm_scenario.specs.Faults.{accepted};
 
 use crate::element::Element;
 use crate::key::Key;
-use crate::limits::{LAST_COUNT, LAST_TICK};
+use crate::limits::{LAST_COUNT, LAST_NODE, LAST_TICK};
 use crate::parts::{DrawSpec, SessionSpec};
 use crate::repeated::{Repeated, risen, step_of};
-use crate::rules::{draw_rules, drop_rules, link_rules, outage_rules, session_rules};
+use crate::rules::{draw_rules, drop_rules, link_rules, loss_rules, outage_rules, session_rules};
 use crate::table::{fits_rules, number, optional_number};
 use crate::version::Version;
-use srm_net::link::{DropSpec, LinkSpec, OutageSpec};
+use srm_net::link::{DropSpec, LinkSpec, LossSpec, OutageSpec};
 use srm_net::packet::PacketId;
 use std::alloc::{AllocError, Global};
 use toml::Table;
@@ -87,6 +87,21 @@ fn outage_of(version: Version, table: &Table) -> Option<OutageSpec>
     })
 }
 
+fn loss_of(version: Version, table: &Table) -> Option<LossSpec>
+    ensures { result ≡ accepted (loss_rules version) loss_of (table_view table.now) }
+{
+    if !fits_rules(table, &loss_rules(version)) {
+        return None;
+    }
+    Some(LossSpec {
+        link: number(table, Key::Link) as u16,
+        rate: number(table, Key::Rate) as u32,
+        stream: number(table, Key::Stream),
+        from: number(table, Key::From),
+        to: optional_number(table, Key::To),
+    })
+}
+
 impl Element for LinkSpec {
     ghost use Rattle.srm_scenario.specs.Rules.{link_rules};
     ghost use Rattle.srm_scenario.specs.Described.{link_of};
@@ -149,6 +164,19 @@ impl Element for OutageSpec {
 
     fn read(_alloc: Global, version: Version, table: &Table) -> Result<Option<Self>, AllocError> {
         Ok(outage_of(version, table))
+    }
+}
+
+impl Element for LossSpec {
+    ghost use Rattle.srm_scenario.specs.Rules.{loss_rules};
+    ghost use Rattle.srm_scenario.specs.Described.{loss_of};
+
+    ghost rules = { loss_rules };
+
+    ghost reading = { loss_of };
+
+    fn read(_alloc: Global, version: Version, table: &Table) -> Result<Option<Self>, AllocError> {
+        Ok(loss_of(version, table))
     }
 }
 
@@ -234,6 +262,28 @@ impl Repeated for OutageSpec {
             link: self.link,
             from,
             to,
+        }))
+    }
+}
+
+impl Repeated for LossSpec {
+    ghost use Rattle.srm_scenario.specs.Described.{loss_copy};
+    ghost use Rattle.srm_scenario.specs.Faults.{loss_in_range};
+
+    ghost copy = { loss_copy };
+
+    ghost in_range = { loss_in_range };
+
+    fn copied(&self, _alloc: Global, k: u64, every: u64) -> Result<Option<Self>, AllocError> {
+        let Some(link) = risen(u64::from(self.link), step_of(k, every), LAST_NODE) else {
+            return Ok(None);
+        };
+        Ok(Some(LossSpec {
+            link: link as u16,
+            rate: self.rate,
+            stream: self.stream,
+            from: self.from,
+            to: self.to,
         }))
     }
 }

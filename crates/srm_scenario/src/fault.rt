@@ -20,6 +20,8 @@ pub enum Part {
     Drop,
     /// The elements of `outage`.
     Outage,
+    /// The elements of `loss`.
+    Loss,
 }
 
 impl fmt::Display for Part {
@@ -32,6 +34,7 @@ impl fmt::Display for Part {
             Part::Session => "session",
             Part::Drop => "drop",
             Part::Outage => "outage",
+            Part::Loss => "loss",
         })
     }
 }
@@ -88,6 +91,12 @@ pub enum ScenarioFault {
     #[error("outage {place} does not fit the scenario")]
     BadOutage {
         /// The outage's place.
+        place: usize,
+    },
+    /// A loss is of no link, or does not end after it begins.
+    #[error("loss {place} does not fit the scenario")]
+    BadLoss {
+        /// The loss's place.
         place: usize,
     },
     /// Memory ran out. This may come in place of any other answer.

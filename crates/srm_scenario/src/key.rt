@@ -59,6 +59,8 @@ pub enum Key {
     Drop,
     /// `outage`.
     Outage,
+    /// `loss`.
+    Loss,
     /// `a`.
     A,
     /// `b`.
@@ -85,6 +87,8 @@ pub enum Key {
     Sender,
     /// `count`.
     Count,
+    /// `rate`.
+    Rate,
     /// `from`.
     From,
     /// `to`.
@@ -134,6 +138,7 @@ impl Key {
             Key::Session => "session",
             Key::Drop => "drop",
             Key::Outage => "outage",
+            Key::Loss => "loss",
             Key::A => "a",
             Key::B => "b",
             Key::Node => "node",
@@ -147,6 +152,7 @@ impl Key {
             Key::At => "at",
             Key::Sender => "sender",
             Key::Count => "count",
+            Key::Rate => "rate",
             Key::From => "from",
             Key::To => "to",
             Key::Parent => "parent",

@@ -1,7 +1,7 @@
 //! The limits of a scenario file's numbers and arrays.
 
 /// The last version of the format.
-pub(crate) const LAST_VERSION: u64 = 3;
+pub(crate) const LAST_VERSION: u64 = 4;
 
 /// The last tick that a file may name: 2^40.
 pub(crate) const LAST_TICK: u64 = 1_099_511_627_776;
@@ -24,6 +24,9 @@ pub(crate) const LAST_PAGE: u64 = 65_535;
 /// The last number of an ink.
 pub(crate) const LAST_INK: u64 = 4_294_967_295;
 
+/// The greatest rate of a loss, in millionths.
+pub(crate) const GREATEST_RATE: u64 = 1_000_000;
+
 /// The last count that a drop may name, of the packets of a sender.
 pub(crate) const LAST_COUNT: u64 = 4_294_967_295;
 
@@ -33,11 +36,11 @@ pub(crate) const MOST_PAGES: u64 = 256;
 /// At most so many draws may a file of version 1 or 2 list, and so many session messages, drops and outages.
 pub(crate) const MOST_LISTED: u64 = 4096;
 
-/// At most so many draws may the elements of a file of version 3 stand for, and so many session messages, drops and outages.
+/// At most so many draws may the elements of a file of version 3 or 4 stand for, and so many session messages, drops, outages and losses.
 pub(crate) const MOST_REPEATED: u64 = 65_535;
 
 /// For at most so many elements may one stand.
 pub(crate) const MOST_TIMES: u64 = 65_535;
 
-/// The last number of a node in version 3.
+/// The last number of a node in versions 3 and 4.
 pub(crate) const LAST_NODE: u64 = 65_534;

@@ -5,8 +5,8 @@ ghost use Rattle.std.specs.List.{AllByRecursion};
 ghost use Rattle.toml.specs.View.{table_view};
 ghost use Rattle.srm_net.specs.Network.{plain_network};
 ghost use Rattle.srm_scenario.specs.Accepted.{IsAccepted};
-ghost use Rattle.srm_scenario.specs.declared.fault.ScenarioFault.TheVariants.{BadDraw, BadSession, BadDrop, BadOutage};
-ghost use Rattle.srm_scenario.specs.Faults.{IsFault, first, faults_by, fits_draw, fits_session, fits_drop, fits_outage, is_star, scenario_of_table, scenario_of_text, failures_after, AnswersText, ReadsToEnd, RefusesText};
+ghost use Rattle.srm_scenario.specs.declared.fault.ScenarioFault.TheVariants.{BadDraw, BadSession, BadDrop, BadOutage, BadLoss};
+ghost use Rattle.srm_scenario.specs.Faults.{IsFault, first, faults_by, fits_draw, fits_session, fits_drop, fits_outage, fits_loss, is_star, scenario_of_table, scenario_of_text, failures_after, AnswersText, ReadsToEnd, RefusesText};
 ghost use Rattle.srm_scenario.specs.LookUps.{HasDegree};
 ghost use Rattle.srm_scenario.specs.Drafts.{links_listed, plain_of, faults_in};
 ghost use Rattle.srm_scenario.specs.Plain.{drop_rules_of};
@@ -14,7 +14,9 @@ ghost use Rattle.srm_scenario.specs.Ranges.{InRange, HasItsPages};
 ghost use Rattle.srm_scenario.specs.Trees.{is_tree};
 
 use crate::bytes::{LONGEST_TEXT, TextFault, read_text};
-use crate::checks::{check_draws, check_drops, check_members, check_outages, check_sessions};
+use crate::checks::{
+    check_draws, check_drops, check_losses, check_members, check_outages, check_sessions,
+};
 use crate::delays::Delays;
 use crate::draft::Draft;
 use crate::entry::MemberEntry;
@@ -24,7 +26,7 @@ use crate::parts::{DrawSpec, MemberSpec, SessionSpec};
 use crate::scenario::Scenario;
 use crate::topology::Topology;
 use srm_net::drops::Drops;
-use srm_net::link::{DropSpec, LinkSpec, OutageSpec};
+use srm_net::link::{DropSpec, LinkSpec, LossSpec, OutageSpec};
 use srm_net::net::Net;
 use std::alloc::{AllocError, Global};
 use toml::Table;
@@ -57,17 +59,18 @@ fn members_of(alloc: Global, entries: Vec<MemberEntry>) -> Result<Vec<MemberSpec
         .collect(alloc)
 }
 
-/// The rules by which links drop packets: each drop once, and the outages.
+/// The rules by which links drop packets: each drop once, the outages, and the losses, by the words of seed 0.
 fn drops_of(
     alloc: Global,
     drops: &[DropSpec],
     outages: &[OutageSpec],
+    losses: &[LossSpec],
 ) -> Result<Drops, ScenarioFault>
     ensures { MatchResult result
-        (λ rules. rules ≡ drop_rules_of drops.now outages.now)
+        (λ rules. rules ≡ drop_rules_of drops.now outages.now losses.now)
         (λ e. e ≡ ScenarioFault.NoMemory) }
 {
-    match Drops::of(alloc, drops, outages, &[], 0) {
+    match Drops::of(alloc, drops, outages, losses, 0) {
         Ok(rules) => return Ok(rules),
         Err(_) => return Err(ScenarioFault::NoMemory),
     }
@@ -91,25 +94,21 @@ fn check_sent(
     Ok(())
 }
 
-/// The rules by which links drop packets. The first drop, or else the first outage, that does not fit the rest is a fault.
-fn checked_drops(
-    alloc: Global,
+/// The first outage, or else the first loss, that does not fit the links is a fault.
+fn check_spans(
     links: &[LinkSpec],
-    members: &[MemberSpec],
-    drops: &[DropSpec],
     outages: &[OutageSpec],
-) -> Result<Drops, ScenarioFault>
+    losses: &[LossSpec],
+) -> Result<(), ScenarioFault>
     ensures { MatchResult result
-        (λ rules. (rules ≡ drop_rules_of drops.now outages.now)
-        × (faults_by BadDrop (fits_drop (length links.now) (length members.now)) 0 drops.now ≡ [])
-        × (faults_by BadOutage (fits_outage (length links.now)) 0 outages.now ≡ []))
-        (λ e. IsFault e (faults_by BadDrop (fits_drop (length links.now) (length members.now)) 0 drops.now
-        ++ faults_by BadOutage (fits_outage (length links.now)) 0 outages.now)) }
+        (λ _. (faults_by BadOutage (fits_outage (length links.now)) 0 outages.now ≡ [])
+        × (faults_by BadLoss (fits_loss (length links.now)) 0 losses.now ≡ []))
+        (λ e. first (faults_by BadOutage (fits_outage (length links.now)) 0 outages.now
+        ++ faults_by BadLoss (fits_loss (length links.now)) 0 losses.now) ≡ Some e) }
 {
-    check_drops(links, members, drops)?;
     check_outages(links, outages)?;
-    let rules = drops_of(alloc, drops, outages)?;
-    Ok(rules)
+    check_losses(links, losses)?;
+    Ok(())
 }
 
 /// Whether the topology is a star, whose hub hosts nobody.
@@ -160,13 +159,16 @@ fn scenario_from(alloc: Global, draft: Draft) -> Result<Scenario, ScenarioFault>
         sessions,
         drops,
         outages,
+        losses,
     } = draft;
     let links = links_of(alloc, topology, nodes, delays, links)?;
     check_tree(alloc, nodes, &links)?;
     check_members(alloc, until, nodes, is_star(topology), &entries)?;
     let members = members_of(alloc, entries)?;
     check_sent(until, &members, &draws, &sessions)?;
-    let drops = checked_drops(alloc, &links, &members, &drops, &outages)?;
+    check_drops(&links, &members, &drops)?;
+    check_spans(&links, &outages, &losses)?;
+    let drops = drops_of(alloc, &drops, &outages, &losses)?;
     Ok(Scenario {
         until,
         constants,
@@ -180,14 +182,15 @@ fn scenario_from(alloc: Global, draft: Draft) -> Result<Scenario, ScenarioFault>
     })
 }
 
-/// The scenario of a table, the top table of a scenario file.
+/// The scenario of a table, the top table of a scenario file, with seed 0 of its losses.
 ///
 /// # Errors
 /// The first fault of the table, but for `NoMemory`, which may come at any place:
 ///
-/// 1. `BadKey`: the first in the order of the parts `Top`, `Link`, `Member`, `Draw`, `Session`, `Drop`, `Outage`, and in each by
-///    place.
-/// 2. `NotTree`; 3. `BadMember`; 4. `BadDraw`; 5. `BadSession`; 6. `BadDrop`; 7. `BadOutage`: each with its least place.
+/// 1. `BadKey`: the first in the order of the parts `Top`, `Link`, `Member`, `Draw`, `Session`, `Drop`, `Outage`, `Loss`, and in
+///    each by place.
+/// 2. `NotTree`; 3. `BadMember`; 4. `BadDraw`; 5. `BadSession`; 6. `BadDrop`; 7. `BadOutage`; 8. `BadLoss`: each with its
+///    least place.
 pub fn scenario_of(alloc: Global, table: &Table) -> Result<Scenario, ScenarioFault>
     ensures scenario { IfOk result (λ s. scenario_of_table (table_view table.now) ≡ Ok s) }
     ensures accepted { IfOk result IsAccepted }

@@ -4,13 +4,13 @@ ghost use Rattle.srm_net.specs.Limits.{end_of_time};
 ghost use Rattle.srm_scenario.specs.declared.key.Key.TheVariants.{Times, Every};
 ghost use Rattle.srm_scenario.specs.declared.rule.Kind.TheVariants.{Whole};
 ghost use Rattle.srm_scenario.specs.KeyLimits.{most_times};
-ghost use Rattle.srm_scenario.specs.Rules.{index_rule, back_rule, constant_rule, rule_if, rule_where, elements_in, topologies_in, allows_repetition, top_rules, link_rules, member_rules, draw_rules, session_rules, drop_rules, outage_rules};
+ghost use Rattle.srm_scenario.specs.Rules.{index_rule, back_rule, constant_rule, rule_if, rule_where, elements_in, topologies_in, allows_repetition, top_rules, link_rules, member_rules, draw_rules, session_rules, drop_rules, outage_rules, loss_rules};
 
 use crate::form::Form;
 use crate::key::Key;
 use crate::limits::{
-    GREATEST_DELAY, GREATEST_LIMIT, LAST_COUNT, LAST_INK, LAST_PAGE, LAST_STREAM, LAST_TICK,
-    LAST_VERSION, MOST_PAGES, MOST_TIMES,
+    GREATEST_DELAY, GREATEST_LIMIT, GREATEST_RATE, LAST_COUNT, LAST_INK, LAST_PAGE, LAST_STREAM,
+    LAST_TICK, LAST_VERSION, MOST_PAGES, MOST_TIMES,
 };
 use crate::parts::Constants;
 use crate::rule::{Kind, Need, Rule, Words};
@@ -79,7 +79,7 @@ fn topologies_in(version: Version) -> Words
 }
 
 /// The top table, of this form and with these first values of the constants of timers.
-pub fn top_rules(version: Version, first: Constants, form: Form) -> [Rule; 30]
+pub fn top_rules(version: Version, first: Constants, form: Form) -> [Rule; 31]
     ensures { result ≡ top_rules version first form }
 {
     let most = u64::from(version.most_nodes());
@@ -122,6 +122,7 @@ pub fn top_rules(version: Version, first: Constants, form: Form) -> [Rule; 30]
         Rule::new(Key::Session, listed, Need::Optional),
         Rule::new(Key::Drop, listed, Need::Optional),
         rule_if(version.allows_outages(), Key::Outage, listed),
+        rule_if(version.allows_losses(), Key::Loss, listed),
         rule_where(form.parents, Key::Parent, Kind::Numbers(last, last)),
         rule_if(form.parents, Key::Delays, delays),
         rule_if(form.parents, Key::Backs, delays),
@@ -226,6 +227,21 @@ pub fn outage_rules(version: Version) -> [Rule; 5]
         index_rule(Key::Link, version),
         Rule::new(Key::From, Kind::Whole(0, LAST_TICK), Need::Required),
         Rule::new(Key::To, Kind::Whole(1, LAST_TICK), Need::Required),
+        times_rule(version),
+        every_rule(version),
+    ]
+}
+
+/// A loss.
+pub fn loss_rules(version: Version) -> [Rule; 7]
+    ensures { result ≡ loss_rules version }
+{
+    [
+        index_rule(Key::Link, version),
+        Rule::new(Key::Rate, Kind::Whole(1, GREATEST_RATE), Need::Required),
+        Rule::new(Key::Stream, Kind::Whole(0, LAST_STREAM), Need::Optional),
+        Rule::new(Key::From, Kind::Whole(0, LAST_TICK), Need::Optional),
+        Rule::new(Key::To, Kind::Whole(1, LAST_TICK), Need::Optional),
         times_rule(version),
         every_rule(version),
     ]

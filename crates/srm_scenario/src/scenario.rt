@@ -2,7 +2,7 @@
 ghost use Rattle.std.specs.Prelude.{◌≡◌, ◌<◌, Some, length, map, slice_get, option_map, MatchResult, IfOk, IfErr, All};
 ghost use Rattle.srm_net.specs.Orders.{Rises};
 ghost use Rattle.srm_scenario.specs.Accepted.{IsAccepted};
-ghost use Rattle.srm_scenario.specs.Plain.{network_of, script_of, mark_cmp};
+ghost use Rattle.srm_scenario.specs.Plain.{network_of, script_of, mark_cmp, with_seed};
 ghost use Rattle.srm_scenario.specs.ScriptLists.{scripts_of};
 ghost use Rattle.srm_scenario.specs.Pages.{wants_page};
 
@@ -161,11 +161,19 @@ impl Scenario {
         self.links.as_slice()
     }
 
-    /// The rules by which links drop packets: the drops that are listed, and the outages.
+    /// The rules by which links drop packets: the drops that are listed, the outages, and the losses with their seed.
     pub fn drops(&self) -> &Drops
         ensures { result.now ≡ self.now.drops }
     {
         &self.drops
+    }
+
+    /// The same scenario with the seed of its losses. Without losses the seed decides nothing.
+    pub fn with_seed(self, seed: u64) -> Scenario
+        ensures { result ≡ with_seed self seed }
+    {
+        let drops = self.drops.with_seed(seed);
+        Scenario { drops, ..self }
     }
 
     /// The scenario's network.

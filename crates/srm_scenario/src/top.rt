@@ -167,13 +167,16 @@ pub(crate) struct Arrays<'a> {
     pub(crate) drops: &'a [Value],
     /// The outages.
     pub(crate) outages: &'a [Value],
+    /// The losses.
+    pub(crate) losses: &'a [Value],
 }
 
 /// The other arrays of a table that fits its rules.
 fn arrays_of(table: &Table) -> Arrays<'_>
     requires { fits_rules (rules_of_top (table_view table.now)) (table_view table.now) ≡ true }
     ensures { HasArrays (table_view table.now) (map view result.members.now) (map view result.draws.now)
-        (map view result.sessions.now) (map view result.drops.now) (map view result.outages.now) }
+        (map view result.sessions.now) (map view result.drops.now) (map view result.outages.now)
+        (map view result.losses.now) }
 {
     Arrays {
         members: array(table, Key::Member),
@@ -181,6 +184,7 @@ fn arrays_of(table: &Table) -> Arrays<'_>
         sessions: array(table, Key::Session),
         drops: array(table, Key::Drop),
         outages: array(table, Key::Outage),
+        losses: array(table, Key::Loss),
     }
 }
 
@@ -229,7 +233,8 @@ pub(crate) fn top_of(table: &Table) -> Option<Top<'_>>
         × HasNumbers ms t.numbers.version t.numbers.until t.numbers.constants t.numbers.room
         × HasShape ms t.shape.topology t.shape.nodes t.shape.delays (map view t.shape.links.now)
         × HasArrays ms (map view t.arrays.members.now) (map view t.arrays.draws.now)
-        (map view t.arrays.sessions.now) (map view t.arrays.drops.now) (map view t.arrays.outages.now)) }
+        (map view t.arrays.sessions.now) (map view t.arrays.drops.now) (map view t.arrays.outages.now)
+        (map view t.arrays.losses.now)) }
 {
     if !is_top(table) {
         return None;

@@ -1,6 +1,6 @@
 //! Versions of the scenario format.
 ghost use Rattle.std.specs.Prelude.{◌≡◌, ◌≤◌, ◌==◌, if◌then◌else◌};
-ghost use Rattle.srm_scenario.specs.declared.version.Version.TheVariants.{One, Two, Three};
+ghost use Rattle.srm_scenario.specs.declared.version.Version.TheVariants.{One, Two, Three, Four};
 
 use crate::limits::{GREATEST_CONSTANT, GREATEST_LIMIT, MOST_LISTED, MOST_REPEATED};
 
@@ -14,16 +14,19 @@ pub enum Version {
     /// As version 2; and members may adapt the constants of their timers, an element may stand for several, and the parents of nodes
     /// may be given in place of links. There are at most 65,535 nodes.
     Three,
+    /// As version 3; and links may lose packets at random.
+    Four,
 }
 
 impl Version {
-    ghost use Rattle.srm_scenario.specs.Rules.{allows_back, allows_limits, allows_outages, allows_parents, allows_repetition, greatest_constant_in, most_nodes_in, last_number, most_listed_in};
+    ghost use Rattle.srm_scenario.specs.Rules.{allows_back, allows_limits, allows_losses, allows_outages, allows_parents, allows_repetition, greatest_constant_in, most_nodes_in, last_number, most_listed_in};
 
     /// The version of this number. Where there is none of this number, it is the first.
     pub fn of(number: u64) -> Version
-        ensures { result ≡ (if number == 3 then Three else if number == 2 then Two else One) }
+        ensures { result ≡ (if number == 4 then Four else if number == 3 then Three else if number == 2 then Two else One) }
     {
         match number {
+            4 => Version::Four,
             3 => Version::Three,
             2 => Version::Two,
             _ => Version::One,
@@ -36,7 +39,7 @@ impl Version {
     {
         match self {
             Version::One => false,
-            Version::Two | Version::Three => true,
+            Version::Two | Version::Three | Version::Four => true,
         }
     }
 
@@ -46,7 +49,17 @@ impl Version {
     {
         match self {
             Version::One => false,
-            Version::Two | Version::Three => true,
+            Version::Two | Version::Three | Version::Four => true,
+        }
+    }
+
+    /// Whether links may lose packets at random.
+    pub fn allows_losses(self) -> bool
+        ensures { result ≡ allows_losses self }
+    {
+        match self {
+            Version::One | Version::Two | Version::Three => false,
+            Version::Four => true,
         }
     }
 
@@ -56,7 +69,7 @@ impl Version {
     {
         match self {
             Version::One | Version::Two => false,
-            Version::Three => true,
+            Version::Three | Version::Four => true,
         }
     }
 
@@ -66,7 +79,7 @@ impl Version {
     {
         match self {
             Version::One | Version::Two => false,
-            Version::Three => true,
+            Version::Three | Version::Four => true,
         }
     }
 
@@ -76,7 +89,7 @@ impl Version {
     {
         match self {
             Version::One | Version::Two => false,
-            Version::Three => true,
+            Version::Three | Version::Four => true,
         }
     }
 
@@ -86,7 +99,7 @@ impl Version {
     {
         match self {
             Version::One | Version::Two => GREATEST_CONSTANT,
-            Version::Three => GREATEST_LIMIT,
+            Version::Three | Version::Four => GREATEST_LIMIT,
         }
     }
 
@@ -98,18 +111,18 @@ impl Version {
         match self {
             Version::One => 256,
             Version::Two => 1024,
-            Version::Three => 65_535,
+            Version::Three | Version::Four => 65_535,
         }
     }
 
-    /// How many draws there are at most, and how many session messages, drops and outages, of each kind: 4,096 or
+    /// How many draws there are at most, and how many session messages, drops, outages and losses, of each kind: 4,096 or
     /// 65,535.
     pub fn most_listed(self) -> u64
         ensures { result ≡ most_listed_in self }
     {
         match self {
             Version::One | Version::Two => MOST_LISTED,
-            Version::Three => MOST_REPEATED,
+            Version::Three | Version::Four => MOST_REPEATED,
         }
     }
 

@@ -2,7 +2,7 @@ use Rattle.std.proofs.Common.{sym, subst}
 use Rattle.std.proofs.lemmas.Result.{err_from_is_err_and}
 use Rattle.srm_scenario.specs.Accepted.{IsAccepted}
 use Rattle.srm_scenario.specs.Plain.{PlainScenario}
-use Rattle.srm_scenario.proofs.Meanings.{Made, tree_fault, place_fault, sent_fault, drops_fault, no_fault}
+use Rattle.srm_scenario.proofs.Meanings.{Made, tree_fault, place_fault, sent_fault, dropped_fault, spans_fault, no_fault}
 use Rattle.srm_scenario.proofs.Meanings.{plain_made, accepted_made}
 use Rattle.srm_scenario.proofs.reading.scenario_from.Goals as goal
 
@@ -35,17 +35,30 @@ returns-in_err-check_sent-clause-fault c =
     rw (p.1, p.2) (sent_fault c.args.draft links e same tree c.in_ok-members.members.items c.in_ok-members.ensures placed
     (rw (c.deref-3.ensures.value, c.deref-4.ensures.value, c.deref-5.ensures.value) at c.in_err-check_sent.ensures))
 
-pub returns-in_err-drops-clause-fault : goal.returns-in_err-drops-clause-fault
-returns-in_err-drops-clause-fault c =
-    let p = err_from_is_err_and c.from_residual-in_err-drops.result c.from_residual-in_err-drops.ensures.1 in
+pub returns-in_err-check_drops-clause-fault : goal.returns-in_err-check_drops-clause-fault
+returns-in_err-check_drops-clause-fault c =
+    let p = err_from_is_err_and c.from_residual-in_err-check_drops.result c.from_residual-in_err-check_drops.ensures.1 in
     let links = c.in_ok-links.links.items in
     let same = c.in_ok-links.ensures in
-    let e = c.in_err-drops.field-0.0 in
+    let e = c.in_err-check_drops.field-0.0 in
     let tree = rw c.deref.ensures.value at c.in_ok-check_tree.ensures in
     let placed = rw (c.is_star.ensures, c.deref-2.ensures.value) at c.in_ok-check_members.ensures in
     let sent = rw (c.deref-3.ensures.value, c.deref-4.ensures.value, c.deref-5.ensures.value) at c.in_ok-check_sent.ensures in
-    rw (p.1, p.2) (drops_fault c.args.draft links e same tree c.in_ok-members.members.items c.in_ok-members.ensures placed sent.0 sent.1
-    (rw (c.deref-6.ensures.value, c.deref-7.ensures.value, c.deref-8.ensures.value, c.deref-9.ensures.value) at c.in_err-drops.ensures))
+    rw (p.1, p.2) (dropped_fault c.args.draft links e same tree c.in_ok-members.members.items c.in_ok-members.ensures placed sent.0 sent.1
+    (rw (c.deref-6.ensures.value, c.deref-7.ensures.value, c.deref-8.ensures.value) at c.in_err-check_drops.ensures))
+
+pub returns-in_err-check_spans-clause-fault : goal.returns-in_err-check_spans-clause-fault
+returns-in_err-check_spans-clause-fault c =
+    let p = err_from_is_err_and c.from_residual-in_err-check_spans.result c.from_residual-in_err-check_spans.ensures.1 in
+    let links = c.in_ok-links.links.items in
+    let same = c.in_ok-links.ensures in
+    let e = c.in_err-check_spans.field-0.0 in
+    let tree = rw c.deref.ensures.value at c.in_ok-check_tree.ensures in
+    let placed = rw (c.is_star.ensures, c.deref-2.ensures.value) at c.in_ok-check_members.ensures in
+    let sent = rw (c.deref-3.ensures.value, c.deref-4.ensures.value, c.deref-5.ensures.value) at c.in_ok-check_sent.ensures in
+    let dropped = rw (c.deref-6.ensures.value, c.deref-7.ensures.value, c.deref-8.ensures.value) at c.in_ok-check_drops.ensures in
+    rw (p.1, p.2) (spans_fault c.args.draft links e same tree c.in_ok-members.members.items c.in_ok-members.ensures placed sent.0 sent.1
+    dropped (rw (c.deref-9.ensures.value, c.deref-10.ensures.value, c.deref-11.ensures.value) at c.in_err-check_spans.ensures))
 
 pub returns-clause-no_fault : goal.returns-clause-no_fault
 returns-clause-no_fault c =
@@ -54,17 +67,16 @@ returns-clause-no_fault c =
     let tree = rw c.deref.ensures.value at c.in_ok-check_tree.ensures in
     let placed = rw (c.is_star.ensures, c.deref-2.ensures.value) at c.in_ok-check_members.ensures in
     let sent = rw (c.deref-3.ensures.value, c.deref-4.ensures.value, c.deref-5.ensures.value) at c.in_ok-check_sent.ensures in
-    let rules = rw (c.deref-6.ensures.value, c.deref-7.ensures.value, c.deref-8.ensures.value, c.deref-9.ensures.value)
-    at c.in_ok-drops.ensures in
-    no_fault c.args.draft c.in_ok-links.links.items c.in_ok-members.members.items made tree placed sent.0 sent.1 rules.1 rules.2
+    let dropped = rw (c.deref-6.ensures.value, c.deref-7.ensures.value, c.deref-8.ensures.value) at c.in_ok-check_drops.ensures in
+    let spans = rw (c.deref-9.ensures.value, c.deref-10.ensures.value, c.deref-11.ensures.value) at c.in_ok-check_spans.ensures in
+    no_fault c.args.draft c.in_ok-links.links.items c.in_ok-members.members.items made tree placed sent.0 sent.1 dropped spans.0 spans.1
 
 pub returns-clause-plain : goal.returns-clause-plain
 returns-clause-plain c =
     let made : Made c.args.draft c.in_ok-links.links.items c.in_ok-members.members.items =
     record { links_are = c.in_ok-links.ensures; members_are = c.in_ok-members.ensures } in
-    let rules = rw (c.deref-6.ensures.value, c.deref-7.ensures.value, c.deref-8.ensures.value, c.deref-9.ensures.value)
-    at c.in_ok-drops.ensures in
-    plain_made c.args.draft c.in_ok-links.links.items c.in_ok-members.members.items c.in_ok-drops.drops made rules.0
+    let rules = rw (c.deref-12.ensures.value, c.deref-13.ensures.value, c.deref-14.ensures.value) at c.in_ok-drops.ensures in
+    plain_made c.args.draft c.in_ok-links.links.items c.in_ok-members.members.items c.in_ok-drops.drops made rules
 
 pub invariant_of-result : goal.invariant_of-result
 invariant_of-result c =
@@ -73,9 +85,10 @@ invariant_of-result c =
     let tree = rw c.deref.ensures.value at c.in_ok-check_tree.ensures in
     let placed = rw (c.is_star.ensures, c.deref-2.ensures.value) at c.in_ok-check_members.ensures in
     let sent = rw (c.deref-3.ensures.value, c.deref-4.ensures.value, c.deref-5.ensures.value) at c.in_ok-check_sent.ensures in
-    let rules = rw (c.deref-6.ensures.value, c.deref-7.ensures.value, c.deref-8.ensures.value, c.deref-9.ensures.value)
-    at c.in_ok-drops.ensures in
+    let dropped = rw (c.deref-6.ensures.value, c.deref-7.ensures.value, c.deref-8.ensures.value) at c.in_ok-check_drops.ensures in
+    let spans = rw (c.deref-9.ensures.value, c.deref-10.ensures.value, c.deref-11.ensures.value) at c.in_ok-check_spans.ensures in
+    let rules = rw (c.deref-12.ensures.value, c.deref-13.ensures.value, c.deref-14.ensures.value) at c.in_ok-drops.ensures in
     let none = no_fault c.args.draft c.in_ok-links.links.items c.in_ok-members.members.items made tree placed sent.0 sent.1
-    rules.1 rules.2 in
-    let plain = plain_made c.args.draft c.in_ok-links.links.items c.in_ok-members.members.items c.in_ok-drops.drops made rules.0 in
+    dropped spans.0 spans.1 in
+    let plain = plain_made c.args.draft c.in_ok-links.links.items c.in_ok-members.members.items c.in_ok-drops.drops made rules in
     subst (λ (s : PlainScenario). IsAccepted s) (sym plain) (accepted_made c.args.draft c.requires.range c.requires.pages none)

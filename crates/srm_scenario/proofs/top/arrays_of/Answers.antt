@@ -11,4 +11,5 @@ returns c = record {
   few_sessions = rw c.array-3.ensures (sessions_fit (table_view c.args.table.now) c.requires);
   drops_are = c.array-4.ensures;
   outages_are = c.array-5.ensures;
+  losses_are = c.array-6.ensures;
 }

@@ -3,7 +3,7 @@ use Rattle.std.specs.Prelude.{◌==◌, if◌then◌else◌}
 use Rattle.toml.specs.View.{table_view}
 use Rattle.srm_scenario.specs.declared.parts.Constants.{Constants}
 use Rattle.srm_scenario.specs.declared.parts.Room.{Room}
-use Rattle.srm_scenario.specs.declared.version.Version.TheVariants.{One, Two, Three}
+use Rattle.srm_scenario.specs.declared.version.Version.TheVariants.{One, Two, Three, Four}
 use Rattle.srm_scenario.specs.Accepted.{AreConstants}
 use Rattle.srm_scenario.specs.Described.{room_of}
 use Rattle.srm_scenario.proofs.TopFits.{until_fits, constants_fit}
@@ -14,7 +14,8 @@ returns c =
     let ms = table_view c.args.table.now in
     let until = until_fits ms c.requires in
     record {
-      version_is = sym (c.of.ensures ∙ ap (λ n. if n == 3 then Three else if n == 2 then Two else One) c.number.ensures);
+      version_is = sym (c.of.ensures ∙ ap (λ n. if n == 4 then Four else if n == 3 then Three else if n == 2 then Two else One)
+          c.number.ensures);
       until_is = sym c.number-2.ensures;
       some_ticks = omega (arith, until.0, c.number-2.ensures);
       few_ticks = omega (arith, until.1, c.number-2.ensures);

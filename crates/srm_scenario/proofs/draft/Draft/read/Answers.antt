@@ -7,14 +7,15 @@ use Rattle.srm_net.specs.Limits.{most_listed}
 use Rattle.srm_scenario.specs.declared.parts.DrawSpec.{DrawSpec}
 use Rattle.srm_scenario.specs.declared.parts.SessionSpec.{SessionSpec}
 use Rattle.srm_scenario.specs.Described.{link_of, draw_of, session_message_of, drop_of, outage_of, draw_copy, session_copy, drop_copy}
-use Rattle.srm_scenario.specs.Described.{outage_copy, repeated, names_parents, links_from, parents_in, version_of, array_at}
+use Rattle.srm_scenario.specs.Described.{outage_copy, loss_of, loss_copy, repeated, names_parents, links_from, parents_in, version_of}
+use Rattle.srm_scenario.specs.Described.{array_at}
 use Rattle.srm_scenario.specs.Faults.{entry_of, entry_copy, faults_of_links, faults_of_members, faults_of_draws, faults_of_sessions}
-use Rattle.srm_scenario.specs.Faults.{faults_of_drops, faults_of_outages}
+use Rattle.srm_scenario.specs.Faults.{faults_of_drops, faults_of_outages, faults_of_losses}
 use Rattle.srm_scenario.specs.LookUps.{FewElements}
 use Rattle.srm_scenario.proofs.Arrays.{elements-read, repeated-read}
 use Rattle.srm_scenario.proofs.Repetition.{few_draws, few_sessions}
 use Rattle.srm_scenario.proofs.FaultLists.{faults_read, fault_read, top_fault, link_fault, member_fault, draw_fault, session_fault}
-use Rattle.srm_scenario.proofs.FaultLists.{drop_fault, outage_fault, no_key_fault}
+use Rattle.srm_scenario.proofs.FaultLists.{drop_fault, outage_fault, loss_fault, no_key_fault}
 use Rattle.srm_scenario.proofs.draft.Draft.read.Goals as goal
 
 pub returns-in_default-clause-fault : goal.returns-in_default-clause-fault
@@ -104,6 +105,27 @@ returns-in_err-outages-clause-fault c =
     (fault_read faults_of_outages (codes "outage") (table_view c.args.table.now) _ _ e t.1.version_is t.3.outages_are
     c.in_err-outages.ensures.fault))
 
+pub returns-in_err-losses-clause-fault : goal.returns-in_err-losses-clause-fault
+returns-in_err-losses-clause-fault c =
+    let p = err_from_is_err_and c.from_residual-in_err-losses.result c.from_residual-in_err-losses.ensures.1 in
+    let t = c.in-Some.ensures in
+    let e = c.in_err-losses.field-0.0 in
+    let links = faults_read faults_of_links (codes "link") (table_view c.args.table.now) _ _ t.1.version_is t.2.links_are
+    ∙ c.in_ok-listed.ensures.no_fault in
+    let members = faults_read faults_of_members (codes "member") (table_view c.args.table.now) _ _ t.1.version_is t.3.members_are
+    ∙ c.in_ok-members.ensures.no_fault in
+    let draws = faults_read faults_of_draws (codes "draw") (table_view c.args.table.now) _ _ t.1.version_is t.3.draws_are
+    ∙ c.in_ok-draws.ensures.no_fault in
+    let sessions = faults_read faults_of_sessions (codes "session") (table_view c.args.table.now) _ _ t.1.version_is
+    t.3.sessions_are ∙ c.in_ok-sessions.ensures.no_fault in
+    let drops = faults_read faults_of_drops (codes "drop") (table_view c.args.table.now) _ _ t.1.version_is t.3.drops_are
+    ∙ c.in_ok-drops.ensures.no_fault in
+    let outages = faults_read faults_of_outages (codes "outage") (table_view c.args.table.now) _ _ t.1.version_is t.3.outages_are
+    ∙ c.in_ok-outages.ensures.no_fault in
+    rw (p.1, p.2) (loss_fault (table_view c.args.table.now) e t.0 links members draws sessions drops outages
+    (fault_read faults_of_losses (codes "loss") (table_view c.args.table.now) _ _ e t.1.version_is t.3.losses_are
+    c.in_err-losses.ensures.fault))
+
 pub returns-clause-draft : goal.returns-clause-draft
 returns-clause-draft c =
     let t = c.in-Some.ensures in
@@ -119,10 +141,12 @@ returns-clause-draft c =
     ∙ c.in_ok-drops.ensures.no_fault in
     let outages = faults_read faults_of_outages (codes "outage") (table_view c.args.table.now) _ _ t.1.version_is t.3.outages_are
     ∙ c.in_ok-outages.ensures.no_fault in
+    let losses = faults_read faults_of_losses (codes "loss") (table_view c.args.table.now) _ _ t.1.version_is t.3.losses_are
+    ∙ c.in_ok-losses.ensures.no_fault in
     let ms = table_view c.args.table.now in
     let listed = elements-read link_of c.in-Some.top.shape.links.now _ _ t.2.links_are c.in_ok-listed.ensures.read in
     record {
-      no_fault = no_key_fault ms t.0 links members draws sessions drops outages;
+      no_fault = no_key_fault ms t.0 links members draws sessions drops outages losses;
       until = t.1.until_is;
       some_ticks = t.1.some_ticks;
       few_ticks = t.1.few_ticks;
@@ -145,6 +169,8 @@ returns-clause-draft c =
       drops = repeated-read (repeated drop_copy drop_of) c.in-Some.top.arrays.drops.now _ _ t.3.drops_are c.in_ok-drops.ensures.read;
       outages = repeated-read (repeated outage_copy outage_of) c.in-Some.top.arrays.outages.now _ _ t.3.outages_are
           c.in_ok-outages.ensures.read;
+      losses = repeated-read (repeated loss_copy loss_of) c.in-Some.top.arrays.losses.now _ _ t.3.losses_are
+          c.in_ok-losses.ensures.read;
       few_draws = subst (λ (ds : List DrawSpec). length ds ≤ most_listed)
           (repeated-read (repeated draw_copy draw_of) c.in-Some.top.arrays.draws.now _ _ t.3.draws_are c.in_ok-draws.ensures.read)
           (few_draws (version_of ms) (array_at (codes "draw") ms) (subst (FewElements (version_of ms)) t.3.draws_are t.3.few_draws) draws);
