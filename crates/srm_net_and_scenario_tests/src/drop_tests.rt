@@ -1,5 +1,5 @@
 //! What becomes of packets that links drop.
-use crate::networks::{LossyNet, fate, links_between, packet, path, reaches};
+use crate::networks::{LossyNet, fate, links_between, packet, reaches};
 use srm_net::drops::Drops;
 use srm_net::fate::Fate;
 use srm_net::fault::NetFault;
@@ -38,27 +38,6 @@ fn a_drop_that_is_listed_twice(rt: HostRuntime) {
     }
 }
 
-// Whether a packet of member 0 may be dropped.
-fn may_drop(drops: Result<Drops, NetFault>, count: u64, sent: u64) -> Option<bool> {
-    Some(drops.ok()?.may_drop(packet(0, count), sent))
-}
-
-#[test]
-fn packets_that_a_link_may_drop(rt: HostRuntime) {
-    for (count, want) in [(0, true), (1, false)] {
-        let told = may_drop(listed_twice(rt.alloc()), count, 0);
-        assert_eq!(rt; told, Some(want), "packet {count}");
-    }
-}
-
-#[test]
-fn packets_that_an_outage_may_drop(rt: HostRuntime) {
-    for (count, sent, want) in [(0, 0, true), (0, 5, true), (0, 6, false), (1, 10, false)] {
-        let drops = Drops::of(rt.alloc(), &[], &[outage(1, 5, 6)], &[], 0);
-        assert_eq!(rt; may_drop(drops, count, sent), Some(want), "sent at {sent}");
-    }
-}
-
 // A chain of nodes 0 to 3 with a member on each but node 2, and the listed drop.
 fn chain_with_a_drop(alloc: Global) -> Result<LossyNet, NetFault> {
     let links = links_between(alloc, &[(0, 1), (2, 1), (2, 3)], 2, 2)?;
@@ -87,75 +66,6 @@ fn links_before_at_and_behind_a_drop(rt: HostRuntime) {
     }
 }
 
-// A chain of nodes 0 to 2 with a member on each, whose second link is out from the tick `from` up to below `to`. Where member 0
-// sends at ticks 0 and 10, its packets come to that link at ticks 5 and 15.
-fn chain_with_an_outage(alloc: Global, from: u64, to: u64) -> Result<LossyNet, NetFault> {
-    let links = path(alloc, 2, 5, 5)?;
-    LossyNet::build(alloc, &links, &[0, 1, 2], &[], &[outage(1, from, to)])
-}
-
-#[test]
-fn members_behind_an_outage(rt: HostRuntime) {
-    for (count, sent, m, want) in [
-        (0, 0, 1, true),
-        (0, 0, 2, false),
-        (1, 10, 1, true),
-        (1, 10, 2, true),
-    ] {
-        let chain = chain_with_an_outage(rt.alloc(), 5, 6);
-        assert_eq!(rt;
-            reaches(chain, packet(0, count), sent, m),
-            Some(want),
-            "sent at {sent} to member {m}"
-        );
-    }
-}
-
-#[test]
-fn links_before_and_in_an_outage(rt: HostRuntime) {
-    for (count, sent, link, want) in [
-        (0, 0, 0, Fate::Crosses),
-        (0, 0, 1, Fate::Dropped),
-        (1, 10, 0, Fate::Crosses),
-        (1, 10, 1, Fate::Crosses),
-    ] {
-        let chain = chain_with_an_outage(rt.alloc(), 5, 6);
-        assert_eq!(rt;
-            fate(chain, packet(0, count), sent, link),
-            Some(want),
-            "sent at {sent} at link {link}"
-        );
-    }
-}
-
-// One tick earlier and one tick later the outage drops neither packet, nor where it has no tick.
-#[test]
-fn members_behind_an_outage_beside_the_packets(rt: HostRuntime) {
-    for (from, to) in [(4, 5), (6, 7), (5, 5)] {
-        for (count, sent) in [(0, 0), (1, 10)] {
-            let chain = chain_with_an_outage(rt.alloc(), from, to);
-            assert_eq!(rt;
-                reaches(chain, packet(0, count), sent, 2),
-                Some(true),
-                "out from {from} to {to}"
-            );
-        }
-    }
-}
-
-#[test]
-fn a_link_in_an_outage_beside_the_packets(rt: HostRuntime) {
-    for (from, to) in [(4, 5), (6, 7), (5, 5)] {
-        let told = fate(
-            chain_with_an_outage(rt.alloc(), from, to),
-            packet(0, 0),
-            0,
-            1,
-        );
-        assert_eq!(rt; told, Some(Fate::Crosses), "out from {from} to {to}");
-    }
-}
-
 // A chain of nodes 0 to 2 with a member on each, whose links take 1 tick from the node in the middle and 3 to it. A link is out for
 // the tick `at`. A packet of member 0 comes to link 1 three ticks after it is sent, and one of member 2 at once.
 fn chain_to_the_middle(alloc: Global, link: u16, at: u64) -> Result<LossyNet, NetFault> {
@@ -178,21 +88,6 @@ fn an_outage_in_either_direction(rt: HostRuntime) {
             1,
         );
         assert_eq!(rt; told, Some(want), "from member {sender} at {sent}");
-    }
-}
-
-#[test]
-fn an_outage_that_is_over_when_a_packet_comes(rt: HostRuntime) {
-    let at_link = fate(chain_to_the_middle(rt.alloc(), 1, 1), packet(0, 0), 0, 1);
-    let behind = reaches(chain_to_the_middle(rt.alloc(), 1, 1), packet(0, 0), 0, 2);
-    assert_eq!(rt; (at_link, behind), (Some(Fate::Crosses), Some(true)));
-}
-
-#[test]
-fn an_outage_behind_the_second_link(rt: HostRuntime) {
-    for (link, want) in [(0, Fate::Dropped), (1, Fate::Crosses)] {
-        let told = fate(chain_to_the_middle(rt.alloc(), 0, 3), packet(2, 0), 0, link);
-        assert_eq!(rt; told, Some(want), "at link {link}");
     }
 }
 

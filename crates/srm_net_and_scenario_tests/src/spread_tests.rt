@@ -5,7 +5,7 @@ use crate::networks::{END_OF_TIME, LossyNet, links_between, path};
 use srm_net::drops::Drops;
 use srm_net::fate::Fate;
 use srm_net::fault::NetFault;
-use srm_net::link::{DropSpec, OutageSpec};
+use srm_net::link::DropSpec;
 use srm_net::net::Net;
 use srm_net::packet::PacketId;
 use std::alloc::Global;
@@ -45,36 +45,6 @@ fn fate(alloc: Global, on: Result<LossyNet, NetFault>, sent: u64, link: u16) -> 
     Some(net.fate_in(&spread, link))
 }
 
-// Two links of a chain of nodes 0 to 2, which take 1 tick from the node in the middle and 3 to it. From node 0 a packet comes to
-// link 1 three ticks after it is sent: if it is sent at tick 0, in the link's outage.
-fn chain_with_an_outage(alloc: Global) -> Result<LossyNet, NetFault> {
-    let outage = OutageSpec {
-        link: 1,
-        from: 3,
-        to: 4,
-    };
-    let links = links_between(alloc, &[(1, 0), (1, 2)], 1, 3)?;
-    LossyNet::build(alloc, &links, &[0, 1, 2], &[], &[outage])
-}
-
-#[test]
-fn members_behind_an_outage(rt: HostRuntime) {
-    let alloc = rt.alloc();
-    for (m, want) in [(1, true), (2, false)] {
-        let told = is_reached(alloc, chain_with_an_outage(alloc), 0, m);
-        assert_eq!(rt; told, Some(want), "member {m}");
-    }
-}
-
-#[test]
-fn outage_at_the_second_link(rt: HostRuntime) {
-    let alloc = rt.alloc();
-    for (link, want) in [(0, Fate::Crosses), (1, Fate::Dropped)] {
-        let told = fate(alloc, chain_with_an_outage(alloc), 0, link);
-        assert_eq!(rt; told, Some(want), "link {link}");
-    }
-}
-
 // A star of links from node 0, which hosts nobody, to nodes 1 to 4, of which node 4 hosts nobody either. Link 1, to member 1, drops
 // a packet of member 0.
 fn star_with_a_drop(alloc: Global) -> Result<LossyNet, NetFault> {
@@ -109,21 +79,6 @@ fn drop_at_the_end() -> DropSpec {
     DropSpec {
         link: 1022,
         id: first_packet(),
-    }
-}
-
-// A path of 1,024 nodes with members on its ends and in the middle.
-fn longest_chain(alloc: Global) -> Result<LossyNet, NetFault> {
-    let links = path(alloc, 1023, 1, 3)?;
-    LossyNet::build(alloc, &links, &[0, 512, 1023], &[drop_at_the_end()], &[])
-}
-
-#[test]
-fn members_before_and_behind_a_drop_at_the_end_of_the_longest_chain(rt: HostRuntime) {
-    let alloc = rt.alloc();
-    for (m, want) in [(1, true), (2, false)] {
-        let told = is_reached(alloc, longest_chain(alloc), 0, m);
-        assert_eq!(rt; told, Some(want), "member {m}");
     }
 }
 
