@@ -12,7 +12,7 @@ join_mut-answer-requires-after_bounds g c κs within = (
       c.requires.opening,
       c.requires.count,
     ),
-    search,
+    (c.type_bounds.send-M, c.type_bounds.sync-R),
   ),
 )
 
