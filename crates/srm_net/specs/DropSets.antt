@@ -1,5 +1,6 @@
 -- What a set of drops says.
 use Rattle.std.specs.Prelude.{◌≡◌, Bool, ◌&&◌, ◌==◌, List, [], ◌∷◌}
+use Rattle.std.specs.Arc.{arc_value}
 use Rattle.std.specs.List.{list_any}
 use Rattle.std.specs.declared.cmp.Ordering.{Ordering}
 use Rattle.std.specs.Ordering.{match_ordering}
@@ -21,11 +22,11 @@ ordered_once cmp (x ∷ xs) = with_once cmp x (ordered_once cmp xs)
 
 -- the entries of a set of drops, in order, the outages, and the losses with their seed
 abbrev pub rules_of : Inside → DropRules
-rules_of s = record {
-  listed = ordered_once drop_cmp s.entries.keys;
-  outages = s.outages;
-  losses = s.losses;
-  seed = s.seed;
+rules_of d = record {
+  listed = ordered_once drop_cmp (arc_value d.sets).entries.keys;
+  outages = (arc_value d.sets).outages;
+  losses = (arc_value d.sets).losses;
+  seed = d.seed;
 }
 
 -- whether the packet is in the list
@@ -34,4 +35,6 @@ has_packet ps p = list_any (λ q. (p.sender == q.sender) && (p.count == q.count)
 
 -- the packets are those of the entries
 abbrev pub KnowsItsPackets : Inside → Type 0
-KnowsItsPackets s = (p : PacketId) → has_packet s.packets.keys p ≡ is_listed_somewhere s.entries.keys p
+KnowsItsPackets d =
+    (p : PacketId) → has_packet (arc_value d.sets).packets.keys p
+    ≡ is_listed_somewhere (arc_value d.sets).entries.keys p

@@ -7,23 +7,24 @@ ghost use Rattle.srm_net.specs.Listed.{is_listed_somewhere};
 ghost use Rattle.srm_net.specs.Losses.{is_lost};
 ghost use Rattle.srm_net.specs.Paths.{drop_cmp, is_listed, stop, takes_out};
 
+use crate::drop_sets::DropSets;
 use crate::fault::NetFault;
 use crate::link::{DropSpec, LossSpec, OutageSpec};
 use crate::losses::Losses;
 use crate::outages::Outages;
 use crate::packet::PacketId;
-use std::alloc::Global;
+use std::alloc::{AllocError, Global};
 use std::collections::HashSet;
 use std::marker::Model;
+use std::sync::Arc;
 
 /// The packets that links are configured to drop, the outages of links, and their losses. Contracts see it as the rules of its entries
 /// in the order of links, senders and counts, each once, of its outages and losses as they were given, and of the seed of the losses.
+///
+/// Those of several seeds share all but the seed.
 #[derive(Drop)]
 pub struct Drops {
-    entries: HashSet<DropSpec>,
-    packets: HashSet<PacketId>,
-    outages: Outages,
-    losses: Losses,
+    sets: Arc<DropSets>,
     seed: u64,
 }
 
@@ -72,12 +73,28 @@ impl Drops {
         }
         let outages = Outages::of(alloc, outages)?;
         let losses = Losses::of(alloc, losses)?;
-        Ok(Drops {
+        let sets = DropSets {
             entries,
             packets,
             outages,
             losses,
-            seed,
+        };
+        let Ok(sets) = Arc::new(alloc, sets) else {
+            return Err(NetFault::NoMemory);
+        };
+        Ok(Drops { sets, seed })
+    }
+
+    /// The same once more. The two share what they hold, and no memory is asked for.
+    ///
+    /// # Errors
+    /// [`AllocError`], only where some 2^63 share it.
+    pub fn share(&self) -> Result<Drops, AllocError>
+        ensures { IfOk result (λ drops. drops ≡ self.now) }
+    {
+        Ok(Drops {
+            sets: Arc::try_clone(&self.sets)?,
+            seed: self.seed,
         })
     }
 
@@ -85,27 +102,14 @@ impl Drops {
     pub fn with_seed(self, seed: u64) -> Drops
         ensures { result ≡ with_seed self seed }
     {
-        let Drops {
-            entries,
-            packets,
-            outages,
-            losses,
-            seed: _,
-        } = self;
-        Drops {
-            entries,
-            packets,
-            outages,
-            losses,
-            seed,
-        }
+        Drops { seed, ..self }
     }
 
     /// Whether a link is configured to drop a packet.
     pub fn lists(&self, link: u16, id: PacketId) -> bool
         ensures { result ≡ is_listed self.now.listed id link }
     {
-        self.entries.contains(&DropSpec { link, id })
+        self.sets.entries.contains(&DropSpec { link, id })
     }
 
     /// Whether a link takes out a packet that comes to it at the tick `at`: it is listed for the packet, out at that tick, or loses it.
@@ -128,14 +132,14 @@ impl Drops {
     fn takes_out_unlisted(&self, id: PacketId, link: u16, at: u64) -> bool
         ensures { result ≡ (is_out self.now.outages link at || is_lost self.now.losses self.now.seed id link at) }
     {
-        self.outages.is_out(link, at) || self.losses.is_lost(self.seed, id, link, at)
+        self.sets.outages.is_out(link, at) || self.sets.losses.is_lost(self.seed, id, link, at)
     }
 
     /// Whether any link is configured to drop a packet.
     pub(crate) fn lists_somewhere(&self, id: PacketId) -> bool
         ensures { result ≡ is_listed_somewhere self.now.listed id }
     {
-        self.packets.contains(&id)
+        self.sets.packets.contains(&id)
     }
 
     /// Whether a packet that is sent at the tick `sent` may be dropped at all: some link is listed for it, or an outage ends or a loss goes
@@ -145,6 +149,8 @@ impl Drops {
     pub fn may_drop(&self, id: PacketId, sent: u64) -> bool
         ensures { result ≡ may_drop self.now id sent }
     {
-        self.lists_somewhere(id) || self.outages.end_after(sent) || self.losses.go_on_after(sent)
+        self.lists_somewhere(id)
+            || self.sets.outages.end_after(sent)
+            || self.sets.losses.go_on_after(sent)
     }
 }

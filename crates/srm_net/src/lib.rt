@@ -3,6 +3,7 @@
 
 mod adjacency;
 mod checks;
+mod drop_sets;
 pub mod drops;
 mod earlier;
 pub mod fate;

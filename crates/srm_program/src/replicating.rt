@@ -50,7 +50,8 @@ impl<'a, R: Threads + Wait + Sync> Work<u64, Result<Vec<u8>, LabFault>> for Repl
     }
 }
 
-/// The run of a seed into memory: the lines of its table's rows, each with the seed in front.
+/// The run of a seed, which is that of its members' words and of its losses, into memory: the lines of its table's rows, each with
+/// the seed in front.
 ///
 /// # Errors
 /// `NoMemory` or `CountFull`.
@@ -65,8 +66,15 @@ fn lines_of_seed<R: Threads + Wait + Sync>(
     requires { MayReplicate scenario.now net.now options }
     ensures { MakesLines scenario.now net.now options.show seed result }
 {
+    let Ok(shared) = scenario.share() else {
+        return Err(LabFault::NoMemory);
+    };
+    let seeded = shared.with_seed(seed);
+    let session = Session {
+        scenario: &seeded,
+        net,
+    };
     let mut outlet = WriteOutlet::new(Vec::new(alloc));
-    let session = Session { scenario, net };
     match run_members(rt, alloc, session, seed, options, &mut outlet) {
         Ok(()) => {
             let table = outlet.into_inner();

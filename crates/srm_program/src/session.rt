@@ -92,9 +92,9 @@ pub fn simulate<R: Threads + Wait + Sync, F: Feed, O: Outlet>(
     Simulated { done, text }
 }
 
-/// Makes the members of the scenario that a text describes, with random words of this seed, runs them, and writes the report of
-/// the run to an outlet; or makes replications, from this seed on, and writes their table. Where the scenario is only to be checked,
-/// it is read and nothing more is done.
+/// Makes the members of the scenario that a text describes, with random words and losses of this seed, runs them, and writes the
+/// report of the run to an outlet; or makes replications, from this seed on, and writes their table. Where the scenario is only to be
+/// checked, it is read and nothing more is done.
 ///
 /// # Errors
 /// 1. `Scenario`: the first fault of the text, as of [`scenario_of_text`](srm_scenario::reading::scenario_of_text).
@@ -123,6 +123,7 @@ pub fn simulate_text<R: Threads + Wait + Sync, O: Outlet>(
     if options.check {
         return Ok(());
     }
+    let scenario = scenario.with_seed(seed);
     let Ok(net) = scenario.net(alloc) else {
         return Err(Fault::NoMemory);
     };

@@ -1,4 +1,5 @@
 pub mod Plain
+pub mod Sharing
 pub mod ScriptLists
 pub mod Accepted
 pub mod Pages

@@ -14,6 +14,7 @@ pub mod form;
 pub mod key;
 pub mod laws;
 mod limits;
+mod lists;
 pub mod mark;
 mod numbers;
 mod parents;

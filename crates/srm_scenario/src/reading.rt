@@ -22,6 +22,7 @@ use crate::draft::Draft;
 use crate::entry::MemberEntry;
 use crate::fault::ScenarioFault;
 use crate::feed::Feed;
+use crate::lists::Lists;
 use crate::parts::{DrawSpec, MemberSpec, SessionSpec};
 use crate::scenario::Scenario;
 use crate::topology::Topology;
@@ -29,6 +30,7 @@ use srm_net::drops::Drops;
 use srm_net::link::{DropSpec, LinkSpec, LossSpec, OutageSpec};
 use srm_net::net::Net;
 use std::alloc::{AllocError, Global};
+use std::sync::Arc;
 use toml::Table;
 
 /// Links that do not make a tree of the nodes are a fault.
@@ -169,15 +171,19 @@ fn scenario_from(alloc: Global, draft: Draft) -> Result<Scenario, ScenarioFault>
     check_drops(&links, &members, &drops)?;
     check_spans(&links, &outages, &losses)?;
     let drops = drops_of(alloc, &drops, &outages, &losses)?;
+    let lists = Lists {
+        links,
+        members,
+        draws,
+        sessions,
+    };
+    let lists = Arc::new(alloc, lists)?;
     Ok(Scenario {
         until,
         constants,
         room,
         nodes,
-        links,
-        members,
-        draws,
-        sessions,
+        lists,
         drops,
     })
 }

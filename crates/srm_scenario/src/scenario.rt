@@ -7,8 +7,9 @@ ghost use Rattle.srm_scenario.specs.ScriptLists.{scripts_of};
 ghost use Rattle.srm_scenario.specs.Pages.{wants_page};
 
 use crate::fault::ScenarioFault;
+use crate::lists::Lists;
 use crate::mark::Mark;
-use crate::parts::{Constants, DrawSpec, MemberSpec, Room, SessionSpec};
+use crate::parts::{Constants, MemberSpec, Room};
 use crate::script::script_of;
 use crate::scripts::scripts_of;
 use srm_net::drops::Drops;
@@ -18,19 +19,17 @@ use srm_net::net::Net;
 use srm_net::role::Role;
 use std::alloc::{AllocError, Global};
 use std::marker::Model;
+use std::sync::Arc;
 
 /// What a run is given: a network, the members on it, what they draw and report, and which packets are dropped. Contracts see it
-/// as one plain record. Every value of this type is an accepted scenario.
+/// as one plain record. Every value of this type is an accepted scenario. Those of several seeds share all but the seed.
 #[derive(Drop)]
 pub struct Scenario {
     pub(crate) until: u64,
     pub(crate) constants: Constants,
     pub(crate) room: Room,
     pub(crate) nodes: u16,
-    pub(crate) links: Vec<LinkSpec>,
-    pub(crate) members: Vec<MemberSpec>,
-    pub(crate) draws: Vec<DrawSpec>,
-    pub(crate) sessions: Vec<SessionSpec>,
+    pub(crate) lists: Arc<Lists>,
     pub(crate) drops: Drops,
 }
 
@@ -40,30 +39,11 @@ impl Model for Scenario {
     ghost Value = { PlainScenario };
 
     ghost use Rattle.srm_scenario.specs.Accepted.{IsAccepted};
+    ghost use Rattle.srm_scenario.specs.Sharing.{scenario_inside};
 
-    ghost view = { λ s. record {
-      until = s.until;
-      constants = s.constants;
-      room = s.room;
-      nodes = s.nodes;
-      links = s.links.items;
-      members = s.members.items;
-      draws = s.draws.items;
-      sessions = s.sessions.items;
-      drops = s.drops;
-    } };
+    ghost view = { scenario_inside };
 
-    ghost invariant = { λ s. IsAccepted (record {
-      until = s.until;
-      constants = s.constants;
-      room = s.room;
-      nodes = s.nodes;
-      links = s.links.items;
-      members = s.members.items;
-      draws = s.draws.items;
-      sessions = s.sessions.items;
-      drops = s.drops;
-    }) };
+    ghost invariant = { λ s. IsAccepted (scenario_inside s) };
 }
 
 impl Scenario {
@@ -95,7 +75,7 @@ impl Scenario {
     pub fn members(&self) -> u16
         ensures { result ≡ length self.now.members }
     {
-        self.members.len() as u16
+        self.lists.members.len() as u16
     }
 
     /// Member m.
@@ -103,7 +83,7 @@ impl Scenario {
         requires { m < length self.now.members }
         ensures { slice_get self.now.members m ≡ Some result.now }
     {
-        &self.members[m as usize]
+        &self.lists.members[m as usize]
     }
 
     /// What member m does.
@@ -158,7 +138,7 @@ impl Scenario {
     pub fn links(&self) -> &[LinkSpec]
         ensures { result.now ≡ self.now.links }
     {
-        self.links.as_slice()
+        self.lists.links.as_slice()
     }
 
     /// The rules by which links drop packets: the drops that are listed, the outages, and the losses with their seed.
@@ -176,6 +156,23 @@ impl Scenario {
         Scenario { drops, ..self }
     }
 
+    /// The same scenario once more. The two share what they hold, and no memory is asked for.
+    ///
+    /// # Errors
+    /// [`AllocError`], only where some 2^63 share it.
+    pub fn share(&self) -> Result<Scenario, AllocError>
+        ensures { IfOk result (λ s. s ≡ self.now) }
+    {
+        Ok(Scenario {
+            until: self.until,
+            constants: self.constants,
+            room: self.room,
+            nodes: self.nodes,
+            lists: Arc::try_clone(&self.lists)?,
+            drops: self.drops.share()?,
+        })
+    }
+
     /// The scenario's network.
     ///
     /// # Errors
@@ -183,8 +180,8 @@ impl Scenario {
     pub fn net(&self, alloc: Global) -> Result<Net, NetFault>
         ensures { MatchResult result (λ net. net ≡ network_of self.now) (λ e. e ≡ NetFault.NoMemory) }
     {
-        let hosts = hosts_of(alloc, &self.members)?;
-        Net::build(alloc, self.nodes, &self.links, &hosts)
+        let hosts = hosts_of(alloc, &self.lists.members)?;
+        Net::build(alloc, self.nodes, &self.lists.links, &hosts)
     }
 
     /// The script of member m: its join, draws, session messages and leave, in the order of their keys.
@@ -203,8 +200,8 @@ impl Scenario {
             m,
             member.join,
             member.leave,
-            &self.draws,
-            &self.sessions,
+            &self.lists.draws,
+            &self.lists.sessions,
         )?;
         Ok(marks)
     }
@@ -219,7 +216,12 @@ impl Scenario {
         ensures rise { IfOk result (λ scripts. All (λ marks. Rises mark_cmp marks.items) scripts.items) }
         ensures fault { IfErr result (λ e. e ≡ ScenarioFault.NoMemory) }
     {
-        let scripts = scripts_of(alloc, &self.members, &self.draws, &self.sessions)?;
+        let scripts = scripts_of(
+            alloc,
+            &self.lists.members,
+            &self.lists.draws,
+            &self.lists.sessions,
+        )?;
         Ok(scripts)
     }
 }
