@@ -89,11 +89,12 @@ def losers(tree: Tree, source: int, nodes: Iterable[int], link: int) -> list[int
 def first_lost(given: "Scenario", sender: int, draws: list[int]) -> dict[int, int]:
     """For each link that loses draws of a sender, made at these ticks, the place of the first of them.
 
+    Where losses are at random, it is the first that may be lost.
     The packets of a sender are its draws, as long as it sends nothing else.
     """
     way = given.tree.distances(given.members[sender].node)
     lost = [(drop.link, drop.count) for drop in given.drops if drop.sender == sender and drop.count < len(draws)]
-    for outage in given.outages:
+    for outage in (*given.outages, *given.random_losses):
         link = given.tree.links[outage.link]
         comes = min(way[link.a], way[link.b])
         lost += [(outage.link, place) for place, at in enumerate(draws) if outage.is_on(at + comes)]
