@@ -5,7 +5,7 @@ from typing import TYPE_CHECKING
 
 from .errors import ScenarioError
 from .limits import within
-from .parts import Drop
+from .parts import Drop, Outage, RandomLoss
 from .tree import Tree
 
 if TYPE_CHECKING:
@@ -94,10 +94,11 @@ def first_lost(given: "Scenario", sender: int, draws: list[int]) -> dict[int, in
     """
     way = given.tree.distances(given.members[sender].node)
     lost = [(drop.link, drop.count) for drop in given.drops if drop.sender == sender and drop.count < len(draws)]
-    for outage in (*given.outages, *given.random_losses):
-        link = given.tree.links[outage.link]
+    taking: tuple[Outage | RandomLoss, ...] = (*given.outages, *given.random_losses)
+    for one in taking:
+        link = given.tree.links[one.link]
         comes = min(way[link.a], way[link.b])
-        lost += [(outage.link, place) for place, at in enumerate(draws) if outage.is_on(at + comes)]
+        lost += [(one.link, place) for place, at in enumerate(draws) if one.is_on(at + comes)]
     return {link: place for link, place in sorted(lost, reverse=True)}
 
 
