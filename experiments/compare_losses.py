@@ -9,8 +9,8 @@ from srm_lab.statistics import Interval, difference, interval
 
 RATES = (0.01, 0.05)
 DRAWS, APART, SEEDS = 20, 50_000, 100
-TOLD = """tree of {members} members of which every link loses packets of each kind, C1 = C2 = 2, D1 = D2 = 1: share of (receiver, draw) \
-that are lost,
+TOLD = """tree of {members} members, of which every link loses packets of each kind, C1 = C2 = 2, D1 = D2 = 1: the share of \
+draws that a receiver loses,
 mean requests and repairs for a lost draw, of {seeds} seeds with {draws} draws each, and the difference, ns-2's less \
 srm_lab's, each with its 95 per
 cent interval over seeds (Student's t; Welch's for the difference). ns-2 has srm_lab's rules; neither the programs \

@@ -59,6 +59,11 @@ experiments-slurm: $(SRM_LAB) ## the same by Slurm: make experiments-slurm JOBS=
 	$(SNAKEMAKE) --jobs $(JOBS) --cores $(CORES) --latency-wait 60 \
 		--cluster "sbatch --parsable --cpus-per-task={threads} --output=.snakemake/slurm-%j.log $(SBATCH)" $(REPORT)
 
+.PHONY: random-loss
+random-loss: $(SRM_LAB) ## data alone lost at random, and all packets: experiments/results/random_loss.svg
+	mkdir -p experiments/results
+	cd experiments && SRM_LAB=$(abspath $(SRM_LAB)) PYTHONPATH=$(abspath python/src) $(PYTHON) random_loss.py results/random_loss.svg
+
 .PHONY: compare-ns2
 compare-ns2: $(SRM_LAB) ## runs 320 scenarios in srm_lab and in ns-2, and explains each difference
 	cd experiments && PYTHONPATH=$(abspath python/src) $(PYTHON) -u compare_ns2.py $(abspath $(SRM_LAB)) --table results/compare-ns2.csv

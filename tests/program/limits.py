@@ -3,12 +3,12 @@
 
 usage: tests/program/limits.py
 
-Each case has as much of one thing as a scenario of version 2, 3 or 4 may have: nodes and members in a chain, a star, a tree and by
-parents, links, draws, session messages, drops, outages, losses, pages of a late member, ticks, delays, distances, and bytes of its text.
-What has to be written is worked out here. Jobs have one member each, so that a window has as many as there are members, or as
-many members as they may have. Then a session of 5,000 members, which lose packets and adapt their timers, is run with each crew
-and several workers, cuts and widths, and has to give the sequential engine's bytes. Prints how many runs there were, and ends
-with status 1 where one differs.
+Each case has as much of one thing as a scenario of version 2, 3 or 4 may have: nodes and members in a chain, a star, a tree and
+by parents, links, draws, session messages, drops, outages, losses, pages of a late member, ticks, delays, distances, and bytes
+of its text. What has to be written is worked out here. Jobs have one member each, so that a window has as many as there are
+members, or as many members as they may have. Then a session of 5,000 members, which lose packets and adapt their timers, is run
+with each crew and several workers, cuts and widths, and has to give the sequential engine's bytes. Prints how many runs there
+were, and ends with status 1 where one differs.
 """
 import dataclasses
 import sys
@@ -285,7 +285,7 @@ def cases_of_version_3() -> Iterator[Case]:
 
 
 def cases_of_version_4() -> Iterator[Case]:
-    """As many losses as there may be, of one link: all but one take the first draw, by the greatest stream, and one all others."""
+    """As many losses as there may be, of one link: all but one take the first draw, of the greatest stream, one the others."""
     count = FOURTH.elements
     losses = array(
         "loss",
