@@ -21,10 +21,13 @@ experiments-packages: ## installs the Debian packages that these targets need (a
 check-tutorial: $(SRM_LAB) ## runs each command of the tutorial and the study, and compares what it writes with the page
 	$(PYTHON) experiments/check_tutorial.py $(SRM_LAB) docs/TUTORIAL.md docs/STUDY.md
 
+# the seed in ARGUMENTS: by it a picture knows what is lost at random
+SEED_GIVEN = $(patsubst --seed=%,--seed %,$(filter --seed=%,$(subst --seed ,--seed=,$(ARGUMENTS))))
+
 .PHONY: picture
 picture: $(SRM_LAB) ## draws a run: make picture SCENARIO=examples/star-loss-at-one-member.toml ARGUMENTS="--seed 2" PICTURE="--from 10 --to 40" > star.svg
 	@trace=$$(mktemp) && trap 'rm -f "$$trace"' EXIT && $(SRM_LAB) $(EXPLAIN) $(ARGUMENTS) < $(SCENARIO) > "$$trace" && \
-		PYTHONPATH=python/src $(PYTHON) -m srm_lab.picture $(SCENARIO) "$$trace" $(PICTURE)
+		PYTHONPATH=python/src $(PYTHON) -m srm_lab.picture $(SCENARIO) "$$trace" $(SEED_GIVEN) $(PICTURE)
 
 .PHONY: page pages
 page: $(SRM_LAB) ## writes a page that plays a run: make page SCENARIO=examples/star-loss-at-one-member.toml > star.html
