@@ -6,7 +6,8 @@ Timers have no random part in the families of FAMILIES, so that each request and
 programs. Where they differ, rules of srm_lab are put into ns-2's agent until they do not: the fewest that do so
 explain the difference. Families with adaptive timers follow (compare_adaptive.py), whose random words ns-2 is given.
 Each rule has a scenario in ns2/differences that shows it. Last, a star with random timers is compared by its mean
-number of requests, and run times stand side by side. Ends with status 1 if a difference stays unexplained.
+number of requests, with run times side by side, and a tree whose links lose packets at random by what is lost and
+sent (compare_losses.py). Ends with status 1 if a difference stays unexplained.
 """
 import argparse
 import csv
@@ -22,6 +23,7 @@ from pathlib import Path
 from typing import Any
 
 from compare_adaptive import compare_adaptive
+from compare_losses import compare_losses
 from ns2_agent import ADAPTIVE, ALL, HERE, RULES, Programs, Result, children_seconds, counts, row_of, simultaneous, tell
 from srm_lab import Scenario, tree
 from srm_lab.cli import build, parser
@@ -243,6 +245,7 @@ def main() -> int:
     if not options.only:
         wrong += compare_differences(programs)
         compare_star(programs, options.jobs)
+        compare_losses(programs, options.jobs)
     return 1 if wrong else 0
 
 

@@ -15,6 +15,7 @@ from pathlib import Path
 from typing import Any
 
 from srm_lab import Scenario, read_scenario
+from srm_lab.limits import NEWEST
 from srm_lab.link import Link
 from srm_lab.losses import arrival
 from srm_lab.parts import CONSTANTS
@@ -196,6 +197,7 @@ def ns2_input(text: str, rules: Iterable[str], seed: int, cycle: tuple[int, int]
     lines += [f"draws {len(draws)} {every}"]
     lines += [f"session {session.at}" for session in given.sessions]
     lines += adaptive_lines(given, words)
+    lines += loss_lines(given)
     if cycle:
         lines.append(f"cycle {cycle[0]} {cycle[1]}")
     else:
@@ -237,6 +239,15 @@ def cycle_of(given: Scenario) -> tuple[int, int]:
     every = lost[1] if len(lost) > 1 else len(given.draws)
     assert len(given.outages) == len(lost) and lost == list(range(0, len(given.draws), every)), "outages are no rounds"
     return link, every
+
+
+def loss_lines(given: Scenario) -> list[str]:
+    """What ns2/srm.tcl is told of losses at random, of which a link has one for the whole run at most."""
+    losses = given.random_losses
+    assert len({one.link for one in losses}) == len(losses), "ns-2 is given one loss of a link"
+    assert not losses or not given.outages, "ns-2 is given losses at random or rounds"
+    assert all(one.first == 0 and one.end is None for one in losses), "ns-2 loses packets for the whole run"
+    return [f"loss {one.link} {one.rate / NEWEST.rate}" for one in losses]
 
 
 WORDS = 400  # that a member is given: more than it sets timers

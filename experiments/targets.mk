@@ -21,10 +21,13 @@ experiments-packages: ## installs the Debian packages that these targets need (a
 check-tutorial: $(SRM_LAB) ## runs each command of the tutorial and the study, and compares what it writes with the page
 	$(PYTHON) experiments/check_tutorial.py $(SRM_LAB) docs/TUTORIAL.md docs/STUDY.md
 
+# the seed in ARGUMENTS: by it a picture knows what is lost at random
+SEED_GIVEN = $(patsubst --seed=%,--seed %,$(filter --seed=%,$(subst --seed ,--seed=,$(ARGUMENTS))))
+
 .PHONY: picture
 picture: $(SRM_LAB) ## draws a run: make picture SCENARIO=examples/star-loss-at-one-member.toml ARGUMENTS="--seed 2" PICTURE="--from 10 --to 40" > star.svg
 	@trace=$$(mktemp) && trap 'rm -f "$$trace"' EXIT && $(SRM_LAB) $(EXPLAIN) $(ARGUMENTS) < $(SCENARIO) > "$$trace" && \
-		PYTHONPATH=python/src $(PYTHON) -m srm_lab.picture $(SCENARIO) "$$trace" $(PICTURE)
+		PYTHONPATH=python/src $(PYTHON) -m srm_lab.picture $(SCENARIO) "$$trace" $(SEED_GIVEN) $(PICTURE)
 
 .PHONY: page pages
 page: $(SRM_LAB) ## writes a page that plays a run: make page SCENARIO=examples/star-loss-at-one-member.toml > star.html
@@ -58,6 +61,11 @@ experiments-slurm: CORES ?= 4
 experiments-slurm: $(SRM_LAB) ## the same by Slurm: make experiments-slurm JOBS=2 CORES=2 SBATCH="--partition=short --time=30"
 	$(SNAKEMAKE) --jobs $(JOBS) --cores $(CORES) --latency-wait 60 \
 		--cluster "sbatch --parsable --cpus-per-task={threads} --output=.snakemake/slurm-%j.log $(SBATCH)" $(REPORT)
+
+.PHONY: random-loss
+random-loss: $(SRM_LAB) ## data alone lost at random, and all packets: experiments/results/random_loss.svg
+	mkdir -p experiments/results
+	cd experiments && SRM_LAB=$(abspath $(SRM_LAB)) PYTHONPATH=$(abspath python/src) $(PYTHON) random_loss.py results/random_loss.svg
 
 .PHONY: compare-ns2
 compare-ns2: $(SRM_LAB) ## runs 320 scenarios in srm_lab and in ns-2, and explains each difference

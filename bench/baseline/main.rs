@@ -9,10 +9,11 @@
 //!
 //! It reads a part of TOML: comments, whole decimal numbers, strings in double quotes without escapes, arrays, inline
 //! tables and `[[name]]`, which is what examples/ and the scenarios of the scripts beside it consist of. docs/FORMATS.md
-//! has versions 1 and 2 of the format, and bench/README.md what is new in version 3. A scenario that it would not
+//! has each version of the format. A scenario that it would not
 //! simulate as it says stops it with a message; it tells no refusals.
 
 mod events;
+mod losses;
 mod member;
 mod network;
 mod packets;

@@ -1,14 +1,18 @@
 //! The network: distances, and where packets go.
 
 use crate::events::Time;
+use crate::losses::Loss;
+use crate::packets::PacketId;
 
-/// A link takes `delay` ticks from `a` to `b`, and `back` ticks from `b` to `a`. In an outage it drops what comes to it.
+/// A link takes `delay` ticks from `a` to `b`, and `back` ticks from `b` to `a`. In an outage it drops what comes to it, and
+/// losses take some of it.
 pub struct Link {
     pub a: usize,
     pub b: usize,
     pub delay: Time,
     pub back: Time,
     pub outages: Vec<Outage>,
+    pub losses: Vec<Loss>,
 }
 
 pub struct Outage {
@@ -19,6 +23,10 @@ pub struct Outage {
 impl Link {
     fn delay_from(&self, node: usize) -> Time {
         if node == self.a { self.delay } else { self.back }
+    }
+
+    fn loses(&self, number: usize, sent: &Sent, at: Time) -> bool {
+        self.losses.iter().any(|it| it.takes(sent.seed, number, sent.id, at))
     }
 
     fn is_out(&self, at: Time) -> bool {
@@ -108,15 +116,15 @@ impl Net {
         distances
     }
 
-    /// Where a packet goes that is sent from a node at this time, and that these links are listed as dropping.
-    pub fn route(&self, links: &[Link], from: usize, at: Time, dropping: &[usize]) -> Route {
+    /// Where a packet goes that is sent from a node.
+    pub fn route(&self, links: &[Link], from: usize, sent: &Sent) -> Route {
         let mut route = Route { hearers: Vec::new(), crossed: Vec::new(), dropped: Vec::new() };
-        let mut left = vec![(from, from, at)];
+        let mut left = vec![(from, from, sent.at)];
         while let Some((before, node, at)) = left.pop() {
             route.hearers.extend(self.hosts[node].filter(|_| node != from));
             for side in self.sides[node].iter().filter(|side| side.node != before && side.hosts) {
                 let link = &links[side.link];
-                if dropping.contains(&side.link) || link.is_out(at) {
+                if sent.dropping.contains(&side.link) || link.is_out(at) || link.loses(side.link, sent, at) {
                     route.dropped.push(side.link);
                 } else {
                     route.crossed.push(side.link);
@@ -126,6 +134,15 @@ impl Net {
         }
         route
     }
+}
+
+/// What decides what becomes of a packet: which it is, when it was sent, the links that are listed as dropping it, and the
+/// seed of the run.
+pub struct Sent<'a> {
+    pub id: PacketId,
+    pub at: Time,
+    pub dropping: &'a [usize],
+    pub seed: u64,
 }
 
 /// Where a packet goes: the members that it reaches, the links that it crosses, and those at which it is dropped.

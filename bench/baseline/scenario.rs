@@ -2,6 +2,7 @@
 //! message.
 
 use crate::events::Time;
+use crate::losses::Loss;
 use crate::member::Role;
 use crate::network::{is_tree, Link, Outage};
 use crate::packets::PacketId;
@@ -12,6 +13,9 @@ const LATEST: Time = 1 << 40;
 const LONGEST_DELAY: Time = 1_000_000;
 const MOST_TIMES: u64 = 65_535;
 const WORD: u64 = u32::MAX as u64;
+const MOST_STREAM: u64 = i64::MAX as u64;
+/// Millionths.
+const WHOLE_RATE: u64 = 1_000_000;
 
 pub struct Draw {
     pub member: u16,
@@ -33,6 +37,11 @@ pub struct Drop {
 struct LinkOutage {
     link: usize,
     outage: Outage,
+}
+
+struct LinkLoss {
+    link: usize,
+    loss: Loss,
 }
 
 pub struct Placed {
@@ -71,10 +80,11 @@ struct Version {
     constant: u64,
 }
 
-const VERSIONS: [Version; 3] = [
+const VERSIONS: [Version; 4] = [
     Version { number: 1, nodes: 256, elements: 4096, constant: 64_000 },
     Version { number: 2, nodes: 1024, elements: 4096, constant: 64_000 },
     Version { number: 3, nodes: 65_535, elements: 65_535, constant: 1_024_000 },
+    Version { number: 4, nodes: 65_535, elements: 65_535, constant: 1_024_000 },
 ];
 
 const COMMON_KEYS: [&str; 11] =
@@ -85,7 +95,7 @@ const REPEATING_KEYS: [&str; 2] = ["times", "every"];
 
 impl Version {
     fn of(top: &Table) -> &'static Version {
-        &VERSIONS[top.number("version", 1..=3) as usize - 1]
+        &VERSIONS[top.number("version", 1..=VERSIONS.len() as u64) as usize - 1]
     }
 
     /// The greatest number of a node, a member or a link.
@@ -102,8 +112,9 @@ impl Version {
             Some(other) => panic!("no topology: {other}"),
         };
         let outage: &[&str] = if self.number >= 2 { &["outage"] } else { &[] };
+        let loss: &[&str] = if self.number >= 4 { &["loss"] } else { &[] };
         let adaptive: &[&str] = if self.number >= 3 { &ADAPTIVE_KEYS } else { &[] };
-        self.known([&COMMON_KEYS, network, outage, adaptive].concat())
+        self.known([&COMMON_KEYS, network, outage, loss, adaptive].concat())
     }
 
     fn element_keys(&self, keys: &[&'static str]) -> Vec<&'static str> {
@@ -186,6 +197,7 @@ impl Scenario {
         let sessions = list("session", &["member", "at"], version.elements);
         let drops = list("drop", &["link", "sender", "count"], version.elements);
         let outages = list("outage", &["link", "from", "to"], version.elements);
+        let losses = list("loss", &["link", "rate", "stream", "from", "to"], version.elements);
         let mut scenario = Scenario {
             until: top.number("until", 1..=LATEST),
             constants: constants(top, version),
@@ -199,6 +211,7 @@ impl Scenario {
         };
         scenario.check(top.text("topology") == Some("star"));
         scenario.take_in_outages(outages.read(|it| outage(it, last)));
+        scenario.take_in_losses(losses.read(|it| loss(it, last)));
         scenario
     }
 
@@ -233,6 +246,14 @@ impl Scenario {
         for (place, LinkOutage { link, outage }) in outages.into_iter().enumerate() {
             assert!(link < self.links.len() && outage.from < outage.to, "outage {place} is none");
             self.links[link].outages.push(outage);
+        }
+    }
+
+    fn take_in_losses(&mut self, losses: Vec<LinkLoss>) {
+        for (place, LinkLoss { link, loss }) in losses.into_iter().enumerate() {
+            let ends = loss.to.is_none_or(|to| loss.from < to);
+            assert!(link < self.links.len() && ends, "loss {place} is none");
+            self.links[link].losses.push(loss);
         }
     }
 }
@@ -286,6 +307,17 @@ fn outage(it: &Element, last: u64) -> LinkOutage {
     LinkOutage { link: it.number("link", last) as usize, outage }
 }
 
+fn loss(it: &Element, last: u64) -> LinkLoss {
+    let rate = it.table.number("rate", 1..=WHOLE_RATE);
+    let loss = Loss {
+        stream: it.table.number_or("stream", 0..=MOST_STREAM, 0),
+        bound: rate * (1 << 32) / WHOLE_RATE,
+        from: it.table.number_or("from", 0..=LATEST, 0),
+        to: it.table.find("to").map(|_| it.table.number("to", 1..=LATEST)),
+    };
+    LinkLoss { link: it.stepped("link", last) as usize, loss }
+}
+
 /// The number of nodes, and the links.
 fn network(top: &Table, version: &Version) -> (usize, Vec<Link>) {
     match top.text("topology") {
@@ -302,7 +334,7 @@ fn explicit(top: &Table, version: &Version) -> (usize, Vec<Link>) {
         let end = |key| it.number(key, 0..=version.last()) as usize;
         let delay = it.number("delay", 1..=LONGEST_DELAY);
         let back = it.number_or("back", 1..=LONGEST_DELAY, delay);
-        Link { a: end("a"), b: end("b"), delay, back, outages: Vec::new() }
+        Link { a: end("a"), b: end("b"), delay, back, outages: Vec::new(), losses: Vec::new() }
     };
     (top.number("nodes", 1..=version.nodes) as usize, top.tables("link").map(link).collect())
 }
@@ -318,7 +350,7 @@ fn regular(top: &Table, version: &Version, shape: &str) -> (usize, Vec<Link>) {
         _ if node <= degree => 0,
         _ => 1 + (node - degree - 1) / (degree - 1),
     };
-    let link = |node| Link { a: parent(node), b: node, delay, back, outages: Vec::new() };
+    let link = |node| Link { a: parent(node), b: node, delay, back, outages: Vec::new(), losses: Vec::new() };
     (nodes, (1..nodes).map(link).collect())
 }
 
@@ -330,7 +362,7 @@ fn parents(top: &Table, version: &Version) -> (usize, Vec<Link>) {
     let back = delays(top, ["back", "backs"], parent.len()).unwrap_or_else(|| there.clone());
     let link = |place: usize| {
         let (a, b) = (parent[place] as usize, place + 1);
-        Link { a, b, delay: there[place], back: back[place], outages: Vec::new() }
+        Link { a, b, delay: there[place], back: back[place], outages: Vec::new(), losses: Vec::new() }
     };
     (parent.len() + 1, (0..parent.len()).map(link).collect())
 }

@@ -4,7 +4,7 @@ use std::collections::HashMap;
 
 use crate::events::{Event, Events, Key, Time, ANSWER, ARRIVAL, ASK, DRAW, JOIN, LEAVE, REPORT};
 use crate::member::{Member, Reaction, Role, Told};
-use crate::network::{Link, Net, Route};
+use crate::network::{Link, Net, Route, Sent};
 use crate::packets::{Body, Name, Packet, PacketId, DROPPED};
 use crate::scenario::{Draw, Scenario};
 use crate::timers::{Timers, Words};
@@ -40,7 +40,9 @@ pub struct Simulation {
     ways: Vec<Vec<Time>>,
     /// Where packets of each member go that no link drops.
     routes: Vec<Route>,
-    has_outages: bool,
+    seed: u64,
+    /// Whether a link has outages or losses.
+    is_lossy: bool,
     drops: HashMap<PacketId, Vec<usize>>,
     draws: Vec<Draw>,
     /// From when to when each member is there.
@@ -72,10 +74,12 @@ impl Simulation {
             drops.entry(it.id).or_default().push(it.link);
         }
         let links = scenario.links;
-        let sound: Vec<Link> = links.iter().map(|link| Link { outages: Vec::new(), ..*link }).collect();
+        let sound: Vec<Link> = links.iter().map(|link| Link { outages: Vec::new(), losses: Vec::new(), ..*link }).collect();
+        let any = Sent { id: PacketId { sender: 0, count: 0 }, at: 0, dropping: &[], seed };
         Simulation {
-            routes: nodes.iter().map(|&node| net.route(&sound, node, 0, &[])).collect(),
-            has_outages: links.iter().any(|link| !link.outages.is_empty()),
+            routes: nodes.iter().map(|&node| net.route(&sound, node, &any)).collect(),
+            seed,
+            is_lossy: links.iter().any(|link| !link.outages.is_empty() || !link.losses.is_empty()),
             net,
             nodes,
             ways,
@@ -154,8 +158,9 @@ impl Simulation {
         from.sent += 1;
         self.packets.push(Packet { id, body });
         let listed = self.drops.get(&id).map(Vec::as_slice);
-        let own = (self.has_outages || listed.is_some())
-            .then(|| self.net.route(&self.links, self.nodes[sender as usize], at, listed.unwrap_or(&[])));
+        let sent = Sent { id, at, dropping: listed.unwrap_or(&[]), seed: self.seed };
+        let own = (self.is_lossy || listed.is_some())
+            .then(|| self.net.route(&self.links, self.nodes[sender as usize], &sent));
         let route = own.as_ref().unwrap_or(&self.routes[sender as usize]);
         for &link in &route.crossed {
             self.totals[link][kind] += 1;

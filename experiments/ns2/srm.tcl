@@ -13,6 +13,7 @@
 #   session TICK               a session message by member 0
 #   drop LINK NUMBER           that link drops that draw; one for a link
 #   cycle LINK K               that link drops draws 0, K, 2 K and so on
+#   loss LINK RATE             that link loses packets at random, in both directions: ns-2's ErrorModel
 #   rule NAME                  one of srm_lab's rules in place of ns-2's: see below
 #   adaptive G                 Agent/SRM/Adaptive, for a group of G members, with what adaptive.tcl adds to it
 #   limits C1 C1 C2 C2 ..      of it, least and most of each constant, in place of those for a group of G
@@ -23,7 +24,7 @@
 # `recovered MEMBER NUMBER TIME`, and last `cost SECONDS`, the processor time of the run without its setup. With
 # adaptive timers also `constants TIME MEMBER C1 C2 D1 D2` where they may have changed.
 
-set links {}; set hosts {}; set sessions {}; set drops {}; set seed 1; set adaptive 0; set limits {}
+set links {}; set hosts {}; set sessions {}; set drops {}; set losses {}; set seed 1; set adaptive 0; set limits {}
 foreach rule {
     arrivals-first hold-off-by-source back-off-at-once hold-off-when-held hold-off-extended ten-doublings
     averaged-once half-step-first duplicates-at-rest duplicates-ignored every-recovery present-constants
@@ -43,6 +44,7 @@ while {[gets $input words] >= 0} {
         session { lappend sessions [lindex $words 1] }
         drop { lappend drops [list [lindex $words 1] 1000000000 [lindex $words 2]] }
         cycle { lappend drops [list [lindex $words 1] [lindex $words 2] 0] }
+        loss { lappend losses [lrange $words 1 2] }
         rule { set rules([lindex $words 1]) 1 }
         adaptive { set adaptive [lindex $words 1] }
         limits { set limits [lrange $words 1 end] }
@@ -213,6 +215,21 @@ foreach drop $drops {
     $loss drop-packet 2 $cycle $offset
     $loss drop-target [$ns set nullAgent_]
     $ns at 0.5 "$ns lossmodel $loss $node($a) $node($b)"
+}
+if {$losses != {}} {                       ;# the first random numbers of a small seed are small
+    for {set skipped 0} {$skipped < 100} {incr skipped} { ns-random }
+}
+foreach loss $losses {
+    lassign $loss place rate
+    lassign [lindex $links $place] a b
+    foreach {from to} [list $a $b $b $a] {
+        set model [new ErrorModel]
+        $model unit pkt
+        $model set rate_ $rate
+        $model ranvar [new RandomVariable/Uniform]
+        $model drop-target [$ns set nullAgent_]
+        $ns at [expr {$start - 0.25}] "$ns lossmodel $model $node($from) $node($to)"
+    }
 }
 set backoffs [expr {$rules(six-triplings) ? 6 : $rules(ten-doublings) ? 10 : 5}]
 set number 0

@@ -1,8 +1,10 @@
 """What ns-2 is given, and how its rules are named. What both programs do is compared by `make compare-ns2`."""
 import pytest
 
+from compare_losses import session, share_of
 from compare_ns2 import from_words
 from ns2_agent import ALL, HERE, changes, ns2_input, random_words, whole
+from srm_lab import read_scenario
 
 CHAIN = ("chain --size 3 --delay 10 --draws 2 --every 50 --drop-link 1 --session-after 7 --until 500 "
          "--c1 2 --c2 0 --d1 1.5 --d2 0")
@@ -17,6 +19,21 @@ def test_scenario_as_ns2_reads_it():
 def test_every_other_packet_is_lost_by_a_cycle():
     lines = ns2_input(from_words(CHAIN), (), 1, (1, 2)).splitlines()
     assert lines[-1] == "cycle 1 2" and not any(line.startswith("drop") for line in lines)
+
+
+def test_losses_at_random_are_told_link_by_link():
+    text = from_words("chain --size 3 --draws 2 --every 50 --loss 0.015")
+    assert [line for line in ns2_input(text, (), 1).splitlines() if line.startswith("loss")] == ["loss 0 0.015", "loss 1 0.015"]
+    with pytest.raises(AssertionError, match="losses at random or rounds"):
+        ns2_input(from_words("chain --size 3 --rounds 2 --drop-link 1 --loss 0.015"), (), 1)
+    with pytest.raises(AssertionError, match="one loss of a link"):
+        ns2_input(read_scenario(text).lose(rate=0.1, link=1, stream=2).text(), (), 1)
+
+
+def test_share_that_a_tree_loses_is_that_of_its_ways():
+    # node 0 has 4 children, these 3 each, and the last 3 nodes are further away: h links lose 1 - 0.9^h
+    shares = [1 - 0.9 ** hops for hops in (1,) * 4 + (2,) * 12 + (3,) * 3]
+    assert share_of(session(0.1), 0.1) == pytest.approx(sum(shares) / 19)
 
 
 def test_times_are_whole_where_they_can_be():

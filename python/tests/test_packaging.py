@@ -71,9 +71,9 @@ def test_man_page_of_scenarios_names_each_option(kind):
 
 def test_man_page_of_the_format_names_each_key():
     text = (ROOT / "docs/FORMATS.md").read_text()
-    tables = text[text.index("The keys of the top table"):text.index("Nodes, members, links, draws,")]
+    tables = text[text.index("The keys of the top table"):text.index("Nodes, members, links and all other elements")]
     keys = {key for cells in KEYS.findall(tables) for key in re.findall(r"`(\w+)`", cells)}
-    assert {"version", "c1_most", "topology", "stream", "outage", "every"} <= keys
+    assert {"version", "c1_most", "topology", "stream", "outage", "rate", "every"} <= keys
     assert sorted(keys - set(re.findall(r"\w+", read("srm_lab.5")))) == []
 
 

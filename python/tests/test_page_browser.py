@@ -15,6 +15,7 @@ import pytest
 from matplotlib import pyplot
 
 from srm_lab import scenario as scenarios
+from srm_lab.loss_words import loss_word
 from srm_lab.page.command import main
 from srm_lab.page.html import library
 
@@ -115,6 +116,22 @@ def test_a_network_that_only_version_3_has_room_for(browser, make_page, srm_lab,
     text = browser.execute_script("return document.body.textContent")
     assert "A tree of listed parents with 5,000 nodes and 50 members" in text
     assert errors(browser) == [] and requests(browser) == []
+
+
+def test_losses_at_random_are_those_of_the_seed(browser, make_page, srm_lab, tmp_path):
+    seed, stream, counts = 2**63 - 1, 2**63 - 2, [0, 7, 2**40]
+    made = scenarios.chain(4, delay=10).drawing(30, every=50).lose(rate=0.1, stream=stream).lose(rate=0.2, link=1, first=500)
+    path = made.write(tmp_path / "lossy.toml")
+    show(browser, make_page(path, "--seed", str(seed)))
+    words = browser.execute_script("return srmPage.model.network.losses.of(1).map("
+                                   f"(loss) => {counts}.map((count) => loss.word({{ sender: 3, count }})))")
+    assert words == [[loss_word(seed, one, 1, 3, count) for count in counts] for one in (stream, 0)]
+    for table in ("losses", "links"):
+        must = srm_lab(path.read_text(), "--show", table, "--seed", str(seed))
+        assert browser.execute_script(f"return srmPage.model.csv('{table}')") == must
+    browser.execute_script("srmPage.pick({ kind: 'link', link: 1 })")
+    assert "loses at random10 %, 20 %, from 500" in browser.execute_script("return document.body.textContent")
+    assert errors(browser) == []
 
 
 def shown_cells(browser, table):

@@ -105,8 +105,8 @@ def taken(nodes, seed):
     return {member.node for member in scenario.chain(nodes, members=3, delay=10, seed=seed).members}
 
 
-def test_losses_at_random_are_those_of_a_rate_and_a_seed():
-    given = scenario.chain(11, seed=3).drawing(400)
+def test_listed_losses_at_random_are_those_of_a_rate_and_a_seed():
+    given = replace(scenario.chain(11, seed=3).drawing(400), version=3)
     drops = given.lose(rate=0.1).drops
     # 10 links and 400 packets: 400 drops expected, with a standard deviation of 19
     assert 300 < len(drops) < 500 and len(set(drops)) == len(drops)
@@ -148,6 +148,7 @@ def test_losses_of_one_of_several_senders():
     given = scenario.chain(6, seed=3).role([4], "sender").drawing(50).drawing(30, member=4)
     assert given.lose(every=10, link="adjacent", sender=4).drops in (
         tuple(Drop(link, 4, count) for count in (0, 10, 20)) for link in (3, 4))
+    given = replace(given, version=2)
     assert {drop.sender for drop in given.lose(rate=0.2).drops} == {0, 4}
     of_one = given.lose(rate=0.2, sender=4).drops
     assert {drop.sender for drop in of_one} == {4} and set(of_one) <= set(given.lose(rate=0.2).drops)
@@ -183,7 +184,17 @@ def test_one_seed_gives_one_scenario_and_verbs_choose_apart():
     (lambda: scenario.chain(3).lose(every=2), "every needs a link"),
     (lambda: scenario.chain(3).lose(rate=0.5, sender=3), "sender is 3, and has to be 0 to 2"),
     (lambda: scenario.chain(3).lose(rate=1.5), "rate is 1.5, and has to be from 0 to 1"),
-    (lambda: scenario.chain(900).lose(rate=1), "`drop` has 89900 elements, and may have 65535"),
+    (lambda: scenario.chain(900).lose(rate=1, packets=100), "`drop` has 89900 elements, and may have 65535"),
+    (lambda: scenario.chain(3).lose(rate=1e-7), "rate is 1e-07, which has more than six decimals"),
+    (lambda: scenario.chain(3).lose(rate=float("nan")), "rate is nan, and has to be from 0 to 1"),
+    (lambda: scenario.chain(3).lose(rate=True), "rate is True, and has to be from 0 to 1"),
+    (lambda: scenario.chain(3).lose(rate=0.5, link=2), "there is no link 2: the network has 2"),
+    (lambda: scenario.chain(3).lose(rate=0.5, stream=-1), "stream is -1, and has to be 0 to 9223372036854775807"),
+    (lambda: scenario.chain(3).lose(rate=0.5, first="5"), "first is '5', and has to be a whole number"),
+    (lambda: scenario.chain(3).lose(rate=0.5, first=9, last=8), "loss 0: `from` is 9, and has to be below `to`, 9"),
+    (lambda: scenario.chain(3).lose(rate=0.5, stream=1, sender=0), "losses at random, which know no sender"),
+    (lambda: scenario.chain(3).lose(every=2, link=0, first=5), "stream, first and last go with a rate"),
+    (lambda: replace(scenario.chain(3).lose(rate=0.5), version=3).check(), "`loss` is no key here before version 4"),
     (lambda: scenario.chain(3).constants(c3=1), "c3: the constants are c1, c2, d1 and d2"),
     (lambda: scenario.chain(3).constants(c1_lesat=1), "c1_lesat: the constants are c1, c2, d1 and d2 (did you mean 'c1_least'?)"),
     (lambda: scenario.chain(3).role([1], "recevier"), "has to be sender, receiver, late, listener (did you mean 'receiver'?)"),

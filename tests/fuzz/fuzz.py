@@ -5,7 +5,7 @@ usage: tests/fuzz/fuzz.py [--seconds N | --cases N] [--from SEED] [--case SEED] 
 
 Each case is made from its number, its seed: a scenario of the format's grammar, one that is spoiled in one place, an example or
 a scenario with bytes or numbers changed, or a command line that must be refused. The scenarios are of the versions of the
-format that --versions lists, as 1,2,3, and any other version must be refused; without it, of those that the program reads. Of
+format that --versions lists, as 1,2,3,4, and any other version must be refused; without it, of those that the program reads. Of
 each case this is asserted:
 
 - Each row of the trace is of an event that was pending, and is what the model's tables say; nothing is passed over, and nothing
@@ -58,7 +58,7 @@ MOST_FAILURES = 10
 FEW = 100
 REFUSAL = re.compile(
     rb"refused: (not-toml|too-long|not-tree|bad-key top 0"
-    rb"|bad-(key )?(member|draw|session|drop|outage) (0|[1-9][0-9]*)|bad-key link (0|[1-9][0-9]*))\n"
+    rb"|bad-(key )?(member|draw|session|drop|outage|loss) (0|[1-9][0-9]*)|bad-key link (0|[1-9][0-9]*))\n"
 )
 NO_MEMORY = refused("no-memory")
 
@@ -122,7 +122,7 @@ def ends(tables: list[str], case: Case, first: End) -> dict[str, End]:
     """How a run for each table must end, as far as it is known, from the end of a first one, which wrote the trace."""
     if first.status != 0 or isinstance(case.must, str):
         return {"trace": first} if first.status == 0 else dict.fromkeys(tables, first)
-    texts = expected(Scenario(case.must), case.seed, first.written)
+    texts = expected(Scenario(case.must, case.seed), case.seed, first.written)
     return {table: End(0, texts[table], b"") for table in tables}
 
 
@@ -244,9 +244,9 @@ def seeds(options: argparse.Namespace) -> Iterator[int]:
 
 
 def versions_of(word: str) -> tuple[int, ...]:
-    """The versions that an argument lists, as 1,2,3."""
+    """The versions that an argument lists, as 1,2,3,4."""
     versions = tuple(sorted(int(it) for it in word.split(",")))
-    if not set(versions) <= {1, 2, 3}:
+    if not set(versions) <= set(VERSIONS):
         raise ValueError(word)
     return versions
 

@@ -21,20 +21,26 @@ ROLES = ("sender", "receiver", "late", "listener")
 TOPOLOGIES = ("chain", "star", "tree")
 CONSTANTS = ("c1", "c2", "d1", "d2")
 NEEDED = {"version", "until", *CONSTANTS}
-PARTS = ("link", "member", "draw", "session", "drop", "outage")
+PARTS = ("link", "member", "draw", "session", "drop", "outage", "loss")
 PAGES = 256
 PAGE = (0, 65535)
 GREATEST_CONSTANT = 1024000
-# the limits of constants, each with its constant, and the factor of backoff: version 3
+# the limits of constants, each with its constant, and the factor of backoff: from version 3 on
 LEASTS = {f"{name}_least": name for name in CONSTANTS}
 MOSTS = {f"{name}_most": name for name in CONSTANTS}
 BACKOFF = {"backoff": (2, 3)}
-# how often an element stands there, and how far apart: version 3
+# how often an element stands there, and how far apart: from version 3 on
 REPEATS = {"times": (1, 65535), "every": (0, LATEST)}
 # the keys of an element that rise by `every` from copy to copy
-STEPPED = {"member": ("node",), "draw": ("at",), "session": ("at",), "drop": ("count",), "outage": ("from", "to")}
+STEPPED = {
+    "member": ("node",), "draw": ("at",), "session": ("at",), "drop": ("count",), "outage": ("from", "to"), "loss": ("link",),
+}
+# what elements may lack, besides REPEATS
+OPTIONAL = {"member": {"join", "leave", "pages"}, "loss": {"stream", "from", "to"}}
+# a rate is in millionths
+WHOLE_RATE = 1000000
 # the versions that the program reads
-VERSIONS = (1, 2, 3)
+VERSIONS = (1, 2, 3, 4)
 
 
 def numbers_with(nodes: int) -> dict[str, dict[str, Limits]]:
@@ -43,7 +49,7 @@ def numbers_with(nodes: int) -> dict[str, dict[str, Limits]]:
     delay = (1, LONGEST_DELAY)
     return {
         "top": {
-            "version": (1, 3), "until": (1, LATEST),
+            "version": (1, 4), "until": (1, LATEST),
             "c1": (0, 64000), "c2": (0, 64000), "d1": (0, 64000), "d2": (0, 64000),
             "nodes": (1, nodes), "size": (1, nodes), "delay": delay, "back": delay, "degree": (2, nodes - 1),
         },
@@ -60,9 +66,16 @@ def numbers_of_version_3(nodes: int) -> dict[str, dict[str, Limits]]:
     """The same of version 3. Limits of constants have to be within what the constants ask of them, too."""
     numbers = numbers_with(nodes)
     numbers["top"].update({name: (0, GREATEST_CONSTANT) for name in (*CONSTANTS, *LEASTS, *MOSTS)}, **BACKOFF)
-    for part in STEPPED:
+    for part in numbers.keys() & STEPPED.keys():
         numbers[part].update(REPEATS)
     return numbers
+
+
+def numbers_of_version_4(nodes: int) -> dict[str, dict[str, Limits]]:
+    """The same of version 4, which has losses at random."""
+    ticks = {"from": (0, LATEST), "to": (1, LATEST)}
+    loss = {"link": (0, nodes - 1), "rate": (1, WHOLE_RATE), "stream": (0, 2**63 - 1), **ticks, **REPEATS}
+    return {**numbers_of_version_3(nodes), "loss": loss}
 
 
 def lengths_with(nodes: int, elements: int) -> dict[str, int]:
@@ -71,11 +84,12 @@ def lengths_with(nodes: int, elements: int) -> dict[str, int]:
 
 
 # by the version of the format, of which the first has no outages
-NUMBERS = {1: numbers_with(256), 2: numbers_with(1024), 3: numbers_of_version_3(65535)}
+NUMBERS = {1: numbers_with(256), 2: numbers_with(1024), 3: numbers_of_version_3(65535), 4: numbers_of_version_4(65535)}
 LENGTHS = {
     1: lengths_with(256, 4096),
     2: {**lengths_with(1024, 4096), "outage": 4096},
     3: {**lengths_with(65535, 65535), "outage": 65535},
+    4: {**lengths_with(65535, 65535), "outage": 65535, "loss": 65535},
 }
 
 
@@ -97,12 +111,12 @@ def top_keys(top: Table) -> tuple[set[str], set[str]]:
     """The keys that must stand in the top table, and those that may."""
     version = version_of(top)
     arrays = set(LENGTHS[version])
-    adaptive = {*LEASTS, *MOSTS, *BACKOFF} if version == 3 else set()
+    adaptive = {*LEASTS, *MOSTS, *BACKOFF} if version >= 3 else set()
     if "topology" not in top:
         needed = NEEDED | {"nodes"}
         return needed, needed | arrays | adaptive
     arrays -= {"link"}
-    if version == 3 and top["topology"] == "parents":
+    if version >= 3 and top["topology"] == "parents":
         needed = NEEDED | {"topology", "parent", "delays" if "delays" in top else "delay"}
         return needed, needed | arrays | adaptive | {"backs" if "backs" in top else "back"}
     needed = NEEDED | {"topology", "size", "delay"} | ({"degree"} if top["topology"] == "tree" else set())
@@ -123,7 +137,7 @@ def top_is_right(top: Table) -> bool:
 def top_value_is_right(top: Table, key: str, value: object) -> bool:
     version = version_of(top)
     if key == "topology":
-        return value in TOPOLOGIES or version == 3 and value == "parents"
+        return value in TOPOLOGIES or version >= 3 and value == "parents"
     if key in PARTS:
         return isinstance(value, list) and count(version, key, value) <= LENGTHS[version][key]
     if key == "parent":
@@ -148,7 +162,7 @@ def element_is_right(version: int, part: str, element: object) -> bool:
     if not isinstance(element, dict):
         return False
     allowed = set(NUMBERS[version][part]) - {"back"} | ({"role", "pages"} if part == "member" else set())
-    needed = allowed - {"join", "leave", "pages", *REPEATS}
+    needed = allowed - OPTIONAL.get(part, set()) - set(REPEATS)
     allowed |= back_key(version) if part == "link" else set()
     if not needed <= set(element) <= allowed:
         return False
@@ -195,6 +209,11 @@ def act_fits(top: Table, act: Table, roles: tuple[str, ...]) -> bool:
     return member.get("join", 0) <= act["at"] <= member.get("leave", LATEST) and act["at"] < top["until"]
 
 
+def loss_fits(loss: Table, links: int) -> bool:
+    """Whether a loss is of one of so many links, and begins before it ends."""
+    return loss["link"] < links and ("to" not in loss or loss.get("from", 0) < loss["to"])
+
+
 def first_wrong(elements: Iterable[Any], is_right: Callable[[Any], bool]) -> int | None:
     """The lowest place of an element that is not right, or None."""
     return next((place for place, it in enumerate(elements) if not is_right(it)), None)
@@ -220,6 +239,7 @@ def refusal_of(top: Table, versions: tuple[int, ...] = VERSIONS) -> str | None:
         "session": first_wrong(top.get("session", []), lambda it: act_fits(top, it, ROLES[:3])),
         "drop": first_wrong(top.get("drop", []), lambda it: it["link"] < len(links) and it["sender"] < len(members)),
         "outage": first_wrong(top.get("outage", []), lambda it: it["link"] < len(links) and it["from"] < it["to"]),
+        "loss": first_wrong(top.get("loss", []), lambda it: loss_fits(it, len(links))),
     }
     return next((f"bad-{part} {place}" for part, place in wrong.items() if place is not None), None)
 
@@ -250,7 +270,7 @@ def last_copy(part: str, element: Table) -> Table:
 
 def count(version: int, part: str, elements: list[Any]) -> int:
     """How many elements an array makes. One that does not say rightly how many it stands for counts as one."""
-    if version != 3 or part not in STEPPED:
+    if version < 3 or part not in STEPPED:
         return len(elements)
     times = [it.get("times", 1) if isinstance(it, dict) else 1 for it in elements]
     return sum(it if is_number(it, REPEATS["times"]) else 1 for it in times)
@@ -363,10 +383,46 @@ class Fate(NamedTuple):
     dropped: set[int]
 
 
-class Scenario:
-    """An accepted scenario: its members, and the paths between them."""
+class Loss(NamedTuple):
+    """Which packets a loss of a link takes: of those that come to it in time, the ones whose words are below a bound."""
 
-    def __init__(self, top: Table) -> None:
+    stream: int
+    bound: int
+    first: int
+    end: int
+
+    def takes(self, word: int, time: int) -> bool:
+        """Whether it takes a packet of this word that comes at this time."""
+        return self.first <= time < self.end and word < self.bound
+
+
+def loss_of(given: Table) -> Loss:
+    """What an element of `loss` says, of which there is none that ends where it has no `to`."""
+    bound = given["rate"] * 2**32 // WHOLE_RATE
+    return Loss(given.get("stream", 0), bound, given.get("from", 0), given.get("to", LATEST + 1))
+
+
+WORD = 2**64 - 1
+
+
+def mixed(word: int) -> int:
+    """The output function of SplitMix64 (Steele, Lea and Flood 2014)."""
+    word = (word ^ word >> 30) * 0xbf58476d1ce4e5b9 & WORD
+    word = (word ^ word >> 27) * 0x94d049bb133111eb & WORD
+    return word ^ word >> 31
+
+
+def word_of(seed: int, stream: int, link: int, packet: tuple[int, int]) -> int:
+    """The word by which losses of a stream decide on a packet, a sender's by its count, at a link; it has 32 bits."""
+    sender, number = packet
+    of_stream = mixed(mixed(seed + 0x9e3779b97f4a7c15 & WORD) ^ stream)
+    return mixed(mixed(of_stream ^ link * 65536 + sender) ^ number) >> 32
+
+
+class Scenario:
+    """An accepted scenario, with the seed of its losses: its members, and the paths between them."""
+
+    def __init__(self, top: Table, seed: int = 0) -> None:
         self.top = repeated(top)
         self.until: int = top["until"]
         self.members: list[Table] = [{"join": 0, "leave": None, "pages": [], **it} for it in self.top.get("member", [])]
@@ -379,8 +435,12 @@ class Scenario:
         self.outages: dict[int, list[tuple[int, int]]] = collections.defaultdict(list)
         for outage in self.top.get("outage", []):
             self.outages[outage["link"]].append((outage["from"], outage["to"]))
+        self.seed = seed
+        self.losses: dict[int, list[Loss]] = collections.defaultdict(list)
+        for loss in self.top.get("loss", []):
+            self.losses[loss["link"]].append(loss_of(loss))
         self.known: dict[int, Ways] = {}
-        self.fates: dict[tuple[int, frozenset[int], int | None], Fate] = {}
+        self.fates: dict[tuple[int, frozenset[int], int | None, int | None], Fate] = {}
 
     def ways(self, member: int) -> Ways:
         """The ways from a member, on which each link takes its delay in the direction in which they take it."""
@@ -435,23 +495,30 @@ class Scenario:
     def fate(self, sender: int, number: int, sent: int) -> Fate:
         """What becomes of a packet sent at a time; the first link on a path that drops it is where it ends."""
         listed = frozenset(self.listed.get((sender, number), ()))
-        key = sender, listed, sent if self.outages else None
+        key = sender, listed, number if self.losses else None, sent if self.outages or self.losses else None
         if key not in self.fates:
-            self.fates[key] = self.follow(sender, listed, sent)
+            self.fates[key] = self.follow((sender, number), listed, sent)
         return self.fates[key]
 
     def is_out(self, link: int, time: int) -> bool:
         """Whether a link is out at a time: from the first tick of an outage up to below its last."""
         return any(first <= time < end for first, end in self.outages.get(link, ()))
 
-    def follow(self, sender: int, listed: frozenset[int], sent: int) -> Fate:
+    def is_lost(self, link: int, packet: tuple[int, int], time: int) -> bool:
+        """Whether a loss of a link takes a packet, a sender's by its count, that comes to it at a time."""
+        losses = self.losses.get(link, ())
+        return any(it.takes(word_of(self.seed, it.stream, link, packet), time) for it in losses)
+
+    def follow(self, packet: tuple[int, int], listed: frozenset[int], sent: int) -> Fate:
         """Follows a packet on the ways to all members, step by step, each as far as the packet comes."""
+        sender, _ = packet
         ways, fate = self.ways(sender), Fate(set(), set(), set())
         came = {self.members[sender]["node"]}
         for near, link, far in ways.to_members:
             if near not in came:
                 continue
-            if link in listed or self.is_out(link, sent + ways.there[near]):
+            time = sent + ways.there[near]
+            if link in listed or self.is_out(link, time) or self.is_lost(link, packet, time):
                 fate.dropped.add(link)
                 continue
             fate.crossed.add(link)

@@ -9,7 +9,7 @@ from typing import Any, NamedTuple
 
 from fuzz_format import (
     CONSTANTS, GREATEST_CONSTANT, LATEST, LENGTHS, LONGEST_TEXT, NUMBERS, PAGES, PARTS, REPEATS, ROLES, STEPPED, TOPOLOGIES,
-    VERSIONS, Scenario, Table, act_fits, copies, links_of, nodes_of, refusal_of, repeated, version_of,
+    VERSIONS, WHOLE_RATE, Scenario, Table, act_fits, copies, links_of, nodes_of, refusal_of, repeated, version_of,
 )
 
 MOST_ROWS = 20000
@@ -23,7 +23,7 @@ INKS = (0, 7, 255, 2**31, 2**32 - 1)
 UNKNOWN = "unknown"
 EDGES = (
     0, 1, 2, 3, 255, 256, 257, 1023, 1024, 1025, 4095, 4096, 64000, 65534, 65535, 65536, GREATEST_CONSTANT, 2**32 - 1, 2**32,
-    LATEST, LATEST + 1, 2**63 - 1, 2**63,
+    WHOLE_RATE, WHOLE_RATE + 1, LATEST, LATEST + 1, 2**63 - 1, 2**63,
 )
 COMMAND_LINES: tuple[list[Any], ...] = (
     ["--show", "colors"], ["--show"], ["--show", "Trace"], ["--show", ""], ["--seed"], ["--seed", "-1"], ["--seed", "1.0"],
@@ -63,9 +63,9 @@ def network(rng: Random, version: int) -> Table:
     """The keys of a network."""
     most = min(NUMBERS[version]["top"]["nodes"][1], MOST_NODES)
     nodes = small(rng, *sorted({2, 8, 24, 64, 256, most})) if rng.random() < 0.95 else 1
-    if version == 3 and rng.random() < 0.05:
+    if version >= 3 and rng.random() < 0.05:
         nodes = rng.randint(MANY_NODES, MOST_NODES)
-    shape = rng.choice([*TOPOLOGIES, "links", "links", *(["parents"] * 5 if version == 3 else [])])
+    shape = rng.choice([*TOPOLOGIES, "links", "links", *(["parents"] * 5 if version >= 3 else [])])
     delay = rng.choice([1, 1, rng.randint(2, 9), rng.randint(10, 1000), 1000000])
     if shape == "links":
         return explicit(rng, nodes, delay)
@@ -196,20 +196,20 @@ def scenario(rng: Random, versions: tuple[int, ...] = VERSIONS) -> Table:
     """The plain data of a scenario of one of these versions that is accepted."""
     usual = rng.choice([[0], [1000], [0, 500, 1000, 2000, 3000], [0, 500, 1000, 2000, 3000], [0, 64000, rng.randrange(64001)]])
     version = versions[::-1][int(rng.random() * len(versions))]
-    if version == 3:
+    if version >= 3:
         usual = rng.choice([[0], [1000], *[[500, 1000, 2000, 3000]] * 5, [0, 64000, rng.randrange(64001), GREATEST_CONSTANT]])
     constants = {it: rng.choice(usual) for it in CONSTANTS}
     top: Table = {"version": version, "until": 1, **constants}
-    if version == 3:
+    if version >= 3:
         adaptive(rng, top)
     top.update(network(rng, version))
     if version >= 2 and top.get("topology") != "parents" and rng.random() < 0.8:
         second_delays(rng, top)
     top["member"] = members(rng, top)
-    if version == 3:
+    if version >= 3:
         top["member"] = members_in_runs(rng, top)
     act(rng, top)
-    for part in STEPPED if version == 3 else ():
+    for part in (part for part in STEPPED if version >= 3 and part in top):
         top[part] = folded(rng, part, top[part])
     for part in PARTS:
         if part in top and not top[part] and rng.random() < 0.5:
@@ -222,16 +222,17 @@ def act(rng: Random, top: Table) -> None:
     version, network_of = top["version"], Scenario(top)
     far = max((network_of.distance(0, it) for it in range(len(top["member"]))), default=0)
     most = MOST_ROWS // max(1, len(top["member"]))
-    if version == 3 and has_slow_requests(top) and rng.random() < 0.5:
+    if version >= 3 and has_slow_requests(top) and rng.random() < 0.5:
         rounds(rng, top, network_of, far)
         return
     # timers that adapt do so from the second loss on
-    draws = (5, 20, 40, FEW, 600, 4096) if version == 3 else (1, 6, 20, FEW, 600, 4096)
+    draws = (5, 20, 40, FEW, 600, 4096) if version >= 3 else (1, 6, 20, FEW, 600, 4096)
     drawn, told = (min(most, small(rng, *limits)) for limits in (draws, (0, 3, 8, 40, 4096)))
-    dropped = small(rng, *((4, 12, 30, 80, 4096) if version == 3 else (1, 6, 20, 80, 4096))) if rng.random() < 0.85 else 0
+    dropped = small(rng, *((4, 12, 30, 80, 4096) if version >= 3 else (1, 6, 20, 80, 4096))) if rng.random() < 0.85 else 0
     hour = 1 + far * rng.choice([0, 1, 3, 10, 40]) + rng.choice([0, 5, 50])
     wish = min(LATEST, hour + rng.choice([0, far, 5 * far, 20 * far, 20 * far, 100 * far, LATEST - hour]))
-    top["until"] = bounded_until(top, drawn if drawn <= FEW else min(drawn, dropped), wish)
+    is_lossy = version >= 4 and rng.random() < 0.8
+    top["until"] = bounded_until(top, drawn if drawn <= FEW or is_lossy else min(drawn, dropped), wish)
     for member in top["member"] if drawn <= FEW else []:
         stay(rng, member, min(hour, top["until"]), top["until"])
     top["draw"] = [
@@ -242,7 +243,7 @@ def act(rng: Random, top: Table) -> None:
     if drawn <= FEW:
         meet_packets(rng, top, heard)
     top["session"] = [{"member": it, "at": at} for it, at in acts(rng, top, ROLES[:3], hour, told, heard)]
-    if version == 3:
+    if version >= 3:
         lengths = LENGTHS[version]
         top["draw"] = in_runs(rng, "draw", top["draw"], lambda it: act_fits(top, it, ROLES[:1]), min(most, lengths["draw"]))
         sessions = min(most, lengths["session"])
@@ -250,9 +251,12 @@ def act(rng: Random, top: Table) -> None:
     top["drop"] = drops(rng, top, network_of, dropped)
     if version >= 2:
         top["outage"] = outages(rng, top, network_of, small(rng, 1, 3, 9, 60) if drawn <= FEW and rng.random() < 0.7 else 0)
-    if version == 3:
+    if version >= 3:
         top["drop"] = in_runs(rng, "drop", top["drop"], lambda it: it["count"] < 2**32, 4096)
         top["outage"] = in_runs(rng, "outage", top["outage"], lambda it: it["to"] <= LATEST, FEW)
+    if version >= 4:
+        found = losses(rng, top, network_of, small(rng, 1, 3, 9, 60)) if is_lossy else []
+        top["loss"] = in_runs(rng, "loss", found, lambda it: it["link"] < len(network_of.links), FEW)
 
 
 def has_slow_requests(top: Table) -> bool:
@@ -277,6 +281,8 @@ def rounds(rng: Random, top: Table, network_of: Scenario, far: int) -> None:
     top["draw"] = [{"member": sender, "page": 0, "ink": rng.choice(INKS[:2]), "at": at} for at in ats if at < top["until"]]
     out = [{"link": path[place], "from": at + times[place], "to": at + times[place] + 1} for at in starts if path]
     top.update(session=[], drop=[], outage=[it for it in out if it["to"] <= LATEST])
+    if top["version"] >= 4:
+        top["loss"] = losses(rng, top, network_of, rng.choice([0, 1, 3])) if number > 3 else []
 
 
 def bounded_until(top: Table, losses: int, until: int) -> int:
@@ -375,6 +381,30 @@ def outages(rng: Random, top: Table, network_of: Scenario, most: int) -> list[Ta
     return [it for it in found if it["to"] <= LATEST]
 
 
+def losses(rng: Random, top: Table, network_of: Scenario, most: int) -> list[Table]:
+    """Links that lose packets at random: for ever, or from or to a tick about which something comes to them; some overlap."""
+    found: list[Table] = []
+    sent = top["draw"] + top["session"]
+    for _ in range(most if sent else 0):
+        act, hearer = rng.choice(sent), rng.randrange(len(top["member"]))
+        path, times = network_of.path(act["member"], hearer), network_of.times(act["member"], hearer, act["at"])
+        if not path:
+            continue
+        place = rng.randrange(len(path))
+        link = rng.choice([path[place]] * 3 + [it["link"] for it in found])
+        rate = rng.choice([1, 10000, 100000, 300000, 500000, 500000, rng.randint(1, WHOLE_RATE), WHOLE_RATE - 1, WHOLE_RATE])
+        loss = {"link": link, "rate": rate}
+        if rng.random() < 0.6:
+            loss["stream"] = rng.choice([0, 1, 1, 2, rng.randrange(2**63), 2**63 - 1])
+        first, end = (min(LATEST, max(0, times[place] + rng.choice([-9, -1, 0, 0, 1, 99]))) for _ in range(2))
+        if rng.random() < 0.3:
+            loss["from"] = min(first, LATEST - 1)
+        if rng.random() < 0.3:
+            loss["to"] = max(end, loss.get("from", 0) + 1)
+        found.append(loss)
+    return found
+
+
 # ---- as text -------------------------------------------------------------------
 
 
@@ -440,7 +470,7 @@ def drop_key(rng: Random, top: Table, part: str, table: Table) -> None:
 
 def add_key(rng: Random, top: Table, part: str, table: Table) -> None:
     keys = {"nodes", "link", "topology", "size", "delay", "degree"}
-    keys |= {"pages", "join", "leave", "color", "back", "outage", "a", "at"}
+    keys |= {"pages", "join", "leave", "color", "back", "outage", "loss", "rate", "from", "to", "a", "at"}
     keys |= {"parent", "delays", "backs", "c1_least", "d2_most", "backoff", *REPEATS}
     key = rng.choice(sorted(keys - set(table)) or ["color"])
     table[key] = rng.choice([0, 1, 2, [], "chain", "tree", "parents"])
@@ -476,7 +506,7 @@ def odd_element(rng: Random, top: Table, part: str, table: Table) -> None:
 
 
 def another_number(rng: Random, top: Table, part: str, table: Table) -> None:
-    keys = [key for key in table if key in NUMBERS[3][part] and type(table[key]) is int]
+    keys = [key for key in table if key in NUMBERS[4][part] and type(table[key]) is int]
     if keys:
         key = rng.choice(keys)
         table[key] = max(0, table[key] + rng.choice([-1, 1, 2, rng.randint(-9, 9)]))
@@ -529,7 +559,8 @@ def has_long_number(value: Any) -> bool:
 def is_short(top: Table) -> bool:
     """Whether a run of an accepted scenario has not too many rows for a check in Python."""
     drawn, told, dropped, members = (len(top.get(part, [])) for part in ("draw", "session", "drop", "member"))
-    is_steady = not top.get("outage") and not any(member.get("join") or "leave" in member for member in top.get("member", []))
+    comes_and_goes = any(member.get("join") or "leave" in member for member in top.get("member", []))
+    is_steady = not top.get("outage") and not top.get("loss") and not comes_and_goes
     losses = min(drawn, dropped) if is_steady else drawn
     return rows_at_most(top, losses, top["until"]) + members * (drawn + told) <= 4 * MOST_ROWS
 

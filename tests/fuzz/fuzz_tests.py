@@ -5,6 +5,7 @@ import random
 import re
 import sys
 import unittest
+from typing import Any
 
 sys.dont_write_bytecode = True
 TOP = pathlib.Path(__file__).resolve().parent.parent.parent
@@ -20,7 +21,7 @@ import fuzz_worked
 from fuzz_format import Link, Table
 from program import End
 
-ALL_VERSIONS = (1, 2, 3)
+ALL_VERSIONS = (1, 2, 3, 4)
 
 # what examples/chain-of-five-one-loss.toml says
 CHAIN_OF_FIVE: Table = {
@@ -152,7 +153,8 @@ class Refusals(unittest.TestCase):
             (None, top()),
             ("bad-key top 0", top(until=fuzz_format.LATEST + 1)),
             ("bad-key top 0", top(until=1.0)),
-            ("bad-key top 0", top(version=4)),
+            (None, top(version=4)),
+            ("bad-key top 0", top(version=5)),
             (None, top(version=2)),
             ("bad-key top 0", top(back=1)),
             (None, top(version=2, back=1)),
@@ -205,6 +207,9 @@ class Repetition(unittest.TestCase):
             ("outage", {"link": 1, "from": 10, "to": 12, "times": 2, "every": 100}, [
                 {"link": 1, "from": 10, "to": 12}, {"link": 1, "from": 110, "to": 112},
             ]),
+            ("loss", {"link": 1, "rate": 9, "from": 10, "times": 2, "every": 3}, [
+                {"link": 1, "rate": 9, "from": 10}, {"link": 4, "rate": 9, "from": 10},
+            ]),
             ("member", {"node": 3, "role": "late", "stream": 20, "pages": [1], "join": 4, "times": 2, "every": 5}, [
                 {"node": 3, "role": "late", "stream": 20, "pages": [1], "join": 4},
                 {"node": 8, "role": "late", "stream": 21, "pages": [1], "join": 4},
@@ -216,7 +221,7 @@ class Repetition(unittest.TestCase):
             self.assertEqual(fuzz_format.repeated({part: [before, element]}), {part: [before, *made]})
 
     def test_each_made_scenario_is_accepted_in_its_version(self) -> None:
-        for versions in ((1, 2), (3,), ALL_VERSIONS):
+        for versions in ((1, 2), (3,), (4,), ALL_VERSIONS):
             for seed in range(30):
                 made = fuzz_scenarios.scenario(random.Random(seed), versions)
                 self.assertIn(made["version"], versions)
@@ -253,7 +258,8 @@ class RefusalsOfVersion3(unittest.TestCase):
             ("bad-key top 0", top(version=3, backoff=4)),
             ("bad-key top 0", top(version=2, backoff=2)),
             ("bad-key top 0", top(version=2, c1_least=1000)),
-            ("bad-key top 0", top(version=4)),
+            (None, top(version=4)),
+            ("bad-key top 0", top(version=5)),
         ])
 
     def test_parents(self) -> None:
@@ -327,6 +333,78 @@ class RefusalsOfVersion3(unittest.TestCase):
             ("bad-drop 0", top(version=3, drop=[{"link": 65534, "sender": 0, "count": 0}])),
             ("bad-key drop 0", top(version=3, drop=[{"link": 65535, "sender": 0, "count": 0}])),
         ])
+
+
+class RefusalsOfVersion4(unittest.TestCase):
+    def test_losses(self) -> None:
+        loss = {"link": 3, "rate": 1}
+        rows: list[tuple[str | None, list[Any]]] = [
+            (None, []),
+            (None, [loss]),
+            (None, [{**loss, "rate": 1000000, "stream": 2**63 - 1, "from": 0, "to": 1}]),
+            (None, [{**loss, "from": 2**40}]),
+            (None, [{**loss, "times": 65535, "every": 0}]),
+            ("bad-key top 0", [{**loss, "times": 65535, "every": 0}, loss]),
+            ("bad-key loss 0", [{**loss, "rate": 0}]),
+            ("bad-key loss 0", [{**loss, "rate": 1000001}]),
+            ("bad-key loss 0", [{**loss, "rate": 0.5}]),
+            ("bad-key loss 0", [{**loss, "stream": 2**63}]),
+            ("bad-key loss 0", [{**loss, "from": 2**40 + 1}]),
+            ("bad-key loss 0", [{**loss, "to": 0}]),
+            ("bad-key loss 0", [{**loss, "sender": 0}]),
+            ("bad-key loss 0", [{"link": 0}]),
+            ("bad-key loss 0", [{"rate": 1}]),
+            ("bad-key loss 1", [loss, 7]),
+            ("bad-key loss 0", [{**loss, "times": 2, "every": 65534}]),
+            ("bad-loss 1", [loss, {**loss, "link": 4}]),
+            ("bad-loss 1", [{**loss, "times": 2}]),
+            ("bad-loss 0", [{**loss, "from": 5, "to": 5}]),
+        ]
+        for must, losses in rows:
+            self.assertEqual(fuzz_format.refusal_of(top(version=4, loss=losses), ALL_VERSIONS), must, losses)
+            self.assertEqual(fuzz_format.refusal_of(top(version=3, loss=losses), ALL_VERSIONS), "bad-key top 0")
+
+    def test_losses_are_looked_at_last(self) -> None:
+        outage = {"link": 4, "from": 0, "to": 1}
+        both = top(version=4, outage=[outage], loss=[{"link": 4, "rate": 1}])
+        self.assertEqual(fuzz_format.refusal_of(both, ALL_VERSIONS), "bad-outage 0")
+
+
+class Losses(unittest.TestCase):
+    def test_words_are_made_by_the_published_function(self) -> None:
+        # the first two numbers of SplitMix64 with seed 1234567
+        golden = 0x9e3779b97f4a7c15
+        found = [fuzz_format.mixed(1234567 + step * golden & 2**64 - 1) for step in (1, 2)]
+        self.assertEqual(found, [6457827717110365317, 3203168211198807973])
+
+    def test_a_loss_takes_the_words_below_its_rate_while_it_is_on(self) -> None:
+        half = fuzz_format.loss_of({"link": 0, "rate": 500000, "from": 5, "to": 8})
+        taken = [half.takes(word, time) for word, time in ((2**31 - 1, 5), (2**31, 5), (0, 4), (0, 7), (0, 8))]
+        self.assertEqual(taken, [True, False, False, True, False])
+        whole = fuzz_format.loss_of({"link": 0, "rate": 1000000})
+        self.assertTrue(whole.takes(2**32 - 1, 2**40))
+        least = fuzz_format.loss_of({"link": 0, "rate": 1})
+        self.assertEqual([least.takes(word, 0) for word in (4293, 4294)], [True, False])
+
+    def test_the_share_that_is_lost_is_the_rate(self) -> None:
+        for rate in (10_000, 300_000, 999_000):
+            bound, packets = rate * 2**32 // 1000000, 100_000
+            lost = sum(fuzz_format.word_of(7, 0, 3, (5, number)) < bound for number in range(packets))
+            share = rate / 1000000
+            self.assertLess(abs(lost - packets * share), 4 * (packets * share * (1 - share)) ** 0.5)
+
+    def test_a_packet_is_followed_up_to_the_loss_that_takes_it(self) -> None:
+        # member 0 sends at 50: its packet comes to link 1 at 50, to links 0 and 2 at 60 and to link 3 at 63
+        rows: list[tuple[list[Table], set[int], set[int], set[int]]] = [
+            ([{"link": 0, "rate": 1000000}], {1}, {1, 2}, {0}),
+            ([{"link": 0, "rate": 1000000, "from": 61}], {1, 2}, {0, 1, 2, 3}, set()),
+            ([{"link": 0, "rate": 1000000, "to": 60}], {1, 2}, {0, 1, 2, 3}, set()),
+            ([{"link": 3, "rate": 1000000, "from": 63, "to": 64}], {1}, {0, 1, 2}, {3}),
+            ([{"link": 0, "rate": 1000000, "times": 2}], set(), set(), {1}),
+        ]
+        for losses, reached, crossed, dropped in rows:
+            network = fuzz_format.Scenario({**PARENTS, "version": 4, "loss": losses})
+            self.assertEqual(network.fate(0, 9, 50), (reached, crossed, dropped), losses)
 
 
 class AdaptiveTimers(unittest.TestCase):

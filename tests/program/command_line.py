@@ -178,7 +178,7 @@ class Seeds(CommandLineCase):
         """Holds the trace of a run whose timers are drawn to the model, with this seed."""
         (status, trace, told), _ = self.ended(words, DRAWN)
         self.assertEqual((status, told), (0, b""))
-        fuzz.expected(fuzz_format.Scenario(tomllib.loads(DRAWN.decode())), seed, trace)
+        fuzz.expected(fuzz_format.Scenario(tomllib.loads(DRAWN.decode()), seed), seed, trace)
         return trace
 
     def test_each_way_to_write_a_seed(self) -> None:

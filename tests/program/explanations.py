@@ -32,6 +32,7 @@ GENERAL = (
     "a session message is by a member that is present and no listener",
     "a drop is of a link and a member that there are",
     "an outage is of a link that there is, and ends after it begins",
+    "a loss is of a link that there is, and ends after it begins",
 )
 PLACE = re.compile(r"  --> standard input, line (\d+), column (\d+)\n +(\d+) \| (.*)\n +\| ( *)(\^+)\n")
 

@@ -224,12 +224,13 @@ class ShortTextsOfMuch(HostileCase):
         "session": "member = 0, at = 0, every = 0",
         "drop": "link = 0, sender = 0, count = 0",
         "outage": "link = 0, from = 0, to = 1",
+        "loss": "link = 0, rate = 1, every = 0",
     }
 
     def checked(self, network: str) -> End:
-        """How the check of a scenario of version 3 ends, in 256 MB of memory."""
+        """How the check of a scenario of version 4 ends, in 256 MB of memory."""
         limit = functools.partial(resource.setrlimit, resource.RLIMIT_AS, (self.MEMORY, self.MEMORY))
-        text = f"version = 3\nuntil = 9\nc1 = 0\nc2 = 0\nd1 = 0\nd2 = 0\n{network}\n"
+        text = f"version = 4\nuntil = 9\nc1 = 0\nc2 = 0\nd1 = 0\nd2 = 0\n{network}\n"
         return self.program.run(["--check"], text.encode(), preexec_fn=limit)
 
     def with_parents(self, parents: Iterable[int]) -> str:

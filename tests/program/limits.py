@@ -3,12 +3,12 @@
 
 usage: tests/program/limits.py
 
-Each case has as much of one thing as a scenario of version 2 or 3 may have: nodes and members in a chain, a star, a tree and by
-parents, links, draws, session messages, drops, outages, pages of a late member, ticks, delays, distances, and bytes of its text.
-What has to be written is worked out here. Jobs have one member each, so that a window has as many as there are members, or as
-many members as they may have. Then a session of 5,000 members, which lose packets and adapt their timers, is run with each crew
-and several workers, cuts and widths, and has to give the sequential engine's bytes. Prints how many runs there were, and ends
-with status 1 where one differs.
+Each case has as much of one thing as a scenario of version 2, 3 or 4 may have: nodes and members in a chain, a star, a tree and
+by parents, links, draws, session messages, drops, outages, losses, pages of a late member, ticks, delays, distances, and bytes
+of its text. What has to be written is worked out here. Jobs have one member each, so that a window has as many as there are
+members, or as many members as they may have. Then a session of 5,000 members, which lose packets and adapt their timers, is run
+with each crew and several workers, cuts and widths, and has to give the sequential engine's bytes. Prints how many runs there
+were, and ends with status 1 where one differs.
 """
 import dataclasses
 import sys
@@ -62,6 +62,7 @@ class Version:
 
 SECOND = Version(2, nodes=1_024, elements=4_096)
 THIRD = Version(3, nodes=65_535, elements=65_535)
+FOURTH = dataclasses.replace(THIRD, number=4)
 
 
 @dataclasses.dataclass(frozen=True)
@@ -283,6 +284,18 @@ def cases_of_version_3() -> Iterator[Case]:
     yield Case("outages of version 3", far_apart(draws_on_pages(count), outages), "links", [f"0,0,0,0,0,{count}"])
 
 
+def cases_of_version_4() -> Iterator[Case]:
+    """As many losses as there may be, of one link: all but one take the first draw, of the greatest stream, one the others."""
+    count = FOURTH.elements
+    losses = array(
+        "loss",
+        f"link = 0, rate = 1000000, stream = {2**63 - 1}, to = 1, times = {count - 1}, every = 0",
+        "link = 0, rate = 1000000, from = 1",
+    )
+    text = scenario(FOURTH, LAST_TICK, topology("chain", 2, LONGEST_DELAY), members(range(2)), draws_on_pages(count), losses)
+    yield Case("losses", text, "links", [f"0,0,0,0,0,{count}"])
+
+
 def session_of_many() -> str:
     """A tree of 5,000 nodes with a member on each, of which few lose each of three packets, adapt their timers and ask."""
     adaptive = "c1 = 2000\nc1_least = 500\nc2 = 2000\nc2_most = 8000\nd1 = 1000\nd1_least = 500\nd2 = 1000\nd2_most = 8000"
@@ -319,7 +332,7 @@ def faults_of_many(program: Program) -> Iterator[str]:
 
 def main() -> None:
     program = Program(BUILT)
-    tried = [*cases_of_version_2(), *cases_of_version_3()]
+    tried = [*cases_of_version_2(), *cases_of_version_3(), *cases_of_version_4()]
     wrong = [fault for case in tried for fault in faults(program, case)]
     wrong += faults_of_many(program)
     for fault in wrong:

@@ -230,8 +230,7 @@ def common_options() -> argparse.ArgumentParser:
     add("--rounds", type=int, metavar="N", help="N losses on --drop-link that lie apart: the source draws twice in each "
         "round, and an outage of one tick loses the first of the two")
     add("--any-packet", action="store_true", help="the lost packets may be repairs of the source")
-    add("--loss", type=float, metavar="RATE", help="each link loses each of the source's first packets, as many as "
-        "draws, with this probability")
+    add("--loss", type=float, metavar="RATE", help="each link loses each packet that comes to it with this probability")
     add("--outage", action="append", default=[], metavar="LINK:FIRST-LAST", help="a link is out; repeatable")
     add("--join", action="append", default=[], metavar="N:FIRST-LAST", help="N receivers join in these ticks; "
         "repeatable")

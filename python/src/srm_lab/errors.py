@@ -6,7 +6,7 @@ from collections.abc import Iterable
 class ScenarioError(ValueError):
     """What was asked for is no scenario, no trace of it, or cannot be written; the message names the key and the rule.
 
-    `part` is the part of the format that is at fault (`top`, `link`, `member`, `draw`, `session`, `drop` or `outage`),
+    `part` is the part of the format that is at fault (`top`, `link`, `member`, `draw`, `session`, `drop`, `outage` or `loss`),
     `place` the element's place in it, `key` the key; each is None where the fault is of no such part.
     """
 

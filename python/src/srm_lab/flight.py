@@ -4,10 +4,10 @@ from .scenario import Scenario
 
 
 class Flight:
-    """A packet on the ways from its sender's node; every time is of its own direction of each link."""
+    """A packet on the ways from its sender's node, in the run of a seed; every time is of its own direction of each link."""
 
-    def __init__(self, packet: Packet, given: Scenario, node: int):
-        self.packet, self.given = packet, given
+    def __init__(self, packet: Packet, given: Scenario, node: int, seed: int = 0):
+        self.packet, self.given, self.seed = packet, given, seed
         self._parents = given.tree.parents(node)
         self._distances = given.tree.distances(node)
         self._hosts = {member.node for member in given.members}
@@ -40,10 +40,15 @@ class Flight:
         near = self._parents[node]
         while near is not None:
             before, link = near
-            if link in self._dropping or self.given.is_out(link, self.time_at(before)):
+            if self._takes(link, self.time_at(before)):
                 taken = self.time_at(before) + self.given.tree.links[link].delay_from(before) / 2
             near = self._parents[before]
         return taken
+
+    def _takes(self, link: int, at: int) -> bool:
+        """Whether a link takes it out at a tick."""
+        lost = self.given.is_lost(link, self.packet.sender, self.packet.count, at, self.seed)
+        return lost or link in self._dropping or self.given.is_out(link, at)
 
     def dropped(self, near: int, node: int) -> float | None:
         """When it is dropped between two nodes of one way; None where it comes through, or does not come that far.

@@ -1,6 +1,6 @@
 """The keys of a scenario file, with their types and ranges, as docs/FORMATS.md has them."""
 from collections.abc import Callable, Iterator
-from dataclasses import dataclass
+from dataclasses import dataclass, replace
 from functools import cache
 from typing import Any
 
@@ -10,7 +10,7 @@ from .parts import CONSTANTS, LIMITS, ROLES
 from .repetition import DEFAULTS, copy_of, times_of, total
 
 Check = Callable[[object], str | None]
-PARTS = ("link", "member", "draw", "session", "drop", "outage")
+PARTS = ("link", "member", "draw", "session", "drop", "outage", "loss")
 
 
 @dataclass(frozen=True)
@@ -82,6 +82,8 @@ def elements(limits: Limits) -> dict[str, dict[str, Key]]:
         "session": {"member": member, "at": at},
         "drop": {"link": link, "sender": member, "count": Key(number(0, limits.count))},
         "outage": {"link": link, "from": at, "to": Key(number(1, limits.time))},
+        "loss": {"link": link, "rate": Key(number(1, limits.rate)), "stream": Key(number(0, limits.stream), False),
+                 "from": replace(at, needed=False), "to": Key(number(1, limits.time), False)},
     }
     repetition = {"times": Key(number(1, limits.elements), False), "every": Key(number(0, limits.time), False)}
     return {"link": {"a": node, "b": node, "delay": Key(delay), **back},
@@ -110,7 +112,8 @@ def top(limits: Limits, table: dict[str, Any]) -> dict[str, Key]:
         keys |= {"nodes": Key(number(1, limits.nodes)), "link": Key(array(limits.nodes - 1), False)}
     count = total if limits.large else len
     keys["member"] = Key(array(limits.members, count=count), False)
-    for part in ("draw", "session", "drop", *(["outage"] if limits.outages else [])):
+    parts = ["draw", "session", "drop", *(["outage"] if limits.outages else []), *(["loss"] if limits.losses else [])]
+    for part in parts:
         keys[part] = Key(array(limits.elements, count=count), False)
     return keys
 
@@ -165,6 +168,8 @@ def _hint(key: str, table: dict[str, Any]) -> str:
         return " in version 1"
     if key == "backoff" or key in LIMITS or key in DEFAULTS:
         return " before version 3"
+    if key == "loss":
+        return " before version 4"
     return ""
 
 

@@ -1,5 +1,5 @@
 """The ranges of the scenario format (docs/FORMATS.md), one row for each of its versions."""
-from dataclasses import dataclass
+from dataclasses import dataclass, replace
 
 from .errors import ScenarioError
 
@@ -8,7 +8,8 @@ from .errors import ScenarioError
 class Limits:
     """What one version of the format has room for, and what it has: links with two delays, outages, adaptive timers.
 
-    `large` says whether it has networks by parents, and elements that stand for several.
+    `large` says whether it has networks by parents, and elements that stand for several, and `losses` whether links lose
+    packets at random.
     """
 
     nodes: int
@@ -17,6 +18,7 @@ class Limits:
     outages: bool
     adaptive: bool = False
     large: bool = False
+    losses: bool = False
     elements: int = 4096
     pages: int = 256
     page: int = 65_535
@@ -26,6 +28,7 @@ class Limits:
     ink: int = 2**32 - 1
     count: int = 2**32 - 1
     stream: int = 2**63 - 1
+    rate: int = 1_000_000
     bytes: int = 1_048_576
 
 
@@ -35,6 +38,7 @@ VERSIONS = {
     3: Limits(nodes=65_535, members=65_535, two_way=True, outages=True, adaptive=True, large=True, elements=65_535,
               constant=1_024_000),
 }
+VERSIONS[4] = replace(VERSIONS[3], losses=True)
 NEWEST = VERSIONS[max(VERSIONS)]
 MOST_NODES = NEWEST.nodes
 MOST_DELAY = NEWEST.delay

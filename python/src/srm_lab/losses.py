@@ -5,7 +5,7 @@ from typing import TYPE_CHECKING
 
 from .errors import ScenarioError
 from .limits import within
-from .parts import Drop
+from .parts import Drop, Outage, RandomLoss
 from .tree import Tree
 
 if TYPE_CHECKING:
@@ -89,14 +89,16 @@ def losers(tree: Tree, source: int, nodes: Iterable[int], link: int) -> list[int
 def first_lost(given: "Scenario", sender: int, draws: list[int]) -> dict[int, int]:
     """For each link that loses draws of a sender, made at these ticks, the place of the first of them.
 
+    Where losses are at random, it is the first that may be lost.
     The packets of a sender are its draws, as long as it sends nothing else.
     """
     way = given.tree.distances(given.members[sender].node)
     lost = [(drop.link, drop.count) for drop in given.drops if drop.sender == sender and drop.count < len(draws)]
-    for outage in given.outages:
-        link = given.tree.links[outage.link]
+    taking: tuple[Outage | RandomLoss, ...] = (*given.outages, *given.random_losses)
+    for one in taking:
+        link = given.tree.links[one.link]
         comes = min(way[link.a], way[link.b])
-        lost += [(outage.link, place) for place, at in enumerate(draws) if outage.is_on(at + comes)]
+        lost += [(one.link, place) for place, at in enumerate(draws) if one.is_on(at + comes)]
     return {link: place for link, place in sorted(lost, reverse=True)}
 
 

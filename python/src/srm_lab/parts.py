@@ -1,6 +1,9 @@
 """The elements of a scenario file: who takes part, what they do and when, and what is lost."""
 from dataclasses import dataclass
 
+from .limits import NEWEST
+from .loss_words import loss_word
+
 ROLES = ("sender", "receiver", "late", "listener")
 CONSTANTS = ("c1", "c2", "d1", "d2")
 # how far members adapt them
@@ -64,3 +67,26 @@ class Outage:
     def is_on(self, at: int) -> bool:
         """Whether the outage is on at a tick."""
         return self.first <= at < self.end
+
+
+@dataclass(frozen=True)
+class RandomLoss:
+    """A link loses `rate` millionths of the packets that come to it from tick `first` up to below `end`, or to the end.
+
+    Losses of one link and one stream take the same packets, as far as their rates are the same.
+    """
+
+    link: int
+    rate: int
+    stream: int = 0
+    first: int = 0
+    end: int | None = None
+
+    def is_on(self, at: int) -> bool:
+        """Whether the link loses packets at a tick."""
+        return self.first <= at and (self.end is None or at < self.end)
+
+    def takes(self, seed: int, sender: int, count: int, at: int) -> bool:
+        """Whether it takes a packet of a sender that comes to the link at a tick, in the run of a seed."""
+        word = loss_word(seed, self.stream, self.link, sender, count)
+        return self.is_on(at) and word < self.rate * 2**32 // NEWEST.rate

@@ -1,6 +1,6 @@
 """A picture of a run: an SVG with time across and the members down, in order of their way from the source.
 
-usage: python3 -m srm_lab.picture SCENARIO TRACE [--from TICK] [--to TICK] > PICTURE.svg
+usage: python3 -m srm_lab.picture SCENARIO TRACE [--seed N] [--from TICK] [--to TICK] > PICTURE.svg
 """
 import argparse
 import math
@@ -34,10 +34,10 @@ text { font: 13px sans-serif; fill: #222 }
 
 
 class Picture:
-    """The SVG of a history between two ticks."""
+    """The SVG of a history between two ticks, in the run of a seed."""
 
-    def __init__(self, history: History, begin: int, end: int):
-        self.history, self.given = history, history.given
+    def __init__(self, history: History, begin: int, end: int, seed: int = 0):
+        self.history, self.given, self.seed = history, history.given, seed
         self.begin, self.end = begin, max(end, begin + 1)
         self.order = self._order()
         self.row = {member: place for place, member in enumerate(self.order)}
@@ -161,7 +161,7 @@ class Picture:
     def _packet(self, packet: Packet) -> None:
         """Lines from member to member along the packet's ways, and a cross on each link that drops it."""
         node = self.given.members[packet.sender].node
-        flight = Flight(packet, self.given, node)
+        flight = Flight(packet, self.given, node, self.seed)
         told = f"{packet.kind} {packet.sender}:{packet.count}"
         told += f" of {slashed(packet.name)}" if packet.name else ""
         stroke = f'class="packet" stroke="{COLOURS[packet.kind]}"'
@@ -234,6 +234,7 @@ def main(words: Sequence[str] | None = None) -> int:
     parser = argparse.ArgumentParser(prog="python3 -m srm_lab.picture", description=__doc__.splitlines()[0])
     parser.add_argument("scenario")
     parser.add_argument("trace")
+    parser.add_argument("--seed", type=int, default=0, help="the seed of the run, by which losses at random go (default 0)")
     parser.add_argument("--from", dest="begin", type=int, default=0, metavar="TICK", help="first tick shown")
     parser.add_argument("--to", dest="end", type=int, metavar="TICK",
                         help="last tick shown (default: of the last event)")
@@ -245,7 +246,8 @@ def main(words: Sequence[str] | None = None) -> int:
     except (ScenarioError, OSError) as fault:
         sys.stderr.write(f"picture: {fault}\n")
         return 1
-    sys.stdout.write(Picture(history, options.begin, history.end if options.end is None else options.end).svg())
+    end = history.end if options.end is None else options.end
+    sys.stdout.write(Picture(history, options.begin, end, options.seed).svg())
     return 0
 
 

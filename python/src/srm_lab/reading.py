@@ -9,7 +9,7 @@ from .errors import ScenarioError
 from .form import check_keys
 from .limits import NEWEST
 from .link import Link
-from .parts import CONSTANTS, LIMITS, Draw, Drop, Member, Outage, Session
+from .parts import CONSTANTS, LIMITS, Draw, Drop, Member, Outage, RandomLoss, Session
 from .repetition import APART, expanded
 from .rules import check_rules
 from .scenario import Scenario
@@ -65,6 +65,8 @@ def from_table(table: dict[str, Any], comments: list[str] | None = None) -> Scen
         sessions=tuple(Session(**one) for one in parts["session"]),
         drops=tuple(Drop(**one) for one in parts["drop"]),
         outages=tuple(Outage(one["link"], one["from"], one["to"]) for one in parts["outage"]),
+        random_losses=tuple(RandomLoss(one["link"], one["rate"], one.get("stream", 0), one.get("from", 0), one.get("to"))
+                            for one in parts["loss"]),
         version=table["version"],
         comments=tuple(line for line in comments if line not in told or not line),
     )

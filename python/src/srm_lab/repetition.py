@@ -9,7 +9,8 @@ from .limits import NEWEST
 
 Element = dict[str, Any]
 # the keys of a part's elements that are `every` more from copy to copy; a member's stream is one more besides
-APART = {"member": ("node",), "draw": ("at",), "session": ("at",), "drop": ("count",), "outage": ("from", "to")}
+APART = {"member": ("node",), "draw": ("at",), "session": ("at",), "drop": ("count",), "outage": ("from", "to"),
+         "loss": ("link",)}
 DEFAULTS = {"times": 1, "every": 1}
 
 

@@ -14,6 +14,7 @@ def check_rules(given: "Scenario") -> None:
     _sessions(given)
     _drops(given)
     _outages(given)
+    _losses(given)
 
 
 def _members(given: "Scenario") -> None:
@@ -94,3 +95,11 @@ def _outages(given: "Scenario") -> None:
         if outage.first >= outage.end:
             raise ScenarioError(f"outage {place}: `from` is {outage.first}, and has to be below `to`, {outage.end}",
                                 "outage", place, "from")
+
+
+def _losses(given: "Scenario") -> None:
+    for place, loss in enumerate(given.random_losses):
+        _link(given, "loss", place, loss.link)
+        if loss.end is not None and loss.first >= loss.end:
+            raise ScenarioError(f"loss {place}: `from` is {loss.first}, and has to be below `to`, {loss.end}",
+                                "loss", place, "from")

@@ -22,7 +22,7 @@ from .errors import ScenarioError, perhaps
 from .form import check_keys
 from .graphs import Delays
 from .limits import MOST_NUMBERS, MOST_TIME, NEWEST, VERSIONS, Limits, within
-from .parts import CONSTANTS, LIMITS, Draw, Drop, Member, Outage, Session
+from .parts import CONSTANTS, LIMITS, Draw, Drop, Member, Outage, RandomLoss, Session
 from .rules import check_rules
 from .setting import logarithm, setting
 from .tree import Tree
@@ -52,6 +52,7 @@ class Scenario:
     sessions: tuple[Session, ...] = ()
     drops: tuple[Drop, ...] = ()
     outages: tuple[Outage, ...] = ()
+    random_losses: tuple[RandomLoss, ...] = ()
     version: int | None = None
     comments: tuple[str, ...] = ()
     seed: int = 0
@@ -112,7 +113,8 @@ class Scenario:
             two_way = limits.two_way or self.tree.is_even and "back" not in self.tree.shorthand
             timers = limits.adaptive or not self.is_adaptive
             outages = limits.outages or not self.outages
-            if fits and two_way and timers and outages:
+            losses = limits.losses or not self.random_losses
+            if fits and two_way and timers and outages and losses:
                 return version
         return max(VERSIONS)
 
@@ -124,7 +126,7 @@ class Scenario:
     def _fits(self, limits: Limits) -> bool:
         """Whether a version has room for so many nodes and elements."""
         nodes = max(self.tree.nodes, self.tree.shorthand.get("degree", 0) + 1)
-        elements = max(map(len, (self.draws, self.sessions, self.drops, self.outages)))
+        elements = max(map(len, (self.draws, self.sessions, self.drops, self.outages, self.random_losses)))
         return nodes <= limits.nodes and len(self.members) <= limits.members and elements <= limits.elements
 
     def source(self) -> int:
@@ -138,6 +140,18 @@ class Scenario:
     def is_out(self, link: int, at: int) -> bool:
         """Whether a link is out at a tick, and so drops each packet that comes to it."""
         return any(outage.is_on(at) for outage in self.outages_of.get(link, ()))
+
+    def is_lost(self, link: int, sender: int, count: int, at: int, seed: int) -> bool:
+        """Whether a link loses a packet at random that comes to it at a tick, in the run of a seed."""
+        return any(loss.takes(seed, sender, count, at) for loss in self.losses_of.get(link, ()))
+
+    @cached_property
+    def losses_of(self) -> dict[int, list[RandomLoss]]:
+        """The losses at random of each link that has some."""
+        found: dict[int, list[RandomLoss]] = {}
+        for loss in self.random_losses:
+            found.setdefault(loss.link, []).append(loss)
+        return found
 
     @cached_property
     def outages_of(self) -> dict[int, list[Outage]]:
@@ -204,7 +218,8 @@ class Scenario:
         """This scenario with changes; elements that were checked already, and stay, are not checked again."""
         made = replace(self, **changes)
         if "_checked" in vars(self) and made.least_version == self.least_version:
-            changed = {one.removesuffix("s") for one in changes} | ({"link"} if "tree" in changes else set())
+            parts = {"tree": "link", "random_losses": "loss"}
+            changed = {parts.get(one, one.removesuffix("s")) for one in changes}
             check_keys(writing.keys_of(made, changed))
             check_rules(made)
             vars(made)["_checked"] = made
@@ -322,19 +337,25 @@ class Scenario:
 
     def lose(self, rate: float | None = None, every: int | None = None, link: int | str | None = None,
              packets: int | None = None, seed: int | None = None, sender: int | None = None,
-             any_packet: bool = False) -> "Scenario":
-        """Drops packets of senders by a rule, which is written as the list of drops that it gives.
+             any_packet: bool = False, stream: int = 0, first: int = 0, last: int | None = None) -> "Scenario":
+        """Loses packets by a rule: at random with a `rate`, or every K-th of a sender.
 
-        With a `rate` each link on the way from a sender to another member drops each packet of that sender with this
-        probability, or only those of one `sender`. With `every` a link drops the packets 0, K, 2 K and so on of the
-        `sender`, by default member 0. `link` says which one: a number, `adjacent` to the sender, `random`, or `hops:H`
-        away from it; with a rate all links do where none is named. A packet counts among all that its sender sends; the
-        first `packets` may be lost, by default as many as it draws. Every K-th has to be data of the draws, losses and
-        timers that the scenario has by now: where a repair might come in place of it that is refused, unless
-        `any_packet` allows it.
+        A `rate` is the probability, in at most six decimals, with which a link loses each packet that comes to it from
+        tick `first` to tick `last`, both in it, or to the end: data, requests, repairs and session messages alike. This
+        is a loss of version 4, by which each run of a scenario loses packets of its own: the run's seed and the `stream`
+        decide. Losses of one link and one stream take the same packets, as far as their rates go. For one `sender`, for
+        the first `packets` of each, and in a scenario of version 1 to 3 it is a list of drops instead: each link on the
+        way from a sender to another member drops each packet of that sender with this probability, the same in all runs.
+
+        With `every` a link drops the packets 0, K, 2 K and so on of the `sender`, by default member 0. `link` says which
+        one: a number, `adjacent` to the sender, `random`, or `hops:H` away from it; with a rate all links do where none
+        is named. A packet counts among all that its sender sends; the first `packets` may be dropped, by default as many
+        as it draws. Every K-th has to be data of the draws, losses and timers that the scenario has by now: where a
+        repair might come in place of it that is refused, unless `any_packet` allows it.
         """
         if (rate is None) == (every is None):
             raise ScenarioError("lose: give either a rate or every")
+        has_place = bool(stream or first or last is not None)
         if sender is not None:
             within("sender", sender, 0, max(0, len(self.members) - 1))
         rng, one = self._rng("lose", seed), sender or 0
@@ -342,13 +363,30 @@ class Scenario:
         if every is not None:
             if named is None:
                 raise ScenarioError("lose: every needs a link")
+            if has_place:
+                raise ScenarioError("lose: stream, first and last go with a rate")
             counts = range(0, self._packets(one, packets), within("every", every, 1, NEWEST.elements))
             made = self.drop(named, counts, one)
             if not any_packet:
                 losses.check_that_data_is_lost(made, one)
             return made
+        if sender is None and packets is None and (self.version is None or VERSIONS[self.version].losses):
+            return self._lossy(_probability(rate), named, stream, first, last)
+        if has_place:
+            raise ScenarioError("lose: stream, first and last are of losses at random, which know no sender and no packets, "
+                                "and which only version 4 has")
         found = losses.bernoulli(self, _probability(rate), named, rng, lambda sender: self._packets(sender, packets))
         return self._with(drops=(*self.drops, *(drop for drop in found if sender in (None, drop.sender))))
+
+    def _lossy(self, rate: float, link: int | None, stream: int, first: int, last: int | None) -> "Scenario":
+        """Lets a link lose packets at random, or all links."""
+        share = _millionths(rate)
+        end = None if last is None else within("last", last, 0, MOST_TIME) + 1
+        within("stream", stream, 0, NEWEST.stream)
+        within("first", first, 0, MOST_TIME)
+        links = range(len(self.tree.links)) if link is None else (link,)
+        made = tuple(RandomLoss(one, share, stream, first, end) for one in links if share)
+        return self._with(random_losses=(*self.random_losses, *made))
 
     def _packets(self, sender: int, packets: int | None) -> int:
         drawn = sum(draw.member == sender for draw in self.draws)
@@ -367,9 +405,17 @@ def _check_constants(names: Iterable[str], known: Collection[str]) -> None:
 
 
 def _probability(rate: float | None) -> float:
-    if not isinstance(rate, (int, float)) or not 0 <= rate <= 1:
+    if isinstance(rate, bool) or not isinstance(rate, (int, float)) or not 0 <= rate <= 1:
         raise ScenarioError(f"lose: rate is {rate!r}, and has to be from 0 to 1")
     return float(rate)
+
+
+def _millionths(rate: float) -> int:
+    """A rate in millionths, of a number with at most six decimals."""
+    share = Decimal(str(rate)) * NEWEST.rate
+    if share != int(share):
+        raise ScenarioError(f"lose: rate is {rate}, which has more than six decimals, and the format has millionths")
+    return int(share)
 
 
 def _tick(at: Ticks, rng: random.Random) -> int:

@@ -6,7 +6,7 @@ from typing import TYPE_CHECKING, Any
 from .errors import ScenarioError
 from .form import PARTS
 from .limits import NEWEST
-from .parts import CONSTANTS, LIMITS
+from .parts import CONSTANTS, LIMITS, RandomLoss
 from .repetition import APART, folded
 
 if TYPE_CHECKING:
@@ -20,9 +20,13 @@ IN_LINE = 20
 
 
 def table_of(given: "Scenario") -> dict[str, Any]:
-    """The keys and values of a scenario's file; a large one tells its elements by few that stand for several."""
+    """The keys and values of a scenario's file; a large one tells its elements by few that stand for several.
+
+    So does one with losses at random tell these.
+    """
     table = keys_of(given)
-    return table | {part: folded(part, table[part]) for part in APART if part in table} if given.is_large else table
+    parts = APART if given.is_large else ("loss",)
+    return table | {part: folded(part, table[part]) for part in parts if part in table}
 
 
 def keys_of(given: "Scenario", wanted: Collection[str] = PARTS) -> dict[str, Any]:
@@ -42,6 +46,7 @@ def keys_of(given: "Scenario", wanted: Collection[str] = PARTS) -> dict[str, Any
         "session": lambda: [dict(vars(session)) for session in given.sessions],
         "drop": lambda: [dict(vars(drop)) for drop in given.drops],
         "outage": lambda: [{"link": one.link, "from": one.first, "to": one.end} for one in given.outages],
+        "loss": lambda: [_loss(one) for one in given.random_losses],
     }
     return top | {name: elements for name in PARTS if name in wanted and (elements := parts[name]())}
 
@@ -51,6 +56,12 @@ def _member(keys: dict[str, Any]) -> dict[str, Any]:
     if keys["pages"] is not None:
         keys["pages"] = list(keys["pages"])
     return {key: value for key, value in keys.items() if value is not None and (key, value) != ("join", 0)}
+
+
+def _loss(one: RandomLoss) -> dict[str, Any]:
+    """The keys of a loss at random, without those that have their defaults."""
+    keys = {"stream": one.stream, "from": one.first, "to": one.end}
+    return {"link": one.link, "rate": one.rate, **{key: value for key, value in keys.items() if value}}
 
 
 def text_of(given: "Scenario") -> str:

@@ -49,7 +49,7 @@ class Document:
         return {
             "title": title,
             "comments": comments,
-            "seed": self.seed,
+            "seed": str(self.seed),
             "until": given.end,
             "constants": [given.c1, given.c2, given.d1, given.d2],
             "kind": given.tree.shorthand.get("topology", "links"),
@@ -58,6 +58,7 @@ class Document:
             "members": members,
             "drops": sorted({(it.link, it.sender, it.count) for it in given.drops}),
             "outages": [[it.link, it.first, it.end] for it in given.outages],
+            "losses": [[it.link, it.rate, str(it.stream), it.first, it.end] for it in given.random_losses],
             "names": self.names,
             "told": None if self.part.names is None else [int(name in self.part.names) for name in self.names],
             "timers": self.lengths is not None,

@@ -7,8 +7,8 @@ from ..errors import ScenarioError
 
 ASSETS = Path(__file__).parent / "assets"
 # in the order in which later files use what earlier ones define
-SCRIPTS = ("codes", "decode", "spans", "network", "trace", "history", "states", "tables", "moments", "reasons",
-           "model", "elements", "geometry", "surface", "vector_context", "theme", "layout", "marks", "labels",
+SCRIPTS = ("codes", "decode", "spans", "losses", "network", "trace", "history", "states", "tables", "moments",
+           "reasons", "model", "elements", "geometry", "surface", "vector_context", "theme", "layout", "marks", "labels",
            "player", "address", "selection", "filters", "rules", "story", "refs", "lanes", "why_member", "why_loss",
            "why", "sprites", "small_members", "network_packets", "network_view", "sequence_scope", "sequence_packets",
            "sequence_view", "slider", "grid", "table_panel", "controls", "legends", "picture", "tips", "facts",

@@ -63,6 +63,7 @@ class Network {
     this.drops = new Map();
     for (const [link, sender, count] of about.drops) this._drop(`${sender}:${count}`, link);
     this._outages(about.outages.map(([link, from, to]) => ({ link, from, to })));
+    this.losses = new RandomLosses(about.losses, about.seed);
   }
 
   _outages(outages) {
@@ -122,6 +123,11 @@ class Network {
     return this.outagesByLink.get(link) ?? [];
   }
 
+  /** Whether anything may take a packet out that is on its way from a tick to another, but for what is listed of it. */
+  isLossy(begin, end) {
+    return this.timesOfOutages.meet(begin, end) || this.losses.times.meet(begin, end);
+  }
+
   /** Whether a link is out at a tick. */
   isOut(link, tick) {
     return this.timesOut.get(link)?.meet(tick) ?? false;
@@ -140,14 +146,14 @@ class Network {
   fateOf(packet) {
     const drops = this.drops.get(`${packet.sender}:${packet.count}`);
     const route = this.routeOf(packet.sender);
-    if (!drops && !this.timesOfOutages.meet(packet.time, packet.time + route.longest)) return null;
+    if (!drops && !this.isLossy(packet.time, packet.time + route.longest)) return null;
     const crossed = new Uint8Array(route.link.length);
     const dropped = [];
     for (let at = 0; at < route.link.length; at++) {
       const before = route.edgeTo[route.near[at]];
       if (before >= 0 && !crossed[before]) continue;
-      const isTaken = drops?.has(route.link[at]) || this.isOut(route.link[at], packet.time + route.begin[at]);
-      if (isTaken) dropped.push(at);
+      const [link, tick] = [route.link[at], packet.time + route.begin[at]];
+      if (drops?.has(link) || this.isOut(link, tick) || this.losses.take(link, packet, tick)) dropped.push(at);
       else crossed[at] = 1;
     }
     return dropped.length ? { dropped, crossed } : null;

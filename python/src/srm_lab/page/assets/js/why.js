@@ -86,6 +86,7 @@ class Why {
     const { a, b, delay, back } = network.links[link];
     const [, data, requests, repairs, sessions, dropped] = tables.links[link];
     const outages = network.outagesOf(link).map(({ from, to }) => `${grouping(from)} to ${grouping(to)}`);
+    const losses = network.losses.of(link).map((loss) => loss.told);
     const drops = Array.from(network.drops).filter(([, links]) => links.has(link)).map(([packet]) => packet);
     return listOf([
       ["joins", `nodes ${a} and ${b}`],
@@ -96,6 +97,7 @@ class Why {
       ["dropped", counted(dropped, "packet")],
       drops.length ? ["is to drop", firstOf(drops)] : null,
       outages.length ? ["out", firstOf(outages)] : null,
+      losses.length ? ["loses at random", firstOf(losses)] : null,
     ]);
   }
 }
