@@ -14,15 +14,15 @@ use Rattle.srm_scenario.specs.Plain.{PlainScenario}
 use Rattle.srm_member.specs.declared.intervals.Intervals.{Intervals}
 use Rattle.srm_member.specs.declared.row.Row.{Row}
 use Rattle.srm_cell.specs.Crossings.{crossings}
-use Rattle.srm_cell.specs.Setting.{setting_of, traffic_of}
-use Rattle.srm_model.specs.World.{World, RunMeetsFull}
+use Rattle.srm_cell.specs.Setting.{traffic_of}
+use Rattle.srm_model.specs.World.{World}
 use Rattle.srm_options.specs.declared.options.Show.{Show}
 use Rattle.srm_options.specs.declared.options.Show.TheVariants.{Trace, Members, Losses, Operations, Links, Timers}
 use Rattle.srm_report.specs.Links.{links_table}
 use Rattle.srm_report.specs.Losses.{losses_table}
 use Rattle.srm_report.specs.Operations.{operations_table}
 use Rattle.srm_report.specs.Members.{member_rows, members_table}
-use Rattle.srm_report.specs.Seeds.{with_seed, IsLine, AreLines}
+use Rattle.srm_report.specs.Seeds.{IsLine, AreLines}
 use Rattle.srm_report.specs.SinkLaws.{count_more}
 use Rattle.srm_report.specs.Standings.{GrewBy}
 use Rattle.srm_report.specs.Tables.{lines_of, table_lines}
@@ -33,7 +33,8 @@ use Rattle.srm_report.proofs.LineLemmas.{last_delay_is_plain, last_is_plain, tol
 use Rattle.srm_program.specs.declared.fault.LabFault.{LabFault}
 use Rattle.srm_program.specs.declared.fault.LabFault.TheVariants.{BadCut, BadWidth, ShareFull, NoMemory, CountFull, WriteFault}
 use Rattle.srm_program.specs.Reports.{report_of, shown, failures_after_run, EndsIn, TellsReport}
-use Rattle.srm_program.specs.Replications.{columns_shown, rows_shown, rows_of_run, replicated_rows, replications_of, EndInTurn, TakesRuns}
+use Rattle.srm_program.specs.Replications.{columns_shown, rows_shown, rows_of_run, rows_of_seed, replicated_rows, replications_of}
+use Rattle.srm_program.specs.Replications.{EndsOfSeed, EndInTurn, MeetsFullOfSeed, TakesRuns}
 use Rattle.srm_program.specs.Replications.{PutsNext, MakesLines, TellsReplications}
 
 -- ---- each table is the line of its columns and the lines of its rows
@@ -138,22 +139,22 @@ columns_are_line Timers = (refl, (refl, (refl, (refl, (refl, (refl, (refl, (refl
 
 module _ (show : Show) (p : PlainScenario) (net : Network) where
   replicated_more : (ws : List World) (w : World) (seed : ℕ) → replicated_rows show p net seed (ws ++ w ∷ [])
-      ≡ replicated_rows show p net seed ws ++ with_seed (seed + length ws) (rows_of_run show p net w)
+      ≡ replicated_rows show p net seed ws ++ rows_of_seed show p net (seed + length ws) w
   replicated_more [] w seed =
       let here : seed ≡ seed + 0 = omega arith in
-      append-nil (with_seed seed (rows_of_run show p net w)) ∙ ap (λ n. with_seed n (rows_of_run show p net w)) here
+      append-nil (rows_of_seed show p net seed w) ∙ ap (λ n. rows_of_seed show p net n w) here
   replicated_more (v ∷ ws) w seed =
       let far : seed + 1 + length ws ≡ seed + length (v ∷ ws) = omega arith in
-      ap (λ l. with_seed seed (rows_of_run show p net v) ++ l) (replicated_more ws w (seed + 1))
-      ∙ sym (append_assoc (with_seed seed (rows_of_run show p net v)) (replicated_rows show p net (seed + 1) ws) _)
-      ∙ ap (λ n. replicated_rows show p net seed (v ∷ ws) ++ with_seed n (rows_of_run show p net w)) far
+      ap (λ l. rows_of_seed show p net seed v ++ l) (replicated_more ws w (seed + 1))
+      ∙ sym (append_assoc (rows_of_seed show p net seed v) (replicated_rows show p net (seed + 1) ws) _)
+      ∙ ap (λ n. replicated_rows show p net seed (v ∷ ws) ++ rows_of_seed show p net n w) far
 
-  pub ends_more : (ws : List World) (w : World) (seed : ℕ) → EndInTurn p net seed ws → EndsIn p net (seed + length ws) w
+  pub ends_more : (ws : List World) (w : World) (seed : ℕ) → EndInTurn p net seed ws → EndsOfSeed p net (seed + length ws) w
       → EndInTurn p net seed (ws ++ w ∷ [])
-  ends_more [] w seed h k = (let here : seed + 0 ≡ seed = omega arith in subst (λ n. EndsIn p net n w) here k, tt)
+  ends_more [] w seed h k = (let here : seed + 0 ≡ seed = omega arith in subst (λ n. EndsOfSeed p net n w) here k, tt)
   ends_more (v ∷ ws) w seed h k =
       let far : seed + length (v ∷ ws) ≡ seed + 1 + length ws = omega arith in
-      (h.0, ends_more ws w (seed + 1) h.1 (subst (λ n. EndsIn p net n w) far k))
+      (h.0, ends_more ws w (seed + 1) h.1 (subst (λ n. EndsOfSeed p net n w) far k))
 
   -- the table of no run is the line of the columns
   pub no_run : (first : ℕ) (old new : Option (List ℕ)) → Appends old new (row_text default_writer (codes "seed" ∷ columns_shown show))
@@ -162,17 +163,17 @@ module _ (show : Show) (p : PlainScenario) (net : Network) where
   no_run first old new h = (tt, subst (λ t. Appends old new t) (sym (append-nil _)) h)
 
   pub table_grown : (ws : List World) (w : World) (first : ℕ) → replications_of show p net first (ws ++ w ∷ [])
-      ≡ replications_of show p net first ws ++ lines_of (with_seed (first + length ws) (rows_of_run show p net w))
+      ≡ replications_of show p net first ws ++ lines_of (rows_of_seed show p net (first + length ws) w)
   unfolding table_lines
   table_grown ws w first =
       ap (λ rs. row_text default_writer (codes "seed" ∷ columns_shown show) ++ lines_of rs) (replicated_more ws w first)
       ∙ ap (λ l. row_text default_writer (codes "seed" ∷ columns_shown show) ++ l)
-      (lines_joined (replicated_rows show p net first ws) (with_seed (first + length ws) (rows_of_run show p net w)))
+      (lines_joined (replicated_rows show p net first ws) (rows_of_seed show p net (first + length ws) w))
       ∙ sym (append_assoc (row_text default_writer (codes "seed" ∷ columns_shown show)) (lines_of (replicated_rows show p net first ws)) _)
 
   pub one_run_more : (ws : List World) (w : World) (first : ℕ) (old mid new : Option (List ℕ)) → TakesRuns p net first show ws old mid
-      → EndsIn p net (first + length ws) w
-      → Appends mid new (lines_of (with_seed (first + length ws) (rows_of_run show p net w)))
+      → EndsOfSeed p net (first + length ws) w
+      → Appends mid new (lines_of (rows_of_seed show p net (first + length ws) w))
       → TakesRuns p net first show (ws ++ w ∷ []) old new
   one_run_more ws w first old mid new h k grown = (
     ends_more ws w first h.0 k,
@@ -247,10 +248,10 @@ module _ (show : Show) (p : PlainScenario) (net : Network) (first : ℕ) where
     here : seed ≡ first + length ws
     here = omega (arith, at)
 
-    grown : (w : World) (text : List ℕ) → text ≡ lines_of (with_seed seed (rows_of_run show p net w))
+    grown : (w : World) (text : List ℕ) → text ≡ lines_of (rows_of_seed show p net seed w)
         → replications_of show p net first (ws ++ w ∷ []) ≡ replications_of show p net first ws ++ text
     grown w text is = table_grown show p net ws w first ∙ ap (λ l. replications_of show p net first ws ++ l)
-        (ap (λ k. lines_of (with_seed k (rows_of_run show p net w))) (sym here) ∙ sym is)
+        (ap (λ k. lines_of (rows_of_seed show p net k w)) (sym here) ∙ sym is)
 
     pub run_put : (T : Type 0) (v : T) (lines : Vec ℕ) (new : Option (List ℕ)) (m : ℕ) → MakesLines p net show seed (Ok lines)
         → PutsNext mid n lines.items (Ok v) new m
@@ -259,8 +260,8 @@ module _ (show : Show) (p : PlainScenario) (net : Network) (first : ℕ) where
       ws ++ made.0 ∷ [],
       omega (arith, length-append ws (made.0 ∷ []), at),
       record {
-        taken = one_run_more show p net ws made.0 first old mid new has.taken (subst (λ k. EndsIn p net k made.0) here made.1)
-            (subst (Appends mid new) (made.2 ∙ ap (λ k. lines_of (with_seed k (rows_of_run show p net made.0))) here) put.0);
+        taken = one_run_more show p net ws made.0 first old mid new has.taken (subst (λ k. EndsOfSeed p net k made.0) here made.1)
+            (subst (Appends mid new) (made.2 ∙ ap (λ k. lines_of (rows_of_seed show p net k made.0)) here) put.0);
         counted = subst (λ k. GrewBy 0 k m)
             (sym (ap length (grown made.0 lines.items made.2) ∙ length-append (replications_of show p net first ws) lines.items))
             (count_more 0 (length (replications_of show p net first ws)) n (length lines.items) m has.counted put.1);
@@ -275,7 +276,7 @@ module _ (show : Show) (p : PlainScenario) (net : Network) (first : ℕ) where
           ws ++ made.0 ∷ [],
           omega (arith, length-append ws (made.0 ∷ []), at, before),
           (
-            ends_more show p net ws made.0 first has.taken.0 (subst (λ k. EndsIn p net k made.0) here made.1),
+            ends_more show p net ws made.0 first has.taken.0 (subst (λ k. EndsOfSeed p net k made.0) here made.1),
             (
               all ++ put.0,
               put.1,
@@ -295,7 +296,7 @@ module _ (show : Show) (p : PlainScenario) (net : Network) (first : ℕ) where
     pub run_refused : (U : Type 0) (f : LabFault) → MakesLines p net show seed (Err f)
         → TellsReplications {T = U} p net first count show old mid (Err f)
     run_refused U CountFull made =
-        (ws, omega (arith, at, before), has.taken, subst (λ k. RunMeetsFull (setting_of p net k)) here made)
+        (ws, omega (arith, at, before), has.taken, subst (λ k. MeetsFullOfSeed p net k) here made)
     run_refused U NoMemory made = inr (ws, omega (arith, at, before), has.taken)
     run_refused U BadCut made = absurd made
     run_refused U BadWidth made = absurd made

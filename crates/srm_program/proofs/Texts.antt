@@ -8,7 +8,7 @@ use Rattle.srm_scenario.specs.declared.fault.ScenarioFault.{ScenarioFault}
 use Rattle.srm_scenario.specs.declared.fault.ScenarioFault.TheVariants as scenario
 use Rattle.srm_scenario.specs.declared.fault.ScenarioFault.TheVariants.{ReadFault, TooLong, NotToml, BadKey, NotTree, BadMember}
 use Rattle.srm_scenario.specs.declared.fault.ScenarioFault.TheVariants.{BadDraw, BadSession, BadDrop, BadOutage, BadLoss}
-use Rattle.srm_scenario.specs.Plain.{PlainScenario, network_of}
+use Rattle.srm_scenario.specs.Plain.{PlainScenario, network_of, with_seed}
 use Rattle.srm_scenario.specs.Faults.{scenario_of_text, AnswersText, RefusesText}
 use Rattle.srm_scenario.proofs.Texts.{count_stays}
 use Rattle.srm_program.specs.declared.fault.Fault.{Fault}
@@ -26,21 +26,22 @@ task_of count p seed o old new r runs asked told =
     subst (λ (b : Bool). TellsTask b o.replications p seed o old new r) (sym runs)
     (subst (λ (k : Option ℕ). TellsTask false k p seed o old new r) (sym asked) told)
 
--- the session of a text is that of the scenario that it describes
+-- the session of a text is that of the scenario that it describes, with the seed of its losses
 pub session_of_text : {T : Type 0} (p : PlainScenario) (net : Network) (text : List ℕ) (seed : ℕ) (o : Options) (old new : Option (List ℕ))
     (r : Result T Fault)
-    → scenario_of_text text ≡ Ok p → o.check ≡ false → o.replications ≡ None → net ≡ network_of p → TellsSession p net seed o old new r
+    → scenario_of_text text ≡ Ok p → o.check ≡ false → o.replications ≡ None → net ≡ network_of (with_seed p seed)
+    → TellsSession (with_seed p seed) net seed o old new r
     → TellsText seed o text old new r
 session_of_text {T} p net text seed o old new r is runs one made told =
-    describes r (subst (λ (w : Network). TellsSession p w seed o old new r) made told)
+    describes r (subst (λ (w : Network). TellsSession (with_seed p seed) w seed o old new r) made told)
   where
-    describes : (r : Result T Fault) → TellsSession p (network_of p) seed o old new r → TellsText seed o text old new r
+    describes : (r : Result T Fault) → TellsSession (with_seed p seed) (network_of p) seed o old new r → TellsText seed o text old new r
     describes (Ok v) told =
         let r : Result T LabFault = Ok v in
-        (p, is, task_of None p seed o old new r runs one told)
+        (p, is, task_of None (with_seed p seed) seed o old new r runs one told)
     describes (Err (Lab f)) told =
         let r : Result T LabFault = Err f in
-        (p, is, task_of None p seed o old new r runs one told)
+        (p, is, task_of None (with_seed p seed) seed o old new r runs one told)
     describes (Err (Line f)) told = absurd told
     describes (Err (Scenario f)) told = absurd told
     describes (Err NoMemory) told = told

@@ -8,6 +8,7 @@ use Rattle.csv.specs.Writing.{default_writer, row_text}
 use Rattle.srm_net.specs.Network.{Network}
 use Rattle.srm_net.specs.Orders.{ordered}
 use Rattle.srm_scenario.specs.Plain.{PlainScenario, network_of}
+use Rattle.srm_scenario.specs.Plain as plain
 use Rattle.srm_member.specs.declared.intervals.Intervals.{Intervals}
 use Rattle.srm_member.specs.declared.row.Row.{Row}
 use Rattle.srm_cell.specs.Crossings.{crossings}
@@ -57,12 +58,24 @@ rows_of_run show p net w = rows_shown show p net w.trace (crossings (traffic_of 
 
 -- ---- replications
 
+-- the run of a scenario on its network with this seed, which is that of its losses too, ends in this world
+abbrev pub EndsOfSeed : PlainScenario → Network → ℕ → World → Type 0
+EndsOfSeed p net seed w = EndsIn (plain.with_seed p seed) net seed w
+
+-- the rows of the table of such a run, with the seed in front
+abbrev pub rows_of_seed : Show → PlainScenario → Network → ℕ → World → List (List (List ℕ))
+rows_of_seed show p net seed w = with_seed seed (rows_of_run show (plain.with_seed p seed) net w)
+
+-- the run with this seed meets a step for which the packet count is used up
+abbrev pub MeetsFullOfSeed : PlainScenario → Network → ℕ → Type 0
+MeetsFullOfSeed p net seed = RunMeetsFull (setting_of (plain.with_seed p seed) net seed)
+
 -- the rows of runs that ended in these worlds, the first with this seed and each other with the next: those of the
 -- run's table, with the seed in front
 abbrev pub replicated_rows : Show → PlainScenario → Network → ℕ → List World → List (List (List ℕ))
 replicated_rows show p net seed [] = []
 replicated_rows show p net seed (w ∷ ws) =
-    with_seed seed (rows_of_run show p net w) ++ replicated_rows show p net (seed + 1) ws
+    rows_of_seed show p net seed w ++ replicated_rows show p net (seed + 1) ws
 
 -- the table of such runs: the columns are the seed and those of the run's table
 abbrev pub replications_of : Show → PlainScenario → Network → ℕ → List World → List ℕ
@@ -73,7 +86,7 @@ replications_of show p net first ws =
 -- these worlds
 abbrev pub EndInTurn : PlainScenario → Network → ℕ → List World → Type 0
 EndInTurn p net seed [] = Unit {0}
-EndInTurn p net seed (w ∷ ws) = EndsIn p net seed w × EndInTurn p net (seed + 1) ws
+EndInTurn p net seed (w ∷ ws) = EndsOfSeed p net seed w × EndInTurn p net (seed + 1) ws
 
 -- an outlet took the table of the runs of the first seeds, up to these worlds
 abbrev pub TakesRuns :
@@ -100,7 +113,7 @@ TellsReplications p net first count show old new (Err (WriteFault written)) =
     (ws : List World) × (length ws ≤ count) × TakesFrontOfRuns p net first show ws old new written
 TellsReplications p net first count show old new (Err CountFull) =
     (ws : List World) × (length ws < count) × TakesRuns p net first show ws old new
-    × RunMeetsFull (setting_of p net (first + length ws))
+    × MeetsFullOfSeed p net (first + length ws)
 TellsReplications p net first count show old new (Err NoMemory) =
     Keeps old new ⊎ ((ws : List World) × (length ws ≤ count) × TakesRuns p net first show ws old new)
 TellsReplications p net first count show old new (Err f) = ⊥
@@ -125,13 +138,18 @@ PutsNext old n text (Err f) new m = ⊥
 
 -- ---- the run of one seed
 
--- what comes of the run of one seed: the lines of its rows, each with the seed in front; or a refusal
-abbrev pub MakesLines : PlainScenario → Network → Show → ℕ → Result (Vec ℕ) LabFault → Type 0
-MakesLines p net show seed (Ok text) =
+-- what comes of the run of a scenario, as it is, with words of this seed: the lines of its rows, each with the seed in
+-- front; or a refusal
+abbrev pub GivesLines : PlainScenario → Network → Show → ℕ → Result (Vec ℕ) LabFault → Type 0
+GivesLines p net show seed (Ok text) =
     (w : World) × EndsIn p net seed w × (text.items ≡ lines_of (with_seed seed (rows_of_run show p net w)))
-MakesLines p net show seed (Err CountFull) = RunMeetsFull (setting_of p net seed)
-MakesLines p net show seed (Err NoMemory) = Unit {0}
-MakesLines p net show seed (Err f) = ⊥
+GivesLines p net show seed (Err CountFull) = RunMeetsFull (setting_of p net seed)
+GivesLines p net show seed (Err NoMemory) = Unit {0}
+GivesLines p net show seed (Err f) = ⊥
+
+-- what comes of the run of one seed, which is that of its losses too
+abbrev pub MakesLines : PlainScenario → Network → Show → ℕ → Result (Vec ℕ) LabFault → Type 0
+MakesLines p net show seed r = GivesLines (plain.with_seed p seed) net show seed r
 
 -- what comes of each seed is that of its run
 abbrev pub MakesEach :

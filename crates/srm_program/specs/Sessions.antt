@@ -4,7 +4,7 @@ use Rattle.std.specs.Io.KnownBytes.{IsAtEnd, Keeps}
 use Rattle.srm_net.specs.Network.{Network}
 use Rattle.srm_scenario.specs.declared.fault.ScenarioFault.{ScenarioFault}
 use Rattle.srm_scenario.specs.declared.fault.ScenarioFault.TheVariants.{ReadFault}
-use Rattle.srm_scenario.specs.Plain.{PlainScenario, network_of}
+use Rattle.srm_scenario.specs.Plain.{PlainScenario, network_of, with_seed}
 use Rattle.srm_scenario.specs.Faults as faults
 use Rattle.srm_program.specs.declared.fault.LabFault.{LabFault}
 use Rattle.srm_program.specs.declared.fault.Fault.{Fault}
@@ -51,16 +51,16 @@ TellsTask false (Some count) p seed o old new r = TellsReplications p (network_o
 TellsTask true count p seed o old new (Ok v) = Keeps old new
 TellsTask true count p seed o old new (Err f) = ⊥
 
--- what an outlet took of the session of a text, with random words of this seed: what the run of its scenario tells;
--- nothing where the text is refused, by its first fault, and nothing where memory ran out before the run
+-- what an outlet took of the session of a text, with random words and losses of this seed: what the run of its scenario
+-- tells; nothing where the text is refused, by its first fault, and nothing where memory ran out before the run
 abbrev pub TellsText : {T : Type 0} → ℕ → Options → List ℕ
     → Option (List ℕ) → Option (List ℕ) → Result T Fault → Type 0
 TellsText seed o text old new (Ok v) =
     (p : PlainScenario) × (faults.scenario_of_text text ≡ Ok p)
-    × TellsTask o.check o.replications p seed o old new (let r : Result _ LabFault = Ok v in r)
+    × TellsTask o.check o.replications (with_seed p seed) seed o old new (let r : Result _ LabFault = Ok v in r)
 TellsText {T} seed o text old new (Err (fault.Lab f)) =
     (p : PlainScenario) × (faults.scenario_of_text text ≡ Ok p)
-    × TellsTask o.check o.replications p seed o old new (let r : Result T LabFault = Err f in r)
+    × TellsTask o.check o.replications (with_seed p seed) seed o old new (let r : Result T LabFault = Err f in r)
 TellsText seed o text old new (Err (fault.Line f)) = ⊥
 TellsText seed o text old new (Err (fault.Scenario f)) = faults.RefusesText f text × Keeps old new
 TellsText seed o text old new (Err fault.NoMemory) = Keeps old new

@@ -1,6 +1,6 @@
 //! The run of one seed, as a team's worker makes it.
 ghost use Rattle.std.specs.Prelude.{◌≡◌, ℕ};
-ghost use Rattle.srm_program.specs.Replications.{MakesLines, MayReplicate};
+ghost use Rattle.srm_program.specs.Replications.{GivesLines, MakesLines, MayReplicate};
 
 use crate::fault::{Fault, LabFault};
 use crate::members::run_members;
@@ -74,6 +74,23 @@ fn lines_of_seed<R: Threads + Wait + Sync>(
         scenario: &seeded,
         net,
     };
+    lines_of_run(rt, alloc, session, seed, options)
+}
+
+/// The run of a session, whose losses have their seed, into memory.
+///
+/// # Errors
+/// `NoMemory` or `CountFull`.
+fn lines_of_run<R: Threads + Wait + Sync>(
+    rt: &R,
+    alloc: Global,
+    session: Session,
+    seed: u64,
+    options: Options,
+) -> Result<Vec<u8>, LabFault>
+    requires { MayReplicate session.scenario.now session.net.now options }
+    ensures { GivesLines session.entry.scenario.now session.entry.net.now options.show seed result }
+{
     let mut outlet = WriteOutlet::new(Vec::new(alloc));
     match run_members(rt, alloc, session, seed, options, &mut outlet) {
         Ok(()) => {
