@@ -1,4 +1,5 @@
 """Links that lose packets at random, in srm_lab and in ns-2: its ErrorModel on every link, in both directions."""
+import random
 from collections.abc import Callable
 from concurrent.futures import ThreadPoolExecutor
 from functools import partial
@@ -8,7 +9,7 @@ from srm_lab import Scenario, scenario
 from srm_lab.statistics import Interval, difference, interval
 
 RATES = (0.01, 0.05)
-DRAWS, APART, SEEDS = 20, 50_000, 100
+DRAWS, APART, SEEDS = 40, 25_000, 100
 TOLD = """tree of {members} members, of which every link loses packets of each kind, C1 = C2 = 2, D1 = D2 = 1: the share of \
 draws that a receiver loses,
 mean requests and repairs for a lost draw, of {seeds} seeds with {draws} draws each, and the difference, ns-2's less \
@@ -37,6 +38,11 @@ def seen(given: Scenario, result: Result) -> tuple[float, float, float]:
     return len(result.losses) / (len(given.members) - 1) / len(given.draws), asks / lost, answers / lost
 
 
+def of_ns2(programs: Programs, text: str, seed: int) -> Result:
+    """A run of ns-2 with a seed far from the others: its k-th random number is, modulo 1, the seed times a number of k."""
+    return programs.ns2(text, RULES, random.Random(seed).randrange(1, 2**31 - 1))
+
+
 def compare_losses(programs: Programs, jobs: int, seeds: int = SEEDS) -> None:
     """Prints what both programs lose and send at each rate, with intervals."""
     print(TOLD.format(members=len(session(RATES[0]).members), seeds=seeds, draws=DRAWS))
@@ -44,9 +50,9 @@ def compare_losses(programs: Programs, jobs: int, seeds: int = SEEDS) -> None:
     for place, rate in enumerate(RATES):
         given, own_seeds = session(rate), range(1 + place, 1 + len(RATES) * seeds, len(RATES))
         text = given.text()
-        runs: tuple[Callable[..., Result], ...] = (partial(programs.ours, text), partial(programs.ns2, text, RULES))
+        runs: tuple[Callable[[int], Result], ...] = (partial(programs.ours, text), partial(of_ns2, programs, text))
         with ThreadPoolExecutor(jobs) as pool:
-            ours, theirs = (list(zip(*pool.map(lambda seed, run=run: seen(given, run(seed=seed)), own_seeds)))
+            ours, theirs = (list(zip(*pool.map(lambda seed, run=run: seen(given, run(seed)), own_seeds)))
                             for run in runs)
         for name, own, other in zip(("lost", "requests", "repairs"), ours, theirs):
             wanted = share_of(given, rate) if name == "lost" else None

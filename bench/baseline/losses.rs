@@ -15,7 +15,7 @@ pub struct Loss {
 impl Loss {
     /// Whether it takes a packet that comes to this link at this time, in the run of a seed.
     pub fn takes(&self, seed: u64, link: usize, id: PacketId, at: Time) -> bool {
-        self.from <= at && self.to.is_none_or(|to| at < to) && word(seed, self.stream, link, id) < self.bound
+        self.from <= at && self.to.map_or(true, |to| at < to) && word(seed, self.stream, link, id) < self.bound
     }
 }
 

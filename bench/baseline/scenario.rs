@@ -251,7 +251,7 @@ impl Scenario {
 
     fn take_in_losses(&mut self, losses: Vec<LinkLoss>) {
         for (place, LinkLoss { link, loss }) in losses.into_iter().enumerate() {
-            let ends = loss.to.is_none_or(|to| loss.from < to);
+            let ends = loss.to.map_or(true, |to| loss.from < to);
             assert!(link < self.links.len() && ends, "loss {place} is none");
             self.links[link].losses.push(loss);
         }

@@ -216,9 +216,6 @@ foreach drop $drops {
     $loss drop-target [$ns set nullAgent_]
     $ns at 0.5 "$ns lossmodel $loss $node($a) $node($b)"
 }
-if {$losses != {}} {                       ;# the first random numbers of a small seed are small
-    for {set skipped 0} {$skipped < 100} {incr skipped} { ns-random }
-}
 foreach loss $losses {
     lassign $loss place rate
     lassign [lindex $links $place] a b

@@ -8,13 +8,13 @@ from srm_lab.scenario import Scenario
 
 
 class Crossings:
-    """How many packets of each kind crossed each link, and how many were dropped at it.
+    """How many packets of each kind crossed each link in the run of a seed, and how many were dropped at it.
 
     `crossed` is by (link, kind), `dropped` by link.
     """
 
-    def __init__(self, given: Scenario):
-        self.given = given
+    def __init__(self, given: Scenario, seed: int = 0):
+        self.given, self.seed = given, seed
         self._whole: Counter[tuple[int, str]] = Counter()
         self._parts: Counter[tuple[int, str]] = Counter()
         self.dropped: Counter[int] = Counter()
@@ -23,7 +23,7 @@ class Crossings:
     def take(self, packet: Packet) -> None:
         """Counts a packet that was sent."""
         dropping = self.given.drops_of.get((packet.sender, packet.count), frozenset())
-        if dropping or self.given.outages:
+        if dropping or self.given.outages or self.given.random_losses:
             self._walk(packet, dropping)
         else:
             self._whole[packet.sender, packet.kind] += 1
@@ -57,9 +57,14 @@ class Crossings:
         through: list[bool] = []
         for link, before, offset in self._way(packet.sender):
             came = before < 0 or through[before]
-            taken = came and (link in dropping or self.given.is_out(link, packet.time + offset))
+            taken = came and (link in dropping or self._is_taken(link, packet, packet.time + offset))
             if taken:
                 self.dropped[link] += 1
             elif came:
                 self._parts[link, packet.kind] += 1
             through.append(came and not taken)
+
+    def _is_taken(self, link: int, packet: Packet, at: int) -> bool:
+        """Whether a link takes a packet that comes to it at a tick, in an outage or at random."""
+        given = self.given
+        return given.is_out(link, at) or given.is_lost(link, packet.sender, packet.count, at, self.seed)

@@ -15,7 +15,7 @@ class MembersTable:
 
     header = "member,role,node,joined,left,drawn,heard,lost,fixed,open,requests,repairs,sessions"
 
-    def __init__(self, given):
+    def __init__(self, given, seed=0):
         self.given = given
         self._counts = defaultdict(Counter)
         self._times = {}
@@ -46,7 +46,7 @@ class LossesTable:
 
     header = "member,source,page,number,detected,recovered,delay"
 
-    def __init__(self, given):
+    def __init__(self, given, seed=0):
         self.given = given
         self.losses = []
 
@@ -70,9 +70,9 @@ class LinksTable:
 
     header = "link,data,requests,repairs,sessions,dropped"
 
-    def __init__(self, given):
+    def __init__(self, given, seed=0):
         self.given = given
-        self._crossings = Crossings(given)
+        self._crossings = Crossings(given, seed)
 
     def take(self, step, clocks):
         if step.sent is not None:
@@ -89,7 +89,7 @@ class OperationsTable:
 
     header = "source,page,number,losers,recovered,left,detected,asked,requests,repairs,last,delay"
 
-    def __init__(self, given):
+    def __init__(self, given, seed=0):
         self.given = given
         self._losses = defaultdict(list)
         self._sent: dict = {"request": defaultdict(list), "repair": defaultdict(list)}
@@ -119,9 +119,9 @@ class OperationsTable:
 TABLES: dict = {"losses": LossesTable, "operations": OperationsTable, "members": MembersTable, "links": LinksTable}
 
 
-def second(given, rows, tables=tuple(TABLES)):
-    """The texts of the tables of these names, after every row of a trace."""
-    made, clocks = {name: TABLES[name](given) for name in tables}, Clocks()
+def second(given, rows, seed=0, tables=tuple(TABLES)):
+    """The texts of the tables of these names, after every row of the trace of a seed."""
+    made, clocks = {name: TABLES[name](given, seed) for name in tables}, Clocks()
     for step in Follower(given).follow(rows):
         clocks.take(step)
         for table in made.values():

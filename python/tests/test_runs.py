@@ -58,7 +58,7 @@ def has_operations(program):
                          ids=[*(path.stem for path in FILES), *(f"random-{place}" for place in range(len(RANDOM)))])
 def test_tables_are_those_that_the_program_writes_and_that_a_trace_gives(text, program, srm_lab, has_operations):
     given = read_scenario(text)
-    computed = second(given, read_trace(io.StringIO(srm_lab(text, "--seed", "3"))))
+    computed = second(given, read_trace(io.StringIO(srm_lab(text, "--seed", "3"))), 3)
     tables = [*(name for name in computed if name != "operations" or has_operations), "trace", "constants"]
     runs = run(given, seeds=[3], tables=tables, program=program, cache=None)
     for name in tables:

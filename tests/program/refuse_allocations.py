@@ -41,7 +41,8 @@ REPLICATIONS = {
     for table, workers in (("trace", 1), ("losses", 1), ("trace", 3), ("losses", 3))
 }
 EXAMPLES = TOP / "examples"
-FEW = [EXAMPLES / f"{name}.toml" for name in ("two-nodes", "chain-of-five-one-loss", "star-loss-at-the-source")]
+NAMES_OF_FEW = ("two-nodes", "chain-of-five-one-loss", "star-loss-at-the-source", "losses-at-random")
+FEW = [EXAMPLES / f"{name}.toml" for name in NAMES_OF_FEW]
 # crates of tests, or a module of one, whose tests pass whichever allocation is refused
 TESTS = (
     "srm_member_and_role_tests",

@@ -370,7 +370,7 @@ class Scenario:
             if not any_packet:
                 losses.check_that_data_is_lost(made, one)
             return made
-        if sender is None and packets is None and (self.version is None or VERSIONS[self.version].losses):
+        if sender is None and packets is None and (self.version not in VERSIONS or VERSIONS[self.version].losses):
             return self._lossy(_probability(rate), named, stream, first, last)
         if has_place:
             raise ScenarioError("lose: stream, first and last are of losses at random, which know no sender and no packets, "
