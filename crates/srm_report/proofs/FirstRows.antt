@@ -1,6 +1,6 @@
 -- The first rows that tell of an operation are the earliest.
-use Rattle.std.proofs.Common.{◌≡◌, ◌∙◌, ◌⊎◌, inl, inr, ℕ, zero, suc, ◌≤◌, Bool, true, false, cond, ◌&&◌, ◌||◌, List, [], ◌∷◌, map, min}
-use Rattle.std.proofs.Common.{Option, Some, None, refl, ap, sym, subst, ◌==◌, eq-eqb, true≢false, filter, arith, Less}
+use Rattle.std.proofs.Common.{◌≡◌, ◌∙◌, ◌⊎◌, inl, inr, ℕ, zero, suc, ◌≤◌, Bool, true, false, cond, ◌&&◌, ◌||◌, List, [], ◌∷◌, map}
+use Rattle.std.proofs.Common.{Option, Some, None, refl, ap, sym, subst, ◌==◌, eq-eqb, true≢false, arith, Less}
 use Rattle.std.specs.List.{Contains, find, fold, list_any}
 use Rattle.std.specs.Ordering.{eq_by_cmp}
 use Rattle.std.proofs.lemmas.List.Elements.{Contains-append_right}
@@ -11,12 +11,11 @@ use Rattle.srm_net.specs.Keys.{key_cmp}
 use Rattle.srm_net.specs.Orders.{AllAfter, Ascends}
 use Rattle.srm_member.specs.declared.row.Row.{Row}
 use Rattle.srm_member.specs.Kinds.{is_ask}
-use Rattle.srm_member.specs.Orderly.{IsOrderly}
 use Rattle.srm_member.proofs.TableChanges.{name_is, same_names}
 use Rattle.srm_report.specs.declared.loss.Loss.{Loss}
 use Rattle.srm_report.specs.Losses.{detected_at, detects, loss_cmp, losses_in}
 use Rattle.srm_report.specs.OperationLaws.{FirstsAreLeast, loses}
-use Rattle.srm_report.specs.Operations.{all_losses, asked_in, earliest, losses_of, named, sends_for, sooner}
+use Rattle.srm_report.specs.Operations.{all_losses, earliest, losses_of, named, sends_for, sooner}
 use Rattle.srm_report.specs.Rows.{is_name, row_time}
 use Rattle.srm_report.proofs.CourseLemmas.{loss_is, loss_total, losses_apart, named_in, second_true}
 use Rattle.srm_report.proofs.EntryLemmas.{any_ordered, first_false, second_false}

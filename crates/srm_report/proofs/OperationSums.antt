@@ -1,12 +1,11 @@
 -- What the table of operations and the table of members count is the same.
-use Rattle.std.proofs.Common.{◌≡◌, ◌∙◌, ◌⊎◌, inl, inr, ℕ, ◌+◌, ◌<◌, Bool, true, false, cond, ◌&&◌, ◌||◌, List, [], ◌∷◌, ◌++◌, map, refl}
-use Rattle.std.proofs.Common.{ap, sym, subst, All, arith}
+use Rattle.std.proofs.Common.{◌≡◌, ◌∙◌, ◌⊎◌, inl, inr, ℕ, ◌<◌, Bool, true, false, cond, ◌&&◌, ◌||◌, List, [], ◌∷◌, map, refl}
+use Rattle.std.proofs.Common.{sym, subst, append-nil, length, All, arith}
 use Rattle.std.specs.List.{Contains, count_by, list_any, range_with_len, sum_by}
 use Rattle.std.proofs.lemmas.List.Folds.{list_any-append}
 use Rattle.srm_net.specs.declared.packet.Name.{Name}
 use Rattle.srm_scenario.proofs.Tables.{list_any-map}
 use Rattle.srm_member.specs.ByMember.{rows_of_member}
-use Rattle.srm_member.specs.declared.row.About.TheVariants.{Named}
 use Rattle.srm_member.specs.declared.row.Row.{Row}
 use Rattle.srm_member.specs.declared.row.Word.{Word}
 use Rattle.srm_member.specs.declared.row.Word.TheVariants.{Answer, Ask}
@@ -15,10 +14,16 @@ use Rattle.srm_member.specs.declared.told.Told.TheVariants.{Sent}
 use Rattle.srm_member.specs.Kinds.{is_answer, is_ask, is_sent}
 use Rattle.srm_member.specs.Orderly.{IsAmong, IsOrderly, LostIn}
 use Rattle.srm_member.proofs.TableChanges.{name_is}
+use Rattle.srm_cell.specs.Setting.{setting_of}
+use Rattle.srm_cell.proofs.FitSettings.{settings_are_fit}
+use Rattle.srm_model.specs.SentForLost.{IsForLost}
+use Rattle.srm_model.proofs.OrderlyRuns.{traces_are_orderly}
+use Rattle.srm_model.proofs.SentForLost.{sendings_are_for_losses}
+use Rattle.srm_scenario.specs.Plain.{network_of}
 use Rattle.srm_report.specs.declared.loss.Loss.{Loss}
 use Rattle.srm_report.specs.Losses.{loss_cmp, losses_in}
 use Rattle.srm_report.specs.Members.{counts_of}
-use Rattle.srm_report.specs.OperationLaws.{IsForLost, loses, SendingsAddUp}
+use Rattle.srm_report.specs.OperationLaws.{AddUp, loses, SendingsAddUp}
 use Rattle.srm_report.specs.Operations.{all_losses, is_about, names_lost, sends_for}
 use Rattle.srm_report.specs.Rows.{is_name, sent_rows}
 use Rattle.srm_report.proofs.CourseLemmas.{first_true, loss_total, second_true}
@@ -93,9 +98,16 @@ asks_answer w h = inr (grind arith)
 all_in : {A : Type 0} (P : A → Type 0) (xs : List A) → All P xs → (x : A) → Contains xs x → P x
 all_in P xs h x (i, l, e) = subst P e (h i x l)
 
-pub sendings_add_up : SendingsAddUp
+-- where each request and repair was sent for a name that some member lost
+rows_add_up : (members : ℕ) (rows : List Row) → IsOrderly members rows → All (IsForLost rows) rows → AddUp members rows
 unfolding counts_of
-sendings_add_up members rows o h =
+rows_add_up members rows o h =
     let for_lost = all_in (IsForLost rows) rows h in
     let below : (r : Row) → Contains rows r → r.key.member < members = λ r c. (all_in (IsAmong members) rows o.among r c).member in
     (same_sum is_ask asks_ask rows for_lost members below, same_sum is_answer asks_answer rows for_lost members below)
+
+pub sendings_add_up : SendingsAddUp
+sendings_add_up p seed w a reached =
+    rows_add_up (length p.members) w.trace
+    (traces_are_orderly p seed a w reached w.trace [] (sym (append-nil w.trace)))
+    (sendings_are_for_losses (setting_of p (network_of p) seed) w (settings_are_fit p seed a) reached)

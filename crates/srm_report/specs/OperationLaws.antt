@@ -1,14 +1,15 @@
 -- Laws of the table of operations.
-use Rattle.std.specs.Prelude.{◌≡◌, ◌+◌, ◌⊎◌, ℕ, Bool, List, All}
+use Rattle.std.specs.Prelude.{◌≡◌, ◌+◌, ℕ, Bool, List, length}
 use Rattle.std.specs.List.{count_by, find, list_any, range_with_len, sum_by}
 use Rattle.srm_net.specs.declared.packet.Name.{Name}
 use Rattle.srm_member.specs.ByMember.{rows_of_member}
-use Rattle.srm_member.specs.declared.row.About.TheVariants.{Named}
 use Rattle.srm_member.specs.declared.row.Row.{Row}
-use Rattle.srm_member.specs.declared.row.Word.TheVariants.{Answer, Ask}
-use Rattle.srm_member.specs.declared.told.Told.TheVariants.{Sent}
 use Rattle.srm_member.specs.Kinds.{is_ask}
-use Rattle.srm_member.specs.Orderly.{IsOrderly, LostIn}
+use Rattle.srm_member.specs.Orderly.{IsOrderly}
+use Rattle.srm_cell.specs.Setting.{setting_of}
+use Rattle.srm_model.specs.World.{IsReached, World}
+use Rattle.srm_scenario.specs.Accepted.{IsAccepted}
+use Rattle.srm_scenario.specs.Plain.{network_of, PlainScenario}
 use Rattle.srm_report.specs.Members.{counts_of}
 use Rattle.srm_report.specs.Operations.{is_open, losses_of, names_lost, sending_of, sends_for, tally_of}
 use Rattle.srm_report.specs.Rows.{is_name, row_time}
@@ -22,19 +23,18 @@ LosersAddUp = (rows : List Row) (n : Name)
 
 -- ---- sums over the table
 
--- a request or repair that the row tells of is for a name that some member lost
-abbrev pub IsForLost : List Row → Row → Type 0
-IsForLost rows r =
-    (r.cause ≡ Ask) ⊎ (r.cause ≡ Answer) → r.told ≡ Sent
-    → (n : Name) × (r.about ≡ Named n) × (m : ℕ) × LostIn m n rows
-
 -- requests, and repairs, of all operations are those of all members
-abbrev pub SendingsAddUp : Type 0
-SendingsAddUp = (members : ℕ) (rows : List Row) → IsOrderly members rows → All (IsForLost rows) rows
-    → (sum_by (λ n. (sending_of rows n).requests) (names_lost rows)
+abbrev pub AddUp : ℕ → List Row → Type 0
+AddUp members rows =
+    (sum_by (λ n. (sending_of rows n).requests) (names_lost rows)
     ≡ sum_by (λ m. (counts_of (rows_of_member m rows)).requests) (range_with_len 0 members))
     × (sum_by (λ n. (sending_of rows n).repairs) (names_lost rows)
     ≡ sum_by (λ m. (counts_of (rows_of_member m rows)).repairs) (range_with_len 0 members))
+
+-- so it is in each run of an accepted scenario, and in each part of it up to a row
+abbrev pub SendingsAddUp : Type 0
+SendingsAddUp = (p : PlainScenario) (seed : ℕ) (w : World) → IsAccepted p
+    → IsReached (setting_of p (network_of p) seed) w → AddUp (length p.members) w.trace
 
 -- ---- the first to detect, and to ask
 

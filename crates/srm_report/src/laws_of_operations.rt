@@ -6,8 +6,8 @@ pub fn losers_add_up()
     ensures { LosersAddUp }
 {}
 
-/// Where every request and repair is for a name that some member lost, those of all operations are as many as those of all
-/// members: what the tables of operations and of members count is the same.
+/// In each run of an accepted scenario, and in each part of it up to a row, requests of all operations are as many as those of
+/// all members, and repairs too: what the tables of operations and of members count is the same.
 pub fn sendings_add_up()
     ensures { SendingsAddUp }
 {}
