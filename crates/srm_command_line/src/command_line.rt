@@ -321,7 +321,8 @@ fn may_be_replicated(seed: u64, engine: Engine, replications: Option<u32>) -> bo
     }
 }
 
-// The options of words that `clap` has read, with so many workers and replications; none where a text is none that its option takes.
+// The options of words that `clap` has read, with so many workers and replications; none where a text is none that its
+// option takes.
 fn options_among(
     matches: &ArgMatches<'_>,
     workers: u8,

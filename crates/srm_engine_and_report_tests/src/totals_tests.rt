@@ -23,8 +23,8 @@ use std::process::Abort;
 use std::sync::Arc;
 use std::sync::atomic::AtomicU64;
 
-// How many rows the run of this scenario has, as examples/chain-of-five-one-loss.trace.csv stores them. Its members hold packets, so
-// that each asks for memory where it is finished.
+// How many rows the run of this scenario has, as examples/chain-of-five-one-loss.trace.csv stores them. Its members hold
+// packets, so that each asks for memory where it is finished.
 const ALL_ROWS: usize = 22;
 
 // A run of these members, in windows or one event after the other. They are of any type, since no `Start` can be of boxes.

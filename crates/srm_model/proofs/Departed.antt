@@ -43,7 +43,7 @@ module _ (s : Setting) (fit : IsFit s) where
   hear_at_holds p None c = refl
   hear_at_holds p (Some at) c = refl
 
-  told_holds : (x : Option Packet) (m : ℕ) (c : PlainCell) → (told_to s.traffic x m c).holds ≡ c.holds
+  pub told_holds : (x : Option Packet) (m : ℕ) (c : PlainCell) → (told_to s.traffic x m c).holds ≡ c.holds
   unfolding hear
   told_holds None m c = refl
   told_holds (Some p) m c = hear_at_holds p (arrival_of s.traffic p m) c

@@ -28,3 +28,5 @@ pub mod WindowPackets
 pub mod WindowRows
 pub mod Fronts
 pub mod StandAlike
+pub mod RepairTimers
+pub mod SentForLost

@@ -11,3 +11,4 @@ pub mod HeldNames
 pub mod OneLoss
 pub mod Tables
 pub mod Totalled
+pub mod SentForLost

@@ -1,6 +1,7 @@
 //! The laws of names: members end with what their rows say, and ask and answer for names that they lack or have.
 ghost use Rattle.std.specs.Prelude.{◌≡◌, [], ◌∷◌};
 ghost use Rattle.srm_model.specs.HeldNames.{ExitsAreWhatRowsSay, RequestsAreForLosses, RepairsAreOfHeld};
+ghost use Rattle.srm_model.specs.SentForLost.{SendingsAreForLosses};
 ghost use Rattle.srm_model.specs.OneLoss.{one_loss, handings, ends, first_name, second_name, an_exit};
 
 /// A member holds exactly the names that it drew or took in, each with the ink with which its source drew it, and lacks exactly
@@ -12,6 +13,11 @@ pub fn exits_are_what_rows_say()
 /// A request is sent only for a name that its sender lost, and has not fixed.
 pub fn requests_are_for_losses()
     ensures { RequestsAreForLosses }
+{}
+
+/// Each request and each repair that the rows tell of was sent for a name that some member lost.
+pub fn sendings_are_for_losses()
+    ensures { SendingsAreForLosses }
 {}
 
 /// A repair is sent only for a name that its sender drew or took in earlier, with the ink with which its source drew it.

@@ -40,7 +40,7 @@ loss_total = on_total numbers_of_loss nat_list_cmp_total
 loss_self : (k : Loss) → loss_cmp k k ≡ Equal
 loss_self k = grind arith
 
-loss_is : (k : Loss) → eq_by_cmp loss_cmp k k ≡ true
+pub loss_is : (k : Loss) → eq_by_cmp loss_cmp k k ≡ true
 loss_is k = ap is_eq (loss_self k)
 
 pub losses_apart : (j k : Loss) → (j ≡ k) ⊎ (eq_by_cmp loss_cmp j k ≡ false)

@@ -10,11 +10,14 @@ pub mod LinkLemmas
 pub mod ListingLemmas
 pub mod LossLemmas
 pub mod MemberLemmas
+mod FirstRows
 pub mod OperationLemmas
+mod OperationSums
 pub mod PieceLemmas
 pub mod SeedLemmas
 pub mod SendingLemmas
 pub mod SinkLemmas
 pub mod TableLemmas
 pub mod TallyLemmas
+mod SumLemmas
 mod TurnLemmas
