@@ -19,7 +19,7 @@ use srm_ledger::totals::Totals;
 use srm_member::participant::Participant;
 use std::alloc::Global;
 
-// The run by the engine that is asked for, its rows handed to a sink.
+// The run by the engine that is asked for, its rows handed to a sink. In windows of time this crew leads it.
 pub(crate) fn hand_rows<M: Participant, C: Crew<M>, S: RowSink>(
     alloc: Global,
     asked: Asked<M>,
@@ -31,50 +31,21 @@ pub(crate) fn hand_rows<M: Participant, C: Crew<M>, S: RowSink>(
     requires failures { S.failures sink.old < 2 ^ 64 - 1 }
     ensures { HandsOn S.RowSink asked.entry.task (map M.plain asked.entry.members.items) sink.old result sink.new }
 {
-    match asked.task.options.engine {
-        Engine::Step => in_steps(alloc, asked, sink),
-        Engine::Window => in_windows(alloc, asked, crew, sink),
-    }
-}
-
-// The run one event after the other.
-fn in_steps<M: Participant, S: RowSink>(
-    alloc: Global,
-    asked: Asked<M>,
-    sink: &mut S,
-) -> Result<Totals, LabFault>
-    requires engine { asked.task.options.engine ≡ Engine.Step }
-    requires open { IsOpen (S.stage sink.old) }
-    requires failures { S.failures sink.old < 2 ^ 64 - 1 }
-    ensures { HandsOn S.RowSink asked.entry.task (map M.plain asked.entry.members.items) sink.old result sink.new }
-{
     let Asked { task, members } = asked;
-    let start = Start { session: task.session, members };
-    match step_rows(alloc, start, sink) {
-        Ok(totals) => Ok(totals),
-        Err(fault) => Err(lab_fault(fault)),
-    }
-}
-
-// The run in windows of time, with this crew.
-fn in_windows<M: Participant, C: Crew<M>, S: RowSink>(
-    alloc: Global,
-    asked: Asked<M>,
-    crew: &mut C,
-    sink: &mut S,
-) -> Result<Totals, LabFault>
-    requires engine { asked.task.options.engine ≡ Engine.Window }
-    requires crew { MayLead C.Crew crew.old asked.task.session }
-    requires open { IsOpen (S.stage sink.old) }
-    requires failures { S.failures sink.old < 2 ^ 64 - 1 }
-    ensures { HandsOn S.RowSink asked.entry.task (map M.plain asked.entry.members.items) sink.old result sink.new }
-{
-    let Asked { task, members } = asked;
-    let start = Start { session: task.session, members };
     let Options { cut, width, .. } = task.options;
-    match window_rows(alloc, start, crew, Windows { cut, width }, sink) {
-        Ok(totals) => Ok(totals),
-        Err(fault) => Err(lab_fault(fault)),
+    let start = Start {
+        session: task.session,
+        members,
+    };
+    match task.options.engine {
+        Engine::Step => match step_rows(alloc, start, sink) {
+            Ok(totals) => Ok(totals),
+            Err(fault) => Err(lab_fault(fault)),
+        },
+        Engine::Window => match window_rows(alloc, start, crew, Windows { cut, width }, sink) {
+            Ok(totals) => Ok(totals),
+            Err(fault) => Err(lab_fault(fault)),
+        },
     }
 }
 

@@ -92,13 +92,7 @@ fn lead_beside<
 }
 
 // The report by a team that has this history. Where memory for a team is refused, one thread does all the work.
-fn by_team<
-    'a,
-    J: Naming + Send + Sync,
-    R: Threads + Wait + Sync,
-    M: Participant + Send,
-    O: Outlet,
->(
+fn by_team<'a, J: Naming + Send + Sync, R: Threads + Wait + Sync, M: Participant + Send, O: Outlet>(
     rt: &R,
     alloc: Global,
     opened: Opened<Advancing<'a>, Piece<M>>,

@@ -1,12 +1,7 @@
 //! Tables that list rows, written as the rows of a run come.
-ghost use Rattle.std.specs.Prelude.{◌≡◌, ◌<◌, ◌-◌, ◌^◌, Some, [], map};
-ghost use Rattle.srm_interfaces.specs.declared.sink.Stage.{Stage};
-ghost use Rattle.srm_report.specs.ListingSinks.{stage_of, outlet_under, gathered_by, gathering_room, written_by, AreOverOne};
-ghost use Rattle.srm_report.specs.Listings.{text_in};
+ghost use Rattle.std.specs.Prelude.{◌≡◌, ◌<◌, ◌-◌, ◌^◌, Some, map};
 ghost use Rattle.srm_engine.specs.Starts.{AreOpening};
-ghost use Rattle.srm_program.specs.Askings.{ForEachSeed, IsListed, MayLead};
-ghost use Rattle.srm_program.specs.Reports.{failures_after_run, TellsListing};
-ghost use Rattle.srm_program.specs.Runs.{MayBreakOff, TellsRefusedFor};
+ghost use Rattle.srm_program.specs.Askings.{IsListed, MayLead};
 
 use crate::asked::Asked;
 use crate::fault::LabFault;
@@ -39,35 +34,7 @@ const GATHERED: usize = 8_192;
 // How many rows a window has at least whose text the workers make.
 const MANY_ROWS: usize = 200;
 
-// Writes the rows through a new sink, as they come, and then what it gathered.
-fn write_rows<M: Participant, C: Crew<M>, L: Listing, O: Outlet>(
-    alloc: Global,
-    asked: Asked<M>,
-    crew: &mut C,
-    sink: &mut ListingSink<L, O>,
-) -> Result<(), LabFault>
-    requires crew { MayLead C.Crew crew.old asked.task.session }
-    requires fresh { stage_of sink.old ≡ Stage.Fresh }
-    requires gathered { gathered_by sink.old ≡ [] }
-    requires written { written_by sink.old ≡ 0 }
-    requires count { O.failures (outlet_under sink.old) < 2 ^ 64 - 1 }
-    ensures outlet { AreOverOne sink.old sink.new }
-    ensures failures { O.failures (outlet_under sink.new)
-        ≡ failures_after_run result (O.failures (outlet_under sink.old)) }
-    ensures listing { ForEachSeed asked.entry.task (map M.plain asked.entry.members.items) (λ p net seed. TellsListing (text_in L.form) (gathering_room sink.old)
-        (MayBreakOff p net seed asked.entry.task.options) p net seed (O.taken (outlet_under sink.old)) (O.taken (outlet_under sink.new)) result) }
-    ensures asked { ForEachSeed asked.entry.task (map M.plain asked.entry.members.items) (λ p net seed. TellsRefusedFor p net seed asked.entry.task.options result) }
-{
-    match hand_rows(alloc, asked, crew, sink) {
-        Ok(_) => match sink.flush() {
-            Ok(()) => Ok(()),
-            Err(WriteFault { written }) => Err(LabFault::WriteFault { written }),
-        },
-        Err(fault) => Err(fault),
-    }
-}
-
-// Writes a table as its rows come, through a sink of its own.
+// Writes a table as its rows come, through a sink of its own, and then what the sink gathered.
 fn write_table<M: Participant, C: Crew<M>, L: Listing, O: Outlet>(
     alloc: Global,
     asked: Asked<M>,
@@ -80,7 +47,13 @@ fn write_table<M: Participant, C: Crew<M>, L: Listing, O: Outlet>(
     ensures { IsListed O.Outlet L.form asked.entry.task (map M.plain asked.entry.members.items) outlet.old result outlet.new }
 {
     let mut sink = ListingSink::gathering(alloc, listing, outlet, GATHERED);
-    let answer = write_rows(alloc, asked, crew, &mut sink);
+    let answer = match hand_rows(alloc, asked, crew, &mut sink) {
+        Ok(_) => match sink.flush() {
+            Ok(()) => Ok(()),
+            Err(WriteFault { written }) => Err(LabFault::WriteFault { written }),
+        },
+        Err(fault) => Err(fault),
+    };
     // By its contract, the outlet is then as the sink left it.
     let _outlet = sink.into_outlet();
     answer
@@ -101,7 +74,10 @@ fn write_waiting<M: Participant, C: Crew<M>, L: Listing, O: Outlet>(
         → IsListed O.Outlet L.form task.now (map M.plain l.1.items) outlet.old result outlet.new }
 {
     let (listing, members) = waiting.take().unwrap();
-    let asked = Asked { task: *task, members };
+    let asked = Asked {
+        task: *task,
+        members,
+    };
     write_table(alloc, asked, crew, listing, outlet)
 }
 
@@ -204,7 +180,15 @@ pub(crate) fn write_listing<
 {
     let o = asked.task.options;
     if o.engine == Engine::Window && o.crew == CrewKind::Team && o.workers > 1 {
-        return write_by_team::<Brand, R, M, C, L, O>(rt, alloc, Opened::new(), asked, crew, listing, outlet);
+        return write_by_team::<Brand, R, M, C, L, O>(
+            rt,
+            alloc,
+            Opened::new(),
+            asked,
+            crew,
+            listing,
+            outlet,
+        );
     }
     write_table(alloc, asked, crew, listing, outlet)
 }

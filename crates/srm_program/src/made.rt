@@ -51,11 +51,7 @@ impl Made {
 }
 
 // All members of a scenario, in order of their numbers.
-pub(crate) fn made_members(
-    alloc: Global,
-    session: Session,
-    seed: u64,
-) -> Result<Vec<Made>, Fault>
+pub(crate) fn made_members(alloc: Global, session: Session, seed: u64) -> Result<Vec<Made>, Fault>
     ensures { MatchResult result
         (λ all. HoldOpeningRecords session.entry.scenario.now session.entry.net.now seed (map record_made all.items))
         (λ e. e ≡ fault.NoMemory) }

@@ -1,3 +1,5 @@
+use denote.Exit.{no}
+use denote.Param.Send.{arg_send, param_send}
 use Rattle.std.proofs.Common.{rules, ◌≡◌, refl}
 use Rattle.srm_program.proofs.in_team.lead_beside.Goals as goal
 
@@ -12,7 +14,7 @@ join_mut-answer-requires-after_bounds g c κs within = (
       c.requires.opening,
       c.requires.count,
     ),
-    (c.type_bounds.send-M, c.type_bounds.sync-R),
+    (param_send 1 _ (arg_send _ no _ c.type_bounds.send-M), record { shared = c.type_bounds.sync-R.shared }),
   ),
 )
 
