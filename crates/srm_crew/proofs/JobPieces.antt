@@ -24,25 +24,25 @@ use Rattle.srm_crew.specs.Teams.{PutTogether}
 use Rattle.srm_interfaces.proofs.InPieces.{all_in}
 use Rattle.srm_net.proofs.Basics.{zip_append}
 
-any_first : (o : StepOutcome Stepped) (ps qs : List PlainJob) → AnyEnds o ps → AnyEnds o (ps ++ qs)
+pub any_first : (o : StepOutcome Stepped) (ps qs : List PlainJob) → AnyEnds o ps → AnyEnds o (ps ++ qs)
 any_first o [] qs h = absurd h
 any_first o (p ∷ ps) qs (inl a) = inl a
 any_first o (p ∷ ps) qs (inr a) = inr (any_first o ps qs a)
 
-any_last : (o : StepOutcome Stepped) (ps qs : List PlainJob) → AnyEnds o qs → AnyEnds o (ps ++ qs)
+pub any_last : (o : StepOutcome Stepped) (ps qs : List PlainJob) → AnyEnds o qs → AnyEnds o (ps ++ qs)
 any_last o [] qs h = h
 any_last o (p ∷ ps) qs h = inr (any_last o ps qs h)
 
 module _ {M : Type 0} (f : M → Record) where
   -- where jobs are seen as these, the first of them are seen as the first of these, and the others as the others
-  record Parted (xs ys : List (Job M)) (ps : List PlainJob) : Type 0 where
+  pub record Parted (xs ys : List (Job M)) (ps : List PlainJob) : Type 0 where
     pub first : List PlainJob
     pub others : List PlainJob
     pub whole : ps ≡ first ++ others
     pub one : AreJobs f xs first
     pub more : AreJobs f ys others
 
-  parted : (xs ys : List (Job M)) (ps : List PlainJob) → AreJobs f (xs ++ ys) ps → Parted xs ys ps
+  pub parted : (xs ys : List (Job M)) (ps : List PlainJob) → AreJobs f (xs ++ ys) ps → Parted xs ys ps
   parted [] ys ps h = record { first = []; others = ps; whole = refl; one = tt; more = h }
   parted (x ∷ xs) ys [] h = absurd h
   parted (x ∷ xs) ys (p ∷ ps) h =

@@ -13,7 +13,7 @@ use Rattle.srm_cell.specs.Jobs.{PlainJob, MayAdvance}
 use Rattle.srm_interfaces.specs.Crews.{AreJobs, AdvanceEach, TellsEach}
 
 module _ {M : Type 0} where
-  seen_jobs : (f : M → Record) (n : ℕ) (js : List (Job M)) → All (λ j. MayAdvance f n j) js → (ps : List PlainJob)
+  pub seen_jobs : (f : M → Record) (n : ℕ) (js : List (Job M)) → All (λ j. MayAdvance f n j) js → (ps : List PlainJob)
       × AreJobs f js ps
   seen_jobs f n [] h = ([], tt)
   seen_jobs f n (j ∷ js) h =

@@ -28,7 +28,7 @@ module _ {M : Type 0} where
   abbrev numbers : job.Done M → List ℕ
   numbers d = d.crossings
 
-  sum_of_is : (k : ℕ) (ds : List (job.Done M)) → sum_of numbers k ds ≡ sum_at k ds
+  pub sum_of_is : (k : ℕ) (ds : List (job.Done M)) → sum_of numbers k ds ≡ sum_at k ds
   sum_of_is k [] = refl
   sum_of_is k (d ∷ ds) = ap (λ n. counted_in d.crossings k + n) (sum_of_is k ds)
 

@@ -9,4 +9,6 @@ pub mod Ordering
 pub mod JobsShared
 pub mod JobPieces
 pub mod Hearers
+pub mod Counts
 mod WatchedSoFar
+pub mod WatchedPieces

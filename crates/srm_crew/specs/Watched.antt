@@ -1,16 +1,28 @@
 -- A watched job, advanced.
-use Rattle.std.specs.Prelude.{List, Result, Ok, Err}
+use Rattle.std.specs.Prelude.{◌≡◌, List, All, length, Result, Ok, Err}
+use Rattle.std.specs.Global.{Vec}
 use Rattle.srm_net.specs.Network.{Network}
-use Rattle.srm_scenario.specs.Plain.{PlainScenario}
+use Rattle.srm_scenario.specs.Plain.{PlainScenario, network_of}
 use Rattle.srm_member.specs.declared.row.Row.{Row}
 use Rattle.srm_member.specs.Record.{Record}
 use Rattle.srm_cell.specs.declared.job.Done as job
 use Rattle.srm_cell.specs.declared.fault.CellFault.{CellFault}
 use Rattle.srm_cell.specs.declared.fault.CellFault.TheVariants as fault
-use Rattle.srm_cell.specs.Jobs.{Advances}
+use Rattle.srm_cell.specs.Jobs.{Advances, MayAdvance}
+use Rattle.srm_ledger.specs.Seats.{SeatView}
+use Rattle.srm_interfaces.specs.declared.fault.CrewFault.{CrewFault}
+use Rattle.srm_interfaces.specs.declared.fault.CrewFault.TheVariants as crew
+use Rattle.srm_interfaces.specs.Crews.{HasGrown, IsPast}
+use Rattle.srm_interfaces.specs.Faults.{crew_fault_of}
+use Rattle.srm_crew.specs.Shared.{sum_of}
+use Rattle.srm_crew.specs.declared.watching.Watching.{Watching}
 use Rattle.srm_interfaces.specs.declared.watched.WatchedJob.{WatchedJob}
 use Rattle.srm_interfaces.specs.declared.watched.WatchedDone.{WatchedDone}
-use Rattle.srm_interfaces.specs.Watches.{Watches, job_in}
+use Rattle.srm_interfaces.specs.Watches.{HaveKept, Watches, job_in, jobs_in}
+
+-- the work is on runs of this scenario on this network
+abbrev pub IsWatchOn : {W : Type 0} → Watching W → PlainScenario → Network → Type 0
+IsWatchOn w k net = (w.scenario.now ≡ k) × (w.net.now ≡ net)
 
 module _ {M K : Type 0} where
   -- what advancing one watched job tells: what is left of what is done of it; or why not, as without a watch, but
@@ -21,3 +33,19 @@ module _ {M K : Type 0} where
       (d : job.Done M) × Advances f k net (job_in j) (Ok d) × Watches keeps k net j.kept.items d e
   AdvanceOne f keeps k net j (Err fault.NoMemory) = Unit {0}
   AdvanceOne f keeps k net j (Err e) = Advances f k net (job_in j) (Err e)
+
+  -- the jobs may be advanced, and something is kept of each of their cells
+  abbrev pub MayWatch : (M → Record) → PlainScenario → Network → List (WatchedJob M K) → Type 0
+  MayWatch f k net js =
+      (net ≡ network_of k) × All (λ j. MayAdvance f (length net.hosts) j) (jobs_in js) × All HaveKept js
+
+  -- what adding the crossings of all that is left tells: all of it, with a seat that has grown by them; or the refusal
+  -- of the cells; or else, that a share would be past its bound
+  abbrev pub SettlesWatched : SeatView → Result (Vec (WatchedDone M K)) CellFault
+      → Result (Vec (WatchedDone M K) × SeatView) CrewFault → Type 0
+  SettlesWatched seat (Ok all) (Ok r) =
+      (r.0 ≡ all) × HasGrown (λ k. sum_of (λ (e : WatchedDone M K). e.crossings) k all.items) seat r.1
+  SettlesWatched seat (Ok all) (Err crew.ShareFull) =
+      IsPast (λ k. sum_of (λ (e : WatchedDone M K). e.crossings) k all.items) seat
+  SettlesWatched seat (Err e) (Err f) = f ≡ crew_fault_of e
+  SettlesWatched seat _ _ = ⊥

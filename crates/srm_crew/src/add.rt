@@ -1,15 +1,19 @@
 //! Crossings, added to a ledger.
-ghost use Rattle.std.specs.Prelude.{◌≡◌, ◌<◌, ◌≤◌, ◌+◌, ◌*◌, ◌^◌, ℕ, List, length, All, Err, IfErr, MatchResult};
+ghost use Rattle.std.specs.Prelude.{◌≡◌, ◌<◌, ◌≤◌, ◌+◌, ◌*◌, ◌^◌, ℕ, List, length, All, Err, IfErr, IfOk, MatchResult};
 ghost use Rattle.srm_ledger.specs.Counts.{place_of};
 ghost use Rattle.srm_cell.specs.Jobs.{PlainJob};
 ghost use Rattle.srm_cell.specs.Setting.{Traffic};
 ghost use Rattle.srm_interfaces.specs.Faults.{crew_fault_of};
-ghost use Rattle.srm_interfaces.specs.Crews.{HasGrown, IsPast, counted_in, sum_at, TellsEach, TellsMap};
+ghost use Rattle.srm_interfaces.specs.Crews.{HasGrown, IsPast, counted_in, TellsEach, TellsMap};
+ghost use Rattle.srm_crew.specs.Shared.{sum_of};
+ghost use Rattle.srm_crew.specs.Watched.{SettlesWatched};
 
+use crate::counted::Counted;
 use srm_cell::crossings::Crossings;
 use srm_cell::fault::CellFault;
 use srm_cell::job::Done;
 use srm_interfaces::fault::CrewFault;
+use srm_interfaces::watched::WatchedDone;
 use srm_ledger::kind::Kind;
 use srm_ledger::ledger::{Ledger, Seat, ShareFull};
 use srm_ledger::totals::Totals;
@@ -66,18 +70,18 @@ pub(crate) fn add_crossings(
 }
 
 /// Adds the crossings of all that is done.
-pub(crate) fn add_each<M: Participant>(
+pub(crate) fn add_each<D: Counted>(
     ledger: &Ledger,
     seat: &mut Seat,
-    all: &[Done<M>],
+    all: &[D],
 ) -> Result<(), ShareFull>
     requires seat { seat.old.ledger ≡ ledger.now.name }
-    requires long { All (λ d. length d.crossings ≡ 5 * ledger.now.links) all.now }
-    ensures { MatchResult result (λ _. HasGrown (λ k. sum_at k all.now) seat.old seat.new)
-        (λ _. IsPast (λ k. sum_at k all.now) seat.old) }
+    requires long { All (λ d. length (D.numbers d) ≡ 5 * ledger.now.links) all.now }
+    ensures { MatchResult result (λ _. HasGrown (λ k. sum_of D.numbers k all.now) seat.old seat.new)
+        (λ _. IsPast (λ k. sum_of D.numbers k all.now) seat.old) }
 {
     for done in all {
-        match add_crossings(ledger, seat, &done.crossings) {
+        match add_crossings(ledger, seat, done.crossings()) {
             Ok(()) => {}
             Err(full) => return Err(full),
         }
@@ -110,6 +114,30 @@ pub(crate) fn settle<M: Participant>(
     let mut seat = seat;
     match add_each(ledger, &mut seat, all.as_slice()) {
         Ok(()) => Ok((all, seat)),
+        Err(full) => Err(CrewFault::from(full)),
+    }
+}
+
+/// What is left of the jobs that are done, with a seat that has grown by the crossings of all of them. It does not allocate.
+///
+/// # Errors
+/// As [`settle`].
+pub(crate) fn settle_watched<M: Participant, K: Drop>(
+    ledger: &Ledger,
+    seat: Seat,
+    advanced: Result<Vec<WatchedDone<M, K>>, CellFault>,
+) -> Result<(Vec<WatchedDone<M, K>>, Seat), CrewFault>
+    requires seat { seat.ledger ≡ ledger.now.name }
+    requires long { IfOk advanced (λ all. All (λ e. length e.crossings ≡ 5 * ledger.now.links) all.items) }
+    ensures { SettlesWatched seat advanced result }
+{
+    let left = match advanced {
+        Ok(left) => left,
+        Err(fault) => return Err(CrewFault::from(fault)),
+    };
+    let mut seat = seat;
+    match add_each(ledger, &mut seat, left.as_slice()) {
+        Ok(()) => Ok((left, seat)),
         Err(full) => Err(CrewFault::from(full)),
     }
 }

@@ -21,11 +21,16 @@ pub struct Advancing<'a> {
 }
 
 impl<'a, M: Participant> Work<Piece<M>, Worked<M>> for Advancing<'a> {
+    ghost use Rattle.std.specs.Prelude.{All, length};
+    ghost use Rattle.srm_cell.specs.Jobs.{MayAdvance};
+    ghost use Rattle.srm_interfaces.specs.Crews.{AdvanceEach};
     ghost use Rattle.srm_crew.specs.Pieces.{MayWork, ComesOfPiece};
 
-    ghost ready = { λ w p. MayWork M.plain w.scenario.now w.net.now p };
+    ghost ready = { λ w p. MayWork (λ js. All (λ j. MayAdvance M.plain (length w.net.now.hosts) j) js) M.plain
+        w.scenario.now w.net.now p };
 
-    ghost gives = { λ w p r. ComesOfPiece M.plain w.scenario.now w.net.now p r };
+    ghost gives = { λ w p r. ComesOfPiece (λ js d. AdvanceEach M.plain w.scenario.now w.net.now js d) M.plain
+        w.scenario.now w.net.now p r };
 
     fn work(&self, piece: Piece<M>) -> Worked<M> {
         match piece {

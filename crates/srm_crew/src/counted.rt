@@ -3,6 +3,8 @@ ghost use Rattle.std.specs.Prelude.{◌≡◌, ℕ, List};
 
 use srm_cell::crossings::Crossings;
 use srm_cell::job::Done;
+use srm_interfaces::watched::WatchedDone;
+use srm_member::participant::Participant;
 
 /// What has crossings.
 pub(crate) trait Counted {
@@ -14,8 +16,16 @@ pub(crate) trait Counted {
         ensures { result.now ≡ numbers self.now };
 }
 
-impl Counted for Done {
+impl<M: Participant> Counted for Done<M> {
     ghost numbers = { λ d. d.crossings };
+
+    fn crossings(&self) -> &Crossings {
+        &self.crossings
+    }
+}
+
+impl<M: Participant, K: Drop> Counted for WatchedDone<M, K> {
+    ghost numbers = { λ e. e.crossings };
 
     fn crossings(&self) -> &Crossings {
         &self.crossings

@@ -4,13 +4,13 @@ use srm_cell::job::Job;
 use srm_cell::sent::Sent;
 use std::sync::Arc;
 
-/// Work on some of the cells of a call.
+/// Work on some of the cells of a call, whose jobs are each a `T`.
 #[derive(Drop)]
-pub enum Piece<M> {
+pub enum Piece<M, T = Job<M>> {
     /// Jobs to be advanced.
     Jobs {
         /// The jobs.
-        jobs: Vec<Job<M>>,
+        jobs: Vec<T>,
     },
     /// Groups of cells that are to hear what was sent.
     Hearers {

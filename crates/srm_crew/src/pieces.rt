@@ -5,11 +5,12 @@ ghost use Rattle.srm_cell.specs.Crossings.{joined};
 ghost use Rattle.srm_crew.specs.Pieces.{IsJobsOf, AreHearersOf, IsAdvanced, IsHeard, IsAdvancedAs, HeardTogether};
 ghost use Rattle.srm_crew.specs.Teams.{PutTogether};
 
+use crate::has_due::HasDue;
 use crate::piece::Piece;
 use crate::worked::Worked;
 use srm_cell::cell::Cell;
 use srm_cell::fault::CellFault;
-use srm_cell::job::{Done, Job};
+use srm_cell::job::Done;
 use srm_cell::sent::Sent;
 use srm_member::participant::Participant;
 use srm_member::row::Row;
@@ -17,25 +18,11 @@ use srm_net::sequence::Sequence;
 use std::alloc::{AllocError, Global};
 use std::sync::Arc;
 
-// In how many cells of the job something is due before its end.
-fn due_in<M: Participant>(job: &Job<M>) -> usize {
-    let till = job.till;
-    job.cells.iter().filter(|cell| is_due(cell, till)).count()
-}
-
-// Whether something is due in the cell before tick `till`.
-fn is_due<M: Participant>(cell: &Cell<M>, till: u64) -> bool {
-    match cell.next_time() {
-        Some(time) => time < till,
-        None => false,
-    }
-}
-
 /// In how many cells of the jobs something is due before their ends.
-pub(crate) fn due_in_all<M: Participant>(jobs: &[Job<M>]) -> usize {
+pub(crate) fn due_in_all<T: HasDue>(jobs: &[T]) -> usize {
     let mut due: usize = 0;
     for job in jobs {
-        due = due.saturating_add(due_in(job));
+        due = due.saturating_add(job.due());
     }
     due
 }
@@ -63,12 +50,12 @@ fn rows_in(lists: &[Sequence<Row>]) -> usize {
 
 /// The jobs in pieces, in order. A piece ends once something is due in `share` of its cells; but the one after so many `cuts` has
 /// all that are left.
-pub(crate) fn pieces_of<M: Participant>(
+pub(crate) fn pieces_of<T: HasDue + Drop>(
     alloc: Global,
-    jobs: Vec<Job<M>>,
+    jobs: Vec<T>,
     share: usize,
     cuts: usize,
-) -> Result<Vec<Vec<Job<M>>>, AllocError>
+) -> Result<Vec<Vec<T>>, AllocError>
     ensures all { IfOk result (λ pieces. joined (map (λ p. p.items) pieces.items) ≡ jobs.items) }
     ensures few { IfOk result (λ pieces. length pieces.items ≤ cuts + 1) }
 {
@@ -81,7 +68,7 @@ pub(crate) fn pieces_of<M: Participant>(
             piece = Vec::new(alloc);
             due = 0;
         }
-        due = due.saturating_add(due_in(&job));
+        due = due.saturating_add(job.due());
         piece.push(job)?;
     }
     pieces.push(piece)?;
@@ -111,10 +98,10 @@ pub(crate) fn even_pieces<M: Participant>(
 }
 
 /// The jobs of each piece, to be advanced.
-pub(crate) fn to_advance<M: Participant>(
+pub(crate) fn to_advance<M: Participant, T: Drop>(
     alloc: Global,
-    pieces: Vec<Vec<Job<M>>>,
-) -> Result<Vec<Piece<M>>, AllocError>
+    pieces: Vec<Vec<T>>,
+) -> Result<Vec<Piece<M, T>>, AllocError>
     ensures { IfOk result (λ all. AllZip (λ js p. IsJobsOf js p) pieces.items all.items) }
 {
     let mut all = Vec::new(alloc);
@@ -125,11 +112,11 @@ pub(crate) fn to_advance<M: Participant>(
 }
 
 /// The groups of each piece, to hear what was sent.
-pub(crate) fn to_hear<M: Participant>(
+pub(crate) fn to_hear<M: Participant, T: Drop>(
     alloc: Global,
     sent: Vec<Sent>,
     pieces: Vec<Vec<Vec<Cell<M>>>>,
-) -> Result<Vec<Piece<M>>, AllocError>
+) -> Result<Vec<Piece<M, T>>, AllocError>
     ensures { IfOk result (λ all. AllZip (λ gs p. AreHearersOf sent.items gs p) pieces.items all.items) }
 {
     let shared = Arc::new(alloc, sent)?;
@@ -142,10 +129,10 @@ pub(crate) fn to_hear<M: Participant>(
 }
 
 /// What came of the jobs of each piece.
-pub(crate) fn advanced_of<M: Participant>(
+pub(crate) fn advanced_of<M: Participant, D: Drop>(
     alloc: Global,
-    all: Vec<Worked<M>>,
-) -> Result<Vec<Result<Vec<Done<M>>, CellFault>>, AllocError>
+    all: Vec<Worked<M, D>>,
+) -> Result<Vec<Result<Vec<D>, CellFault>>, AllocError>
     requires { All (λ w. IsAdvanced w) all.items }
     ensures { IfOk result (λ rs. AllZip (λ w r. IsAdvancedAs r w) all.items rs.items) }
 {
@@ -160,10 +147,10 @@ pub(crate) fn advanced_of<M: Participant>(
 ///
 /// # Errors
 /// The first refusal that stands there; or `NoMemory`.
-pub(crate) fn put_together<M: Participant>(
+pub(crate) fn put_together<D: Drop>(
     alloc: Global,
-    pieces: Vec<Result<Vec<Done<M>>, CellFault>>,
-) -> Result<Vec<Done<M>>, CellFault>
+    pieces: Vec<Result<Vec<D>, CellFault>>,
+) -> Result<Vec<D>, CellFault>
     ensures { PutTogether pieces.items result }
 {
     let mut all = Vec::new(alloc);
@@ -180,9 +167,9 @@ pub(crate) fn put_together<M: Participant>(
 }
 
 /// The groups of all pieces that heard, in order.
-pub(crate) fn heard_of<M: Participant>(
+pub(crate) fn heard_of<M: Participant, D: Drop>(
     alloc: Global,
-    all: Vec<Worked<M>>,
+    all: Vec<Worked<M, D>>,
 ) -> Result<Vec<Vec<Cell<M>>>, AllocError>
     requires { All (λ w. IsHeard w) all.items }
     ensures { IfOk result (λ heard. HeardTogether all.items heard.items) }

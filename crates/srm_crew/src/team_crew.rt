@@ -8,7 +8,6 @@ ghost use Rattle.srm_cell.specs.Jobs.{PlainJob, MayAdvance};
 ghost use Rattle.srm_cell.specs.Hearing.{IsSent, packets_in};
 ghost use Rattle.srm_interfaces.specs.Crews.{AdvanceEach, AreJobs, Maps};
 ghost use Rattle.srm_interfaces.specs.Hearers.{GroupsMayHear, TellsHeard};
-ghost use Rattle.srm_crew.specs.Pieces.{MayWork, ComesOfPiece};
 ghost use Rattle.srm_crew.specs.Teams.{IsWorkOn};
 
 use crate::add::settle;
@@ -34,7 +33,9 @@ use srm_scenario::scenario::Scenario;
 use srm_team::fault::TeamFault;
 use srm_team::naming::Naming;
 use srm_team::team::Team;
+use srm_team::work::Work;
 use std::alloc::{AllocError, Global};
+use std::marker::Copy;
 use std::sync::Wait;
 
 /// Advances jobs on the threads of a team, which stay for the next call. It serves runs of one scenario, which it keeps with its
@@ -49,19 +50,25 @@ pub struct TeamCrew<'a, R: Wait, M: Participant, J: Naming> {
     rows: usize,
 }
 
-// What comes of pieces that a team works on. They are no more than it has room for, so what is refused is memory, or as it is
-// written the team is worn or a channel was closed.
-fn work_in_team<'a, R: Wait, M: Participant, J: Naming>(
+/// What comes of pieces that a team works on. They are no more than it has room for, so what is refused is memory, or as it is
+/// written the team is worn or a channel was closed.
+pub(crate) fn work_in_team<
+    R: Wait,
+    A: Work<Piece<M, T>, Worked<M, D>> + Copy,
+    M: Participant,
+    T: Drop,
+    D: Drop,
+    J: Naming,
+>(
     rt: &R,
     alloc: Global,
-    team: &mut Team<Advancing<'a>, Piece<M>, Worked<M>, J>,
-    work: Advancing<'a>,
-    pieces: Vec<Piece<M>>,
-) -> Result<Vec<Worked<M>>, AllocError>
+    team: &mut Team<A, Piece<M, T>, Worked<M, D>, J>,
+    work: A,
+    pieces: Vec<Piece<M, T>>,
+) -> Result<Vec<Worked<M, D>>, AllocError>
     requires few { length pieces.items ≤ team.old.room }
-    requires ready { All (λ p. MayWork M.plain work.scenario.now work.net.now p) pieces.items }
-    ensures given { IfOk result (λ all. AllZip (λ p w. ComesOfPiece M.plain work.entry.scenario.now work.entry.net.now p w)
-        pieces.items all.items) }
+    requires ready { All (λ p. A.ready work p) pieces.items }
+    ensures given { IfOk result (λ all. AllZip (λ p w. A.gives work p w) pieces.items all.items) }
     ensures room { team.new.room ≡ team.old.room }
 {
     match team.map(rt, alloc, work, pieces) {

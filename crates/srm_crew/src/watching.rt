@@ -1,11 +1,13 @@
 //! What a team's worker does that keeps no rows.
-ghost use Rattle.std.specs.Prelude.{◌≡◌, length, All, IfOk};
-ghost use Rattle.std.specs.List.{AllZip};
+ghost use Rattle.std.specs.Prelude.{◌≡◌, length, All};
 ghost use Rattle.srm_scenario.specs.Plain.{network_of};
 ghost use Rattle.srm_cell.specs.Jobs.{MayAdvance};
 ghost use Rattle.srm_interfaces.specs.Watches.{job_in, jobs_in, AdvanceWatched, HaveKept};
 ghost use Rattle.srm_crew.specs.Watched.{AdvanceOne};
 
+use crate::hearing::hear_groups;
+use crate::piece::Piece;
+use crate::worked::Worked;
 use srm_cell::advance::advance;
 use srm_cell::fault::CellFault;
 use srm_cell::job::Job;
@@ -14,15 +16,11 @@ use srm_interfaces::watched::{WatchedDone, WatchedJob};
 use srm_member::participant::Participant;
 use srm_net::net::Net;
 use srm_scenario::scenario::Scenario;
-use srm_team::fault::TeamFault;
-use srm_team::naming::Naming;
-use srm_team::team::Team;
 use srm_team::work::Work;
 use std::alloc::Global;
 use std::marker::Copy;
-use std::sync::Wait;
 
-/// Work on watched jobs, in runs of one scenario on its network.
+/// Work on pieces, in runs of one scenario on its network: watched jobs advance, and cells hear what was sent, one after the other.
 #[derive(Clone, Copy)]
 pub struct Watching<'a, W> {
     /// The memory that workers take.
@@ -35,7 +33,8 @@ pub struct Watching<'a, W> {
     pub watch: W,
 }
 
-/// Advances each job, one after the other, and keeps of the rows what the watch keeps. Only the rows of one job are there at a time.
+/// Advances each job, one after the other, and keeps of the rows what the watch keeps. Only the rows of one job are there at a
+/// time.
 pub(crate) fn advance_watched<M: Participant, K: Drop, W: Watch<K>>(
     alloc: Global,
     scenario: &Scenario,
@@ -91,42 +90,31 @@ fn advance_one<M: Participant, K: Drop, W: Watch<K>>(
 }
 
 impl<'a, M: Participant, K: Drop, W: Watch<K> + Copy> Work<
-    Vec<WatchedJob<M, K>>,
-    Result<Vec<WatchedDone<M, K>>, CellFault>,
+    Piece<M, WatchedJob<M, K>>,
+    Worked<M, WatchedDone<M, K>>,
 > for Watching<'a, W> {
     ghost use Rattle.std.specs.Prelude.{◌≡◌, All, length};
     ghost use Rattle.srm_scenario.specs.Plain.{network_of};
     ghost use Rattle.srm_cell.specs.Jobs.{MayAdvance};
-    ghost use Rattle.srm_interfaces.specs.Watches.{jobs_in, AdvanceWatched, HaveKept};
+    ghost use Rattle.srm_interfaces.specs.Watches.{AdvanceWatched};
+    ghost use Rattle.srm_crew.specs.Pieces.{MayWork, ComesOfPiece};
+    ghost use Rattle.srm_crew.specs.Watched.{MayWatch};
 
-    ghost ready = { λ w js. (w.net.now ≡ network_of w.scenario.now)
-        × All (λ j. MayAdvance M.plain (length w.net.now.hosts) j) (jobs_in js.items) × All HaveKept js.items };
+    ghost ready = { λ w p. MayWork (λ js. MayWatch M.plain w.scenario.now w.net.now js) M.plain w.scenario.now
+        w.net.now p };
 
-    ghost gives = { λ w js r. AdvanceWatched M.plain (W.keeps w.watch) w.scenario.now w.net.now js.items r };
+    ghost gives = { λ w p r. ComesOfPiece
+        (λ js d. AdvanceWatched M.plain (W.keeps w.watch) w.scenario.now w.net.now js d) M.plain w.scenario.now
+        w.net.now p r };
 
-    fn work(&self, jobs: Vec<WatchedJob<M, K>>) -> Result<Vec<WatchedDone<M, K>>, CellFault> {
-        advance_watched(self.alloc, self.scenario, self.net, &self.watch, jobs)
+    fn work(&self, piece: Piece<M, WatchedJob<M, K>>) -> Worked<M, WatchedDone<M, K>> {
+        match piece {
+            Piece::Jobs { jobs } => Worked::Advanced {
+                done: advance_watched(self.alloc, self.scenario, self.net, &self.watch, jobs),
+            },
+            Piece::Hearers { sent, groups } => Worked::Heard {
+                groups: hear_groups(self.alloc, self.scenario, self.net, sent.as_slice(), groups),
+            },
+        }
     }
-}
-
-/// What is done of pieces of watched jobs, by a team.
-pub(crate) fn watch_in_team<'a, R: Wait, M: Participant, K: Drop, W: Watch<K> + Copy, J: Naming>(
-    rt: &R,
-    alloc: Global,
-    team: &mut Team<
-        Watching<'a, W>,
-        Vec<WatchedJob<M, K>>,
-        Result<Vec<WatchedDone<M, K>>, CellFault>,
-        J,
-    >,
-    work: Watching<'a, W>,
-    pieces: Vec<Vec<WatchedJob<M, K>>>,
-) -> Result<Vec<Result<Vec<WatchedDone<M, K>>, CellFault>>, TeamFault>
-    requires network { work.net.now ≡ network_of work.scenario.now }
-    requires jobs { All (λ js. All (λ j. MayAdvance M.plain (length work.net.now.hosts) j) (jobs_in js.items)) pieces.items }
-    requires kept { All (λ js. All HaveKept js.items) pieces.items }
-    ensures { IfOk result (λ all. AllZip (λ js r. AdvanceWatched M.plain (W.keeps work.entry.watch) work.entry.scenario.now work.entry.net.now
-        js.items r) pieces.items all.items) }
-{
-    team.map(rt, alloc, work, pieces)
 }

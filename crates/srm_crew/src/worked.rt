@@ -8,13 +8,13 @@ use srm_cell::job::Done;
 use srm_member::participant::Participant;
 use std::alloc::AllocError;
 
-/// What came of a piece.
+/// What came of a piece: of each job a `D`.
 #[derive(Drop)]
-pub enum Worked<M> {
+pub enum Worked<M, D = Done<M>> {
     /// What was done of jobs.
     Advanced {
         /// What was done of each, or why not.
-        done: Result<Vec<Done<M>>, CellFault>,
+        done: Result<Vec<D>, CellFault>,
     },
     /// Cells that heard what was sent.
     Heard {
@@ -23,9 +23,9 @@ pub enum Worked<M> {
     },
 }
 
-impl<M: Participant> Worked<M> {
+impl<M: Participant, D: Drop> Worked<M, D> {
     /// What came of jobs. `None` where cells heard.
-    pub(crate) fn into_advanced(self) -> Option<Result<Vec<Done<M>>, CellFault>>
+    pub(crate) fn into_advanced(self) -> Option<Result<Vec<D>, CellFault>>
         ensures { MatchOption result (IsHeard self) (λ r. IsAdvancedAs r self) }
     {
         match self {

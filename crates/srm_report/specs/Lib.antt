@@ -2,12 +2,14 @@ pub mod Counted
 pub mod Courses
 pub mod Devices
 pub mod KeptLines
+pub mod KeptLosses
 pub mod Lines
 pub mod Links
 pub mod ListingSinks
 pub mod Listings
 pub mod Losses
 pub mod LossesSinks
+pub mod MemberCounts
 pub mod Members
 pub mod MembersSinks
 pub mod NoRows

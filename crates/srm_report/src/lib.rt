@@ -2,12 +2,15 @@
 #![tactic(auto)]
 
 mod by_loss;
+pub mod count_rows;
 mod counts;
 mod course;
 mod courses;
 pub mod fault;
 mod fields;
+pub mod find_losses;
 pub mod in_turn;
+pub mod keep_nothing;
 pub mod laws_of_operations;
 mod line;
 pub mod lines;
@@ -19,6 +22,7 @@ mod loss;
 mod loss_lines;
 pub mod losses;
 pub mod losses_sink;
+pub mod member_count;
 mod member_lines;
 pub mod members;
 pub mod members_sink;

@@ -1,5 +1,6 @@
-use Rattle.std.proofs.Common.{◌∙◌, arith}
-use Rattle.srm_interfaces.proofs.Sums.{sum_more, sum_some}
+use Rattle.std.proofs.Common.{◌∙◌, ap, arith}
+use Rattle.srm_interfaces.specs.Crews.{counted_in}
+use Rattle.srm_crew.proofs.Counts.{count_more, count_some}
 use Rattle.srm_crew.proofs.add.add_each.Goals as goal
 
 pub loop-done-preserved : goal.loop-done-preserved
@@ -12,8 +13,9 @@ loop-done-preserved g c =
       shares = λ k.
           let a = new.shares k in
           let b = was.shares k in
-          let e = sum_more k c.args.all.now i c.done-item.result c.loop-done-test.true c.done-item.is in
-          omega (arith, a, b, e);
+          let e = count_more g.D.Counted.numbers k c.args.all.now i c.done-item.result c.loop-done-test.true c.done-item.is in
+          let same = ap (λ ns. counted_in ns k) c.crossings.ensures in
+          omega (arith, a, b, e, same);
       seen = new.seen ∙ was.seen;
     }
 
@@ -26,6 +28,7 @@ returns-in-Err g c =
       k,
       (let a = past.1 in
           let b = was.shares k in
-          let e = sum_some k c.args.all.now i c.done-item.result c.loop-done-test.true c.done-item.is in
-          omega (arith, a, b, e)),
+          let e = count_some g.D.Counted.numbers k c.args.all.now i c.done-item.result c.loop-done-test.true c.done-item.is in
+          let same = ap (λ ns. counted_in ns k) c.crossings.ensures in
+          omega (arith, a, b, e, same)),
     )

@@ -1,6 +1,7 @@
 use Rattle.std.proofs.Common.{◌<◌, ◌+◌, ◌^◌, ◌∙◌, ap, subst, slice_index}
 use Rattle.srm_interfaces.specs.Crews.{rows_of, TellsEach}
 use Rattle.srm_interfaces.proofs.Sums.{all_long, sum_is, rows_of_all}
+use Rattle.srm_crew.proofs.JobsShared.{sum_of_is}
 use Rattle.srm_crew.proofs.add.settle.Goals as goal
 
 pub add_each-requires-clause-long : goal.add_each-requires-clause-long
@@ -18,7 +19,7 @@ returns-in-Ok-add_each-clause-told g c = λ s ps links h.
         ledger = new.ledger;
         weight = new.weight;
         shares = λ k. new.shares k ∙ ap (λ n. slice_index c.args.seat.shares k + n)
-            (sum_is g.M.Participant.plain s ps c.in-Ok.all.items all k);
+            (sum_of_is k c.in-Ok.all.items ∙ sum_is g.M.Participant.plain s ps c.in-Ok.all.items all k);
         seen = new.seen;
       },
     )
@@ -33,6 +34,6 @@ returns-in-Err-add_each-clause-told g c = λ s ps links h.
       (
         past.0,
         subst (λ n. 2 ^ 47 < slice_index c.args.seat.shares past.0 + n)
-            (sum_is g.M.Participant.plain s ps c.in-Ok.all.items all past.0) past.1,
+            (sum_of_is past.0 c.in-Ok.all.items ∙ sum_is g.M.Participant.plain s ps c.in-Ok.all.items all past.0) past.1,
       ),
     )

@@ -1,0 +1,231 @@
+//! A crew of threads that live for a whole run, and keep of rows what a watch keeps.
+ghost use Rattle.std.specs.Prelude.{◌≡◌, ◌≤◌, ◌∷◌, ◌++◌, [], ℕ, List, length, map, All, IfOk};
+ghost use Rattle.std.specs.List.{range_with_len};
+ghost use Rattle.srm_net.specs.Limits.{most_nodes};
+ghost use Rattle.srm_scenario.specs.Plain.{network_of};
+ghost use Rattle.srm_cell.specs.Setting.{traffic_of};
+ghost use Rattle.srm_cell.specs.Jobs.{PlainJob, MayAdvance};
+ghost use Rattle.srm_cell.specs.Hearing.{IsSent, packets_in};
+ghost use Rattle.srm_interfaces.specs.Crews.{AreJobs};
+ghost use Rattle.srm_interfaces.specs.Hearers.{GroupsMayHear, TellsHeard};
+ghost use Rattle.srm_interfaces.specs.Watches.{jobs_in, AdvanceWatched, HaveKept, MapsWatched};
+ghost use Rattle.srm_crew.specs.Watched.{IsWatchOn, MayWatch};
+
+use crate::add::settle_watched;
+use crate::hearing::hear_groups;
+use crate::piece::Piece;
+use crate::pieces::{
+    advanced_of, due_in_all, even_pieces, heard_of, pieces_of, put_together, to_advance, to_hear,
+};
+use crate::team_crew::work_in_team;
+use crate::watching::{Watching, advance_watched};
+use crate::worked::Worked;
+use srm_cell::cell::Cell;
+use srm_cell::fault::CellFault;
+use srm_cell::sent::Sent;
+use srm_interfaces::fault::CrewFault;
+use srm_interfaces::watch::Watch;
+use srm_interfaces::watch_crew::WatchCrew;
+use srm_interfaces::watched::{WatchedDone, WatchedJob};
+use srm_ledger::ledger::{Ledger, Seat};
+use srm_member::participant::Participant;
+use srm_net::net::Net;
+use srm_scenario::scenario::Scenario;
+use srm_team::naming::Naming;
+use srm_team::team::Team;
+use std::alloc::{AllocError, Global};
+use std::marker::Copy;
+use std::sync::Wait;
+
+/// Advances watched jobs on the threads of a team, which stay for the next call. It serves runs of one scenario, which it keeps with
+/// its network. What a call hands to the team is in no more pieces than it has room for. As it is written, the thread that calls does
+/// all the work where something is due in few cells: to wake the others would take longer.
+#[derive(Drop)]
+pub struct WatchTeam<'a, R: Wait, M: Participant, K: Drop, W: Watch<K> + Copy, J: Naming> {
+    rt: R,
+    team: Team<Watching<'a, W>, Piece<M, WatchedJob<M, K>>, Worked<M, WatchedDone<M, K>>, J>,
+    work: Watching<'a, W>,
+    few: usize,
+}
+
+// Advances each job, in pieces that a team works on.
+fn advance_in_team<'a, R: Wait, M: Participant, K: Drop, W: Watch<K> + Copy, J: Naming>(
+    rt: &R,
+    alloc: Global,
+    team: &mut Team<Watching<'a, W>, Piece<M, WatchedJob<M, K>>, Worked<M, WatchedDone<M, K>>, J>,
+    work: Watching<'a, W>,
+    jobs: Vec<WatchedJob<M, K>>,
+) -> Result<Vec<WatchedDone<M, K>>, CellFault>
+    requires { MayWatch M.plain work.scenario.now work.net.now jobs.items }
+    ensures advanced { AdvanceWatched M.plain (W.keeps work.entry.watch) work.entry.scenario.now work.entry.net.now
+        jobs.items result }
+    ensures room { team.new.room ≡ team.old.room }
+{
+    let room = team.room();
+    if room == 0 {
+        return advance_watched(alloc, work.scenario, work.net, &work.watch, jobs);
+    }
+    let due = due_in_all(jobs.as_slice());
+    let Ok(pieces) = pieces_of(alloc, jobs, due / room, room - 1) else {
+        return Err(CellFault::NoMemory);
+    };
+    let Ok(given) = to_advance(alloc, pieces) else {
+        return Err(CellFault::NoMemory);
+    };
+    let Ok(all) = work_in_team(rt, alloc, team, work, given) else {
+        return Err(CellFault::NoMemory);
+    };
+    let Ok(results) = advanced_of(alloc, all) else {
+        return Err(CellFault::NoMemory);
+    };
+    put_together(alloc, results)
+}
+
+// The groups after each of their cells heard what was sent, in pieces that a team works on.
+fn hear_in_team<'a, R: Wait, M: Participant, K: Drop, W: Watch<K> + Copy, J: Naming>(
+    rt: &R,
+    alloc: Global,
+    team: &mut Team<Watching<'a, W>, Piece<M, WatchedJob<M, K>>, Worked<M, WatchedDone<M, K>>, J>,
+    work: Watching<'a, W>,
+    sent: Vec<Sent>,
+    groups: Vec<Vec<Cell<M>>>,
+) -> Result<Vec<Vec<Cell<M>>>, AllocError>
+    requires network { work.net.now ≡ network_of work.scenario.now }
+    requires sent { All (λ x. IsSent work.scenario.now work.net.now x) sent.items }
+    requires groups { GroupsMayHear M.plain (traffic_of work.scenario.now work.net.now) (packets_in sent.items)
+        groups.items }
+    ensures heard { TellsHeard M.plain (traffic_of work.entry.scenario.now work.entry.net.now) (packets_in sent.items)
+        groups.items result }
+    ensures room { team.new.room ≡ team.old.room }
+{
+    let room = team.room();
+    if room == 0 {
+        return hear_groups(alloc, work.scenario, work.net, sent.as_slice(), groups);
+    }
+    let size = groups.len() / room + 1;
+    let pieces = even_pieces(alloc, groups, size)?;
+    let given = to_hear(alloc, sent, pieces)?;
+    let all = work_in_team(rt, alloc, team, work, given)?;
+    heard_of(alloc, all)
+}
+
+impl<'a, R: Wait, M: Participant, K: Drop, W: Watch<K> + Copy, J: Naming> WatchTeam<
+    'a,
+    R,
+    M,
+    K,
+    W,
+    J,
+> {
+    /// A crew that has this team, and does this work. As it is written, the thread that calls does it where something is due in fewer
+    /// than `few` cells, or where the team has room for no item. It does not allocate.
+    ///
+    /// A call of it is refused with `NoMemory` also where its team is `Worn` or `Left`, and never for `TooMany`.
+    pub fn new(
+        rt: R,
+        team: Team<Watching<'a, W>, Piece<M, WatchedJob<M, K>>, Worked<M, WatchedDone<M, K>>, J>,
+        work: Watching<'a, W>,
+        few: usize,
+    ) -> WatchTeam<'a, R, M, K, W, J>
+        ensures work { result.work ≡ work.entry }
+        ensures team { result.team ≡ team.entry }
+        ensures few { result.few ≡ few }
+    {
+        WatchTeam {
+            rt,
+            team,
+            work,
+            few,
+        }
+    }
+}
+
+impl<'a, R: Wait, M: Participant, K: Drop, W: Watch<K> + Copy, J: Naming> WatchCrew<M, K, W>
+    for WatchTeam<'a, R, M, K, W, J> {
+    ghost use Rattle.std.specs.Prelude.{refl};
+    ghost use Rattle.std.proofs.Common.{◌∙◌};
+
+    ghost ready = { λ _. Unit {0} };
+
+    ghost serves = { λ c k net. IsWatchOn c.work k net };
+
+    // Which calls it was handed it does not keep, and no call changes its work, the room of its team, or what few cells
+    // are.
+    ghost handed = { λ a _ b. (b.work ≡ a.work) × (b.team.room ≡ a.team.room) × (b.few ≡ a.few) };
+
+    ghost handed_none = { λ c. (refl, refl, refl) };
+
+    ghost handed_more = { λ a b c xs ys p q. (q.0 ∙ p.0, q.1 ∙ p.1, q.2 ∙ p.2) };
+
+    fn map(
+        &mut self,
+        alloc: Global,
+        scenario: &Scenario,
+        net: &Net,
+        ledger: &Ledger,
+        seat: Seat,
+        watch: W,
+        jobs: Vec<WatchedJob<M, K>>,
+    ) -> Result<(Vec<WatchedDone<M, K>>, Seat), CrewFault>
+        requires ready { Unit {0} }
+        requires serves { IsWatchOn self.old.work scenario.now net.now }
+        requires network { net.now ≡ network_of scenario.now }
+        requires jobs { All (λ j. MayAdvance M.plain (length net.now.hosts) j) (jobs_in jobs.items) }
+        requires kept { All HaveKept jobs.items }
+        requires many { length jobs.items ≤ most_nodes }
+        requires places { map (λ j. j.place) jobs.items ≡ range_with_len 0 (length jobs.items) }
+        requires links { ledger.now.links ≡ length net.now.links }
+        requires seat { seat.ledger ≡ ledger.now.name }
+        ensures ready { Unit {0} }
+        ensures serves { IsWatchOn self.new.work scenario.now net.now }
+        ensures done { MapsWatched M.plain (W.keeps watch) scenario.now net.now seat jobs.items result }
+        ensures handed { IfOk result (λ _. (ps : List PlainJob) → AreJobs M.plain (jobs_in jobs.items) ps
+            → (self.new.work ≡ self.old.work) × (self.new.team.room ≡ self.old.team.room)
+            × (self.new.few ≡ self.old.few)) }
+        ensures stays { (self.new.work ≡ self.old.work) × (self.new.team.room ≡ self.old.team.room)
+            × (self.new.few ≡ self.old.few) }
+    {
+        let advanced = if due_in_all(jobs.as_slice()) < self.few {
+            advance_watched(alloc, scenario, net, &watch, jobs)
+        } else {
+            let work = Watching {
+                alloc: self.work.alloc,
+                scenario: self.work.scenario,
+                net: self.work.net,
+                watch,
+            };
+            advance_in_team(&self.rt, alloc, &mut self.team, work, jobs)
+        };
+        settle_watched(ledger, seat, advanced)
+    }
+
+    fn hear(
+        &mut self,
+        alloc: Global,
+        scenario: &Scenario,
+        net: &Net,
+        sent: Vec<Sent>,
+        groups: Vec<Vec<Cell<M>>>,
+    ) -> Result<Vec<Vec<Cell<M>>>, AllocError>
+        requires ready { Unit {0} }
+        requires serves { IsWatchOn self.old.work scenario.now net.now }
+        requires network { net.now ≡ network_of scenario.now }
+        requires sent { All (λ x. IsSent scenario.now net.now x) sent.items }
+        requires groups { GroupsMayHear M.plain (traffic_of scenario.now net.now)
+            (packets_in sent.items) groups.items }
+        ensures ready { Unit {0} }
+        ensures serves { IsWatchOn self.new.work scenario.now net.now }
+        ensures heard { TellsHeard M.plain (traffic_of scenario.now net.now)
+            (packets_in sent.items) groups.items result }
+        ensures handed { (self.new.work ≡ self.old.work) × (self.new.team.room ≡ self.old.team.room)
+            × (self.new.few ≡ self.old.few) }
+    {
+        let work = Watching {
+            alloc: self.work.alloc,
+            scenario: self.work.scenario,
+            net: self.work.net,
+            watch: self.work.watch,
+        };
+        hear_in_team(&self.rt, alloc, &mut self.team, work, sent, groups)
+    }
+}

@@ -1,0 +1,24 @@
+//! The watch of a table that is made of no row.
+use srm_interfaces::watch::Watch;
+use srm_member::row::Row;
+use std::alloc::AllocError;
+
+/// Nothing is kept of the rows of a member.
+#[derive(Clone, Copy, Debug)]
+pub struct Nothing;
+
+/// Keeps nothing of rows, and refuses none.
+#[derive(Clone, Copy, Debug)]
+pub struct KeepNothing;
+
+impl Watch<Nothing> for KeepNothing {
+    ghost keeps = { λ _ _ _. Unit {0} };
+
+    fn none(&self) -> Nothing {
+        Nothing
+    }
+
+    fn add(&self, _kept: &mut Nothing, _rows: &[Row]) -> Result<(), AllocError> {
+        Ok(())
+    }
+}
