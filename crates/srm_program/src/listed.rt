@@ -44,7 +44,8 @@ fn write_table<M: Participant, C: Crew<M>, L: Listing, O: Outlet>(
 ) -> Result<(), LabFault>
     requires crew { MayLead C.Crew crew.old asked.task.session }
     requires count { O.failures outlet.old < 2 ^ 64 - 1 }
-    ensures { IsListed O.Outlet L.form asked.entry.task (map M.plain asked.entry.members.items) outlet.old result outlet.new }
+    ensures { IsListed O.Outlet L.form asked.entry.task (map M.plain asked.entry.members.items)
+        outlet.old result outlet.new }
 {
     let mut sink = ListingSink::gathering(alloc, listing, outlet, GATHERED);
     let answer = match hand_rows(alloc, asked, crew, &mut sink) {
@@ -142,7 +143,8 @@ fn write_by_team<
     requires history { opened ≡ J.book }
     requires crew { MayLead C.Crew crew.old asked.task.session }
     requires count { O.failures outlet.old < 2 ^ 64 - 1 }
-    ensures { IsListed O.Outlet L.form asked.entry.task (map M.plain asked.entry.members.items) outlet.old result outlet.new }
+    ensures { IsListed O.Outlet L.form asked.entry.task (map M.plain asked.entry.members.items)
+        outlet.old result outlet.new }
 {
     match open_team::<Lining<L>, Vec<Row>, Result<Vec<u8>, ReportFault>, J>(
         alloc,
@@ -176,7 +178,8 @@ pub(crate) fn write_listing<
 ) -> Result<(), LabFault>
     requires crew { MayLead C.Crew crew.old asked.task.session }
     requires count { O.failures outlet.old < 2 ^ 64 - 1 }
-    ensures { IsListed O.Outlet L.form asked.entry.task (map M.plain asked.entry.members.items) outlet.old result outlet.new }
+    ensures { IsListed O.Outlet L.form asked.entry.task (map M.plain asked.entry.members.items)
+        outlet.old result outlet.new }
 {
     let o = asked.task.options;
     if o.engine == Engine::Window && o.crew == CrewKind::Team && o.workers > 1 {

@@ -127,7 +127,8 @@ fn write_members<M: Participant, C: Crew<M>, O: Outlet>(
 ) -> Result<(), LabFault>
     requires crew { MayLead C.Crew crew.old asked.task.session }
     requires count { O.failures outlet.old < 2 ^ 64 - 1 }
-    ensures { Tabled O.Outlet Show.Members asked.entry.task (map M.plain asked.entry.members.items) outlet.old result outlet.new }
+    ensures { Tabled O.Outlet Show.Members asked.entry.task (map M.plain asked.entry.members.items)
+        outlet.old result outlet.new }
 {
     let scenario = asked.task.session.scenario;
     let mut sink = MembersSink::new(alloc);
@@ -146,7 +147,8 @@ fn write_losses<M: Participant, C: Crew<M>, O: Outlet>(
 ) -> Result<(), LabFault>
     requires crew { MayLead C.Crew crew.old asked.task.session }
     requires count { O.failures outlet.old < 2 ^ 64 - 1 }
-    ensures { Tabled O.Outlet Show.Losses asked.entry.task (map M.plain asked.entry.members.items) outlet.old result outlet.new }
+    ensures { Tabled O.Outlet Show.Losses asked.entry.task (map M.plain asked.entry.members.items)
+        outlet.old result outlet.new }
 {
     let Session { scenario, net } = asked.task.session;
     // By its contract, every scenario is accepted: that makes the rows of its run orderly.
@@ -167,7 +169,8 @@ fn write_operations<M: Participant, C: Crew<M>, O: Outlet>(
 ) -> Result<(), LabFault>
     requires crew { MayLead C.Crew crew.old asked.task.session }
     requires count { O.failures outlet.old < 2 ^ 64 - 1 }
-    ensures { Tabled O.Outlet Show.Operations asked.entry.task (map M.plain asked.entry.members.items) outlet.old result outlet.new }
+    ensures { Tabled O.Outlet Show.Operations asked.entry.task (map M.plain asked.entry.members.items)
+        outlet.old result outlet.new }
 {
     let Session { scenario, net } = asked.task.session;
     // By its contract, every scenario is accepted: that makes the rows of its run orderly.
@@ -188,7 +191,8 @@ fn write_links<M: Participant, C: Crew<M>, O: Outlet>(
 ) -> Result<(), LabFault>
     requires crew { MayLead C.Crew crew.old asked.task.session }
     requires count { O.failures outlet.old < 2 ^ 64 - 1 }
-    ensures { Tabled O.Outlet Show.Links asked.entry.task (map M.plain asked.entry.members.items) outlet.old result outlet.new }
+    ensures { Tabled O.Outlet Show.Links asked.entry.task (map M.plain asked.entry.members.items)
+        outlet.old result outlet.new }
 {
     let mut sink = NoRows::new();
     match hand_rows(alloc, asked, crew, &mut sink) {
