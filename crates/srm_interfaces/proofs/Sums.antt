@@ -3,7 +3,6 @@ use Rattle.std.proofs.Common.{◌≡◌, ◌<◌, ◌≤◌, ℕ, zero, suc, ◌
 use Rattle.std.proofs.Common.{refl, sym, ap, ◌∙◌, arith, inr}
 use Rattle.std.specs.List.{AllZip, flat_map, range_with_len}
 use Rattle.std.proofs.lemmas.List.Elements.{All-nil, All-cons}
-use Rattle.std.proofs.lemmas.List.{take_more}
 use Rattle.srm_net.specs.declared.packet.Packet.{Packet}
 use Rattle.srm_member.specs.declared.row.Row.{Row}
 use Rattle.srm_member.specs.Record.{Record}
@@ -45,23 +44,6 @@ none_crossed s (suc k) = ap (λ ns. slice_index ns k) (sym (nothing_counted s �
 -- ---- all that is done
 
 module _ {M : Type 0} where
-  sum_append : (k : ℕ) (xs ys : List (job.Done M)) → sum_at k (xs ++ ys) ≡ sum_at k xs + sum_at k ys
-  sum_append k [] ys = omega arith
-  sum_append k (x ∷ xs) ys = let e = sum_append k xs ys in omega (arith, e)
-
-  pub sum_more : (k : ℕ) (ds : List (job.Done M)) (i : ℕ) (d : job.Done M) → i < length ds → d ≡ get_or ds i d
-      → sum_at k (take (i + 1) ds) ≡ sum_at k (take i ds) + counted_in d.crossings k
-  sum_more k ds i d lt e =
-      ap (sum_at k) (take_more ds i d lt) ∙ sum_append k (take i ds) (get_or ds i d ∷ [])
-      ∙ ap (λ (x : job.Done M). sum_at k (take i ds) + (counted_in x.crossings k + 0)) (sym e) ∙ (omega arith)
-
-  pub sum_some : (k : ℕ) (ds : List (job.Done M)) (i : ℕ) (d : job.Done M) → i < length ds → d ≡ get_or ds i d
-      → sum_at k (take i ds) + counted_in d.crossings k ≤ sum_at k ds
-  sum_some k [] i d lt e = absurd (omega arith)
-  sum_some k (x ∷ ds) zero d lt e = let same : counted_in d.crossings k ≡ counted_in x.crossings k =
-      ap (λ (y : job.Done M). counted_in y.crossings k) e in omega (arith, same)
-  sum_some k (x ∷ ds) (suc i) d lt e = let more = sum_some k ds i d (omega arith) e in omega (arith, more)
-
   pub all_long : (f : M → Record) (s : Traffic) (n : ℕ) (ps : List PlainJob) (ds : List (job.Done M)) → s.links ≡ n
       → AllZip (λ p d. IsDone f s p d) ps ds → All (λ (d : job.Done M). length d.crossings ≡ 5 * n) ds
   all_long f s n [] [] e z = All-nil (λ (d : job.Done M). length d.crossings ≡ 5 * n)

@@ -12,8 +12,8 @@ abbrev pub KeepsLosses : List Row → LossesSink → Type 0
 KeepsLosses rows k = (after : List Row) → LoseInTurn (rows ++ after) → HasFound rows k
 
 -- what was kept of rows is kept of these too
-pub keeps_more : (a b : LossesSink) (rows : List Row) → FindsLosses a rows b → (before : List Row) → KeepsLosses before a
-    → KeepsLosses (before ++ rows) b
+pub keeps_more : (a b : LossesSink) (rows : List Row) → FindsLosses a rows b → (before : List Row)
+    → KeepsLosses before a → KeepsLosses (before ++ rows) b
 keeps_more a b rows h before was after o =
     h before after o (was (rows ++ after) (subst LoseInTurn (append_assoc before rows after) o))
 

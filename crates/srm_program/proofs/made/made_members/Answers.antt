@@ -7,8 +7,8 @@ use Rattle.srm_program.proofs.made.made_members.Goals as goal
 pub loop-m-preserved : goal.loop-m-preserved
 loop-m-preserved c =
     ap (map record_made) c.in_ok-push.ensures.items
-    ∙ opening-push record_made c.args.session.scenario.now c.args.session.net.now c.args.seed c.loop-m.m c.loop-m.all.items _ c.loop-m.invariant
-    c.in_ok-new.ensures
+    ∙ opening-push record_made c.args.session.scenario.now c.args.session.net.now c.args.seed c.loop-m.m c.loop-m.all.items _
+    c.loop-m.invariant c.in_ok-new.ensures
 
 pub returns : goal.returns
 returns c =
