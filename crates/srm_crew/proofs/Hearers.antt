@@ -97,11 +97,13 @@ module _ {M T D : Type 0} (may : List T → Type 0) (comes : List T → Result (
         All-cons (λ p. MayWork may f k net p) p ps (may_hear gs p z.0 n s (All-head (λ gs. MayEach gs) gs pieces h))
         (hearers_may pieces ps z.1 n s (All-tail (λ gs. MayEach gs) gs pieces h))
 
-    heard_is : (gs : Vec (Vec (Cell M))) (p : Piece M T) (w : Worked M D) → AreHearersOf xs gs p → ComesOfPiece comes f k net p w → IsHeard w
+    heard_is : (gs : Vec (Vec (Cell M))) (p : Piece M T) (w : Worked M D) → AreHearersOf xs gs p → ComesOfPiece comes f k net p w
+        → IsHeard w
     heard_is gs p w is g = grind arith
 
     pub hearers_heard : (pieces : List (Vec (Vec (Cell M)))) (given : List (Piece M T)) (all : List (Worked M D))
-        → AllZip (λ gs p. AreHearersOf xs gs p) pieces given → AllZip (λ p w. ComesOfPiece comes f k net p w) given all → All (λ w. IsHeard w) all
+        → AllZip (λ gs p. AreHearersOf xs gs p) pieces given → AllZip (λ p w. ComesOfPiece comes f k net p w) given all
+        → All (λ w. IsHeard w) all
     hearers_heard [] [] [] z g = All-nil (λ w. IsHeard w)
     hearers_heard [] [] (w ∷ ws) z g = absurd g
     hearers_heard [] (p ∷ ps) all z g = absurd z
@@ -128,8 +130,10 @@ module _ {M T D : Type 0} (may : List T → Type 0) (comes : List T → Result (
         (all_in pieces) (all_in own) (one_heard gs v p z.0 g.0) (all_heard pieces ps own z.1 g.1)
 
     -- groups whose pieces heard, and then were put together, heard
-    pub hearers_gave : (pieces : List (Vec (Vec (Cell M)))) (given : List (Piece M T)) (all : List (Worked M D)) (heard : List (Vec (Cell M)))
-        → AllZip (λ gs p. AreHearersOf xs gs p) pieces given → AllZip (λ p w. ComesOfPiece comes f k net p w) given all → HeardTogether all heard
+    pub hearers_gave : (pieces : List (Vec (Vec (Cell M)))) (given : List (Piece M T)) (all : List (Worked M D))
+        (heard : List (Vec (Cell M)))
+        → AllZip (λ gs p. AreHearersOf xs gs p) pieces given → AllZip (λ p w. ComesOfPiece comes f k net p w) given all
+        → HeardTogether all heard
         → GroupsHear f (traffic_of k net) (packets_in xs) (all_in pieces) heard
     hearers_gave pieces given all heard z g h = grind (arith, all_heard)
 

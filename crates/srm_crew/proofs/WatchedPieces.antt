@@ -235,11 +235,6 @@ module _ {M K : Type 0} (f : M → Record) (k : PlainScenario) (net : Network) w
 
 -- what is told of one scenario and network is told of the same under other names
 module _ {M K : Type 0} (f : M → Record) where
-  pub may_watch_as : (own given : PlainScenario) (own_net net : Network) (js : List (WatchedJob M K)) → own ≡ given → own_net ≡ net
-      → MayWatch f given net js → MayWatch f own own_net js
-  may_watch_as own given own_net net js p q h =
-      subst (λ k. MayWatch f k own_net js) (sym p) (subst (λ n. MayWatch f given n js) (sym q) h)
-
   pub watched_as : (keeps : K → List Row → Type 0) (own given : PlainScenario) (own_net net : Network) (js : List (WatchedJob M K))
       (r : Result (Vec (WatchedDone M K)) CellFault) → own ≡ given → own_net ≡ net
       → AdvanceWatched f keeps own own_net js r → AdvanceWatched f keeps given net js r

@@ -19,7 +19,8 @@ work_in_team-requires-clause-few g c =
 pub work_in_team-requires-clause-ready : goal.work_in_team-requires-clause-ready
 work_in_team-requires-clause-ready g c =
     jobs_may (λ js. All (λ j. MayAdvance g.M.Participant.plain (length c.args.work.net.now.hosts) j) js)
-    (λ js d. AdvanceEach g.M.Participant.plain c.args.work.scenario.now c.args.work.net.now js d) g.M.Participant.plain c.args.work.scenario.now c.args.work.net.now c.in-Ok.pieces.items c.in-Ok-to_advance.given.items
+    (λ js d. AdvanceEach g.M.Participant.plain c.args.work.scenario.now c.args.work.net.now js d) g.M.Participant.plain
+    c.args.work.scenario.now c.args.work.net.now c.in-Ok.pieces.items c.in-Ok-to_advance.given.items
     c.in-Ok-to_advance.ensures
     (all_each (λ j. MayAdvance g.M.Participant.plain (length c.args.work.net.now.hosts) j) c.in-Ok.pieces.items
     (subst (All (λ j. MayAdvance g.M.Participant.plain (length c.args.work.net.now.hosts) j)) (sym c.in-Ok.ensures.all) c.requires))
@@ -27,7 +28,8 @@ work_in_team-requires-clause-ready g c =
 pub advanced_of-requires : goal.advanced_of-requires
 advanced_of-requires g c =
     jobs_advanced (λ js. All (λ j. MayAdvance g.M.Participant.plain (length c.args.work.net.now.hosts) j) js)
-    (λ js d. AdvanceEach g.M.Participant.plain c.args.work.scenario.now c.args.work.net.now js d) g.M.Participant.plain c.args.work.scenario.now c.args.work.net.now c.in-Ok.pieces.items c.in-Ok-to_advance.given.items
+    (λ js d. AdvanceEach g.M.Participant.plain c.args.work.scenario.now c.args.work.net.now js d) g.M.Participant.plain
+    c.args.work.scenario.now c.args.work.net.now c.in-Ok.pieces.items c.in-Ok-to_advance.given.items
     c.in-Ok-work_in_team.all.items c.in-Ok-to_advance.ensures c.in-Ok-work_in_team.ensures.given
 
 pub returns-clause-advanced : goal.returns-clause-advanced
@@ -37,7 +39,8 @@ returns-clause-advanced g c =
     subst (λ l. AdvanceEach g.M.Participant.plain k net l c.put_together.result) c.in-Ok.ensures.all
     (pieces_advanced g.M.Participant.plain k net c.in-Ok.pieces.items c.in-Ok-advanced_of.results.items c.put_together.result
     (jobs_gave (λ js. All (λ j. MayAdvance g.M.Participant.plain (length c.args.work.net.now.hosts) j) js)
-    (λ js d. AdvanceEach g.M.Participant.plain c.args.work.scenario.now c.args.work.net.now js d) g.M.Participant.plain k net c.in-Ok.pieces.items c.in-Ok-to_advance.given.items c.in-Ok-work_in_team.all.items
+    (λ js d. AdvanceEach g.M.Participant.plain c.args.work.scenario.now c.args.work.net.now js d) g.M.Participant.plain k net
+    c.in-Ok.pieces.items c.in-Ok-to_advance.given.items c.in-Ok-work_in_team.all.items
     c.in-Ok-advanced_of.results.items c.in-Ok-to_advance.ensures c.in-Ok-work_in_team.ensures.given c.in-Ok-advanced_of.ensures)
     c.put_together.ensures)
 

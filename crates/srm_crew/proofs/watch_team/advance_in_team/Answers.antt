@@ -18,7 +18,9 @@ work_in_team-requires-clause-few g c =
 pub work_in_team-requires-clause-ready : goal.work_in_team-requires-clause-ready
 work_in_team-requires-clause-ready g c =
     jobs_may (λ js. MayWatch g.M.Participant.plain c.args.work.scenario.now c.args.work.net.now js)
-    (λ js d. AdvanceWatched g.M.Participant.plain (g.W.Watch.keeps c.args.work.watch) c.args.work.scenario.now c.args.work.net.now js d) g.M.Participant.plain c.args.work.scenario.now c.args.work.net.now c.in-Ok.pieces.items c.in-Ok-to_advance.given.items
+    (λ js d. AdvanceWatched g.M.Participant.plain (g.W.Watch.keeps c.args.work.watch) c.args.work.scenario.now
+    c.args.work.net.now js d) g.M.Participant.plain c.args.work.scenario.now c.args.work.net.now c.in-Ok.pieces.items
+    c.in-Ok-to_advance.given.items
     c.in-Ok-to_advance.ensures
     (watch_pieces g.M.Participant.plain c.args.work.scenario.now c.args.work.net.now c.in-Ok.pieces.items c.args.jobs.items
     c.in-Ok.ensures.all c.requires)
@@ -26,7 +28,9 @@ work_in_team-requires-clause-ready g c =
 pub advanced_of-requires : goal.advanced_of-requires
 advanced_of-requires g c =
     jobs_advanced (λ js. MayWatch g.M.Participant.plain c.args.work.scenario.now c.args.work.net.now js)
-    (λ js d. AdvanceWatched g.M.Participant.plain (g.W.Watch.keeps c.args.work.watch) c.args.work.scenario.now c.args.work.net.now js d) g.M.Participant.plain c.args.work.scenario.now c.args.work.net.now c.in-Ok.pieces.items c.in-Ok-to_advance.given.items
+    (λ js d. AdvanceWatched g.M.Participant.plain (g.W.Watch.keeps c.args.work.watch) c.args.work.scenario.now
+    c.args.work.net.now js d) g.M.Participant.plain c.args.work.scenario.now c.args.work.net.now c.in-Ok.pieces.items
+    c.in-Ok-to_advance.given.items
     c.in-Ok-work_in_team.all.items c.in-Ok-to_advance.ensures c.in-Ok-work_in_team.ensures.given
 
 pub returns-clause-advanced : goal.returns-clause-advanced
@@ -37,7 +41,8 @@ returns-clause-advanced g c =
     subst (λ l. AdvanceWatched g.M.Participant.plain keeps k net l c.put_together.result) c.in-Ok.ensures.all
     (pieces_watched g.M.Participant.plain k net keeps c.in-Ok.pieces.items c.in-Ok-advanced_of.results.items c.put_together.result
     (jobs_gave (λ js. MayWatch g.M.Participant.plain c.args.work.scenario.now c.args.work.net.now js)
-    (λ js d. AdvanceWatched g.M.Participant.plain (g.W.Watch.keeps c.args.work.watch) c.args.work.scenario.now c.args.work.net.now js d) g.M.Participant.plain k net
+    (λ js d. AdvanceWatched g.M.Participant.plain (g.W.Watch.keeps c.args.work.watch) c.args.work.scenario.now
+    c.args.work.net.now js d) g.M.Participant.plain k net
     c.in-Ok.pieces.items c.in-Ok-to_advance.given.items c.in-Ok-work_in_team.all.items
     c.in-Ok-advanced_of.results.items c.in-Ok-to_advance.ensures c.in-Ok-work_in_team.ensures.given c.in-Ok-advanced_of.ensures)
     c.put_together.ensures)

@@ -35,14 +35,18 @@ work_in_team-requires-clause-ready g c =
     let net = c.args.work.net.now in
     let may = λ (v : Vec (Cell _)). AllMayHear g.M.Participant.plain (traffic_of k net) (packets_in c.args.sent.items) v.items in
     hearers_may (λ js. MayWatch g.M.Participant.plain c.args.work.scenario.now c.args.work.net.now js)
-    (λ js d. AdvanceWatched g.M.Participant.plain (g.W.Watch.keeps c.args.work.watch) c.args.work.scenario.now c.args.work.net.now js d) g.M.Participant.plain k net c.args.sent.items c.in_ok-pieces.pieces.items c.in_ok-given.given.items
+    (λ js d. AdvanceWatched g.M.Participant.plain (g.W.Watch.keeps c.args.work.watch) c.args.work.scenario.now
+    c.args.work.net.now js d) g.M.Participant.plain k net c.args.sent.items c.in_ok-pieces.pieces.items
+    c.in_ok-given.given.items
     c.in_ok-given.ensures c.requires.network c.requires.sent
     (all_each may c.in_ok-pieces.pieces.items (subst (All may) (sym c.in_ok-pieces.ensures.all) c.requires.groups))
 
 pub heard_of-requires : goal.heard_of-requires
 heard_of-requires g c =
     hearers_heard (λ js. MayWatch g.M.Participant.plain c.args.work.scenario.now c.args.work.net.now js)
-    (λ js d. AdvanceWatched g.M.Participant.plain (g.W.Watch.keeps c.args.work.watch) c.args.work.scenario.now c.args.work.net.now js d) g.M.Participant.plain c.args.work.scenario.now c.args.work.net.now c.args.sent.items c.in_ok-pieces.pieces.items
+    (λ js d. AdvanceWatched g.M.Participant.plain (g.W.Watch.keeps c.args.work.watch) c.args.work.scenario.now
+    c.args.work.net.now js d) g.M.Participant.plain c.args.work.scenario.now c.args.work.net.now c.args.sent.items
+    c.in_ok-pieces.pieces.items
     c.in_ok-given.given.items c.in_ok-all.all.items c.in_ok-given.ensures c.in_ok-all.ensures.given
 
 pub returns-clause-heard : goal.returns-clause-heard
@@ -54,6 +58,8 @@ returns-clause-heard g c =
     (λ (v : Vec (Vec (Cell _))). GroupsHear g.M.Participant.plain (traffic_of k net) ps c.args.groups.items v.items)
     (λ v h. subst (λ l. GroupsHear g.M.Participant.plain (traffic_of k net) ps l v.items) c.in_ok-pieces.ensures.all
     (hearers_gave (λ js. MayWatch g.M.Participant.plain c.args.work.scenario.now c.args.work.net.now js)
-    (λ js d. AdvanceWatched g.M.Participant.plain (g.W.Watch.keeps c.args.work.watch) c.args.work.scenario.now c.args.work.net.now js d) g.M.Participant.plain k net c.args.sent.items c.in_ok-pieces.pieces.items c.in_ok-given.given.items c.in_ok-all.all.items
+    (λ js d. AdvanceWatched g.M.Participant.plain (g.W.Watch.keeps c.args.work.watch) c.args.work.scenario.now
+    c.args.work.net.now js d) g.M.Participant.plain k net c.args.sent.items c.in_ok-pieces.pieces.items
+    c.in_ok-given.given.items c.in_ok-all.all.items
     v.items c.in_ok-given.ensures c.in_ok-all.ensures.given h))
     c.heard_of.result c.heard_of.ensures

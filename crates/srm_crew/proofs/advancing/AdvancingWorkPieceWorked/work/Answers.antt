@@ -12,6 +12,7 @@ pub hear_groups-requires-clause-groups : goal.hear_groups-requires-clause-groups
 hear_groups-requires-clause-groups g c =
     let k = c.args.self.now.scenario.now in
     let net = c.args.self.now.net.now in
-    let may = subst (λ p. MayWork (λ js. All (λ j. MayAdvance g.M.Participant.plain (length net.hosts) j) js) g.M.Participant.plain k net p) c.in-Hearers.is c.requires in
+    let may = subst (λ p. MayWork (λ js. All (λ j. MayAdvance g.M.Participant.plain (length net.hosts) j) js)
+    g.M.Participant.plain k net p) c.in-Hearers.is c.requires in
     subst (λ xs. GroupsMayHear g.M.Participant.plain (traffic_of k net) (packets_in xs) c.in-Hearers.groups.items)
     (sym (c.as_slice.ensures.value ∙ ap (λ (v : Vec Sent). v.items) c.deref.ensures)) may.2
