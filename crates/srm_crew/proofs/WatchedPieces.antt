@@ -10,7 +10,6 @@ use Rattle.srm_scenario.specs.Plain.{PlainScenario, network_of}
 use Rattle.srm_member.specs.Record.{Record}
 use Rattle.srm_member.specs.declared.row.Row.{Row}
 use Rattle.srm_ledger.specs.Seats.{SeatView}
-use Rattle.srm_cell.specs.declared.job.Job.{Job}
 use Rattle.srm_cell.specs.declared.job.Done as job
 use Rattle.srm_cell.specs.declared.fault.CellFault.{CellFault}
 use Rattle.srm_cell.specs.declared.fault.CellFault.TheVariants as cell

@@ -1,4 +1,4 @@
-use Rattle.std.proofs.Common.{length, All, sym, subst, arith}
+use Rattle.std.proofs.Common.{subst, arith}
 use Rattle.std.proofs.lemmas.Slice.Zip.{AllZip-long}
 use Rattle.srm_crew.specs.Pieces.{IsJobsOf}
 use Rattle.srm_interfaces.specs.Watches.{AdvanceWatched}

@@ -1,4 +1,4 @@
-use Rattle.std.proofs.Common.{length, sym}
+use Rattle.std.proofs.Common.{sym}
 use Rattle.srm_interfaces.specs.Watches.{AdvanceWatched}
 use Rattle.srm_crew.proofs.WatchedPieces.{maps_settled, settled_long, watched_as}
 use Rattle.srm_crew.proofs.watch_team.WatchTeamWatchCrew.map.Goals.{then-due_in_all-self, else-due_in_all-self}
