@@ -7,6 +7,7 @@ use srm_net::link::{DropSpec, LossSpec, OutageSpec};
 use srm_net::net::Net;
 use srm_net::packet::PacketId;
 use std::alloc::Global;
+use std::test::Fail;
 
 const SEED: u64 = 9;
 
@@ -129,6 +130,15 @@ fn another_seed_afterwards(rt: HostRuntime) {
             "seed {seed}"
         );
     }
+}
+
+#[test]
+fn two_seeds_share_their_losses(rt: HostRuntime) -> Result<(), Fail> {
+    let one = Drops::of(rt.alloc(), &[], &[], &[loss(1, 601_955, 54)], 43)?;
+    let other = one.share()?.with_seed(42);
+    let id = packet(0, 0);
+    assert!(rt; !one.takes_out(id, 1, 0) && other.takes_out(id, 1, 0));
+    Ok(())
 }
 
 #[test]

@@ -166,7 +166,7 @@ loss = [{ link = 1, rate = 601955, stream = 54, from = 5, to = 9, times = 2 }]
 fn takes_out(alloc: Global, seed: Option<u64>, link: u16, at: u64) -> Result<bool, Fail> {
     let s = read_scenario(alloc, &mut ReadFeed::new(LOSSY.as_bytes()))?;
     let s = match seed {
-        Some(seed) => s.with_seed(seed),
+        Some(seed) => s.share()?.with_seed(seed),
         None => s,
     };
     Ok(s.drops().takes_out(packet(0, 0), link, at))
