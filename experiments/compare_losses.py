@@ -1,6 +1,5 @@
 """Links that lose packets at random, in srm_lab and in ns-2: its ErrorModel on every link, in both directions."""
 import random
-from collections.abc import Callable
 from concurrent.futures import ThreadPoolExecutor
 from functools import partial
 
@@ -8,14 +7,17 @@ from ns2_agent import RULES, Programs, Result, counts
 from srm_lab import Scenario, scenario
 from srm_lab.statistics import Interval, difference, interval
 
-RATES = (0.01, 0.05)
-DRAWS, APART, SEEDS = 40, 25_000, 100
+# rates, each with the seeds of ns-2, whose runs take seconds; srm_lab has ten times as many
+RATES = {0.01: 200, 0.05: 100}
+MORE = 10
+DRAWS, APART = 40, 25_000
 TOLD = """tree of {members} members, of which every link loses packets of each kind, C1 = C2 = 2, D1 = D2 = 1: the share of \
 draws that a receiver loses,
-mean requests and repairs for a lost draw, of {seeds} seeds with {draws} draws each, and the difference, ns-2's less \
-srm_lab's, each with its 95 per
-cent interval over seeds (Student's t; Welch's for the difference). ns-2 has srm_lab's rules; neither the programs \
-nor the rates share random words."""
+mean requests and repairs for a lost draw, of seeds with {draws} draws each (srm_lab has {more} times as many), and the \
+difference, ns-2's less
+srm_lab's, each with its 95 per cent interval over seeds (Student's t; Welch's for the difference). ns-2 has srm_lab's \
+rules; neither the
+programs nor the rates share random words."""
 
 
 def session(rate: float) -> Scenario:
@@ -43,21 +45,20 @@ def of_ns2(programs: Programs, text: str, seed: int) -> Result:
     return programs.ns2(text, RULES, random.Random(seed).randrange(1, 2**31 - 1))
 
 
-def compare_losses(programs: Programs, jobs: int, seeds: int = SEEDS) -> None:
+def compare_losses(programs: Programs, jobs: int) -> None:
     """Prints what both programs lose and send at each rate, with intervals."""
-    print(TOLD.format(members=len(session(RATES[0]).members), seeds=seeds, draws=DRAWS))
-    print(f"{'rate':>5} {'':>9} {'srm_lab':>24} {'ns-2':>24} {'expected':>9} {'difference':>26}")
-    for place, rate in enumerate(RATES):
-        given, own_seeds = session(rate), range(1 + place, 1 + len(RATES) * seeds, len(RATES))
+    print(TOLD.format(members=len(session(0).members), draws=DRAWS, more=MORE))
+    print(f"{'rate':>5} {'seeds':>5} {'':>9} {'srm_lab':>24} {'ns-2':>24} {'expected':>9} {'difference':>26}")
+    for place, (rate, seeds) in enumerate(RATES.items()):
+        given, several = session(rate), range(1 + place, 1 + len(RATES) * MORE * seeds, len(RATES))
         text = given.text()
-        runs: tuple[Callable[[int], Result], ...] = (partial(programs.ours, text), partial(of_ns2, programs, text))
+        runs = (partial(programs.ours, text), several), (partial(of_ns2, programs, text), several[:seeds])
         with ThreadPoolExecutor(jobs) as pool:
-            ours, theirs = (list(zip(*pool.map(lambda seed, run=run: seen(given, run(seed)), own_seeds)))
-                            for run in runs)
+            ours, theirs = (list(zip(*(seen(given, result) for result in pool.map(run, own)))) for run, own in runs)
         for name, own, other in zip(("lost", "requests", "repairs"), ours, theirs):
             wanted = share_of(given, rate) if name == "lost" else None
             means, less = (interval(list(own)), interval(list(other))), difference(list(own), list(other))
-            print(f"{rate:5} {name:>9} {said(means[0]):>24} {said(means[1]):>24} "
+            print(f"{rate:5} {seeds:5} {name:>9} {said(means[0]):>24} {said(means[1]):>24} "
                   f"{'' if wanted is None else format(wanted, '.4f'):>9} {said(less):>26}", flush=True)
 
 

@@ -7,7 +7,7 @@ from dataclasses import replace
 
 import pytest
 
-from srm_lab import read_scenario, scenario
+from srm_lab import read_scenario, run, scenario
 from srm_lab.flight import Flight
 from srm_lab.history import History
 from srm_lab.loss_words import loss_word, mixed
@@ -87,6 +87,13 @@ def test_the_program_loses_what_the_formula_says(srm_lab, seed):
 
     assert heard == {f"0:{count}" for count in range(300) if not is_lost(count)}
     assert 60 < 300 - len(heard) < 160
+
+
+def test_each_seed_of_a_run_loses_packets_of_its_own(program):
+    found = run(PAIR.lose(rate=0.3), seeds=[7, 8, 9], tables="links", program=program, cache=None).links
+    # 300 draws and a session message
+    lost = [sum(word(seed, 0, 0, 0, count) < 300000 * 2**32 // 10**6 for count in range(301)) for seed in (7, 8, 9)]
+    assert found["dropped"].tolist() == lost and len(set(lost)) > 1
 
 
 def test_a_packet_stops_where_it_is_lost(srm_lab):
