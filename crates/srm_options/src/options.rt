@@ -57,7 +57,7 @@ pub struct Options {
     pub show: Show,
     /// How many runs are made, of seeds that rise by one; or none, and then one run is, and its table has no column for the seed.
     pub replications: Option<u32>,
-    /// Whether the scenario is only read and checked, and nothing is run or shown.
+    /// Whether the scenario is only read and checked, and nothing is written.
     pub check: bool,
     /// Whether a refusal is explained after its line.
     pub explain: bool,
