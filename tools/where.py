@@ -3,15 +3,16 @@
 
 usage: tools/where.py NAME.. [--crate CRATE]
 
-NAME is a function, or one of a type, a trait or a module: step_run, Net::distance, laws::one_path. For each that is found there
-are printed its file and line; its contract, as it stands there; each definition of this repository that the contract names,
-with its file and line and the comment above it; the folder with what was written of its proof, or that there is none, since the
-checker found the proof alone; and the rows of docs/PROMISES.md that name it. NAME may be a definition too, which is then
-printed: TellsRefusedFor. Ends with status 1 where a name is found nowhere.
+NAME is a function, or one of a type, a trait or a module: step_run, Net::distance, laws::one_path; of a type or a trait, as Bag,
+all functions are told. For each there are printed its file and line; its contract, as it stands there; each definition of this
+repository that the contract names, with its file and line and the comment above it; the folder with what was written of its
+proof, or that there is none, since the checker found the proof alone; and the rows of docs/PROMISES.md that name it. NAME may be
+a definition too, which is then printed: TellsRefusedFor. Ends with status 1 where a name is found nowhere.
 """
 import argparse
 import pathlib
 import re
+import signal
 import sys
 from collections.abc import Iterator
 from typing import NamedTuple
@@ -24,7 +25,10 @@ IMPORT = re.compile(r"ghost use Rattle\.(\w+)\.specs\.([\w.]+?)(?:\.\{([^}]*)\}|
 # a file of specs/ that passes on what another one defines
 PASSED_ON = re.compile(r"^pub use Rattle\.(\w+)\.specs\.([\w.]+?)\.\{([^}]*)\}", re.M)
 CLAUSE = re.compile(r"^\s*(?:requires|ensures|//)")
-DEFINED = r"^\s*(?:(?:abbrev|unfoldable|pub|record|data|type) )*{}\b.* :"
+DEFINED = r"^\s*(?:(?:abbrev|unfoldable|pub|record|data|type) )*{}\b[^=]* :"
+# the name of a clause, and the end of a head that has no clause
+LABEL = re.compile(r"\b(requires|ensures)(\*?) \w+ (?={)")
+BODY = re.compile(r"^\s*(?:pub|fn|\)).*{}?$")
 
 
 class Function(NamedTuple):
@@ -63,8 +67,9 @@ def functions(crate: str | None) -> Iterator[Function]:
 def contract(function: Function) -> list[str]:
     """The lines of its contract."""
     found: list[str] = []
-    for line in function.path.read_text(encoding="utf-8").splitlines()[function.line :]:
-        if line.strip() in ("{", "{}") or FUNCTION.match(line):
+    lines = function.path.read_text(encoding="utf-8").splitlines()
+    for line in [] if BODY.match(lines[function.line - 1]) else lines[function.line :]:
+        if line.strip() in ("{", "{}") or FUNCTION.match(line) or BODY.match(line):
             break
         if found or CLAUSE.match(line):
             found.append(line.rstrip())
@@ -115,7 +120,7 @@ def definition(crate: str, module: str, name: str) -> str | None:
 def definitions(function: Function, clauses: list[str]) -> Iterator[tuple[str, str]]:
     """Each definition that a contract names, with its place; those of the toolchain and those made of a type are left out."""
     known = imports(function)
-    for name in dict.fromkeys(re.findall(r"[A-Za-z_]\w*", "\n".join(clauses))):
+    for name in dict.fromkeys(re.findall(r"[A-Za-z_]\w*", LABEL.sub(r"\1\2 ", "\n".join(clauses)))):
         if name in known:
             place = definition(known[name][0], known[name][1], known[name][2] or name)
             if place:
@@ -175,7 +180,7 @@ def main() -> int:
     options = words.parse_args()
     known, missing = list(functions(options.crate)), []
     for name in options.name:
-        found = [function for function in known if function.is_called(name)]
+        found = [it for it in known if it.is_called(name)] or [it for it in known if name in (it.owner, it.by)]
         for function in found:
             tell(function)
         if not tell_definitions(name, options.crate) and not found:
@@ -186,4 +191,5 @@ def main() -> int:
 
 
 if __name__ == "__main__":
+    signal.signal(signal.SIGPIPE, signal.SIG_DFL)
     sys.exit(main())

@@ -97,6 +97,11 @@ class Where(unittest.TestCase):
         self.assertIn("crates/srm_sum/proofs/adder/AdderMember/react/", text)
         self.assertIn("docs/PROMISES.md:6  It is a member.", text)
 
+    def test_all_functions_of_a_type_are_told(self) -> None:
+        _, text = self.told("Adder")
+        self.assertIn("srm_sum: Adder::sum", text)
+        self.assertIn("srm_sum: Adder::react", text)
+
     def test_definition_is_printed_whole(self) -> None:
         status, text = self.told("sum_of")
         self.assertEqual(0, status)
