@@ -76,7 +76,7 @@ def measure(program: Program, words: list[str], text: bytes) -> tuple[int, int]:
 def main() -> None:
     parser = argparse.ArgumentParser(description="peak memory of traces of three lengths")
     parser.add_argument("program", type=Program)
-    parser.add_argument("--show", action="append", choices=TABLES, help="a table; all five where none is named")
+    parser.add_argument("--show", action="append", choices=TABLES, help="a table; all six where none is named")
     given = parser.parse_args()
     for table in given.show or TABLES:
         for name, words in ENGINES:
