@@ -142,7 +142,7 @@ def promises(function: Function) -> Iterator[str]:
     for number, line in enumerate((TOP / "docs" / "PROMISES.md").read_text(encoding="utf-8").splitlines(), 1):
         crate = line.removeprefix("## ") if line.startswith("## ") else crate
         columns = line.split(" | ")
-        if crate == function.crate.name and len(columns) > 2 and named.search(columns[1]):
+        if crate == function.crate.name and len(columns) > 1 and named.search(columns[1]):
             yield f"docs/PROMISES.md:{number}  {columns[0].removeprefix('| ')}"
 
 

@@ -46,7 +46,7 @@ class Sources:
 
 
 def rows(text: str) -> Iterator[tuple[str, list[str]]]:
-    """Each row of the page with its crate, as three cells."""
+    """Each row of the page with its crate, as two cells, or three where it names edits."""
     crate = ""
     for line in text.splitlines():
         if line.startswith("## "):
@@ -96,10 +96,10 @@ def faults(text: str, found: Sources) -> Iterator[str]:
     edits = {edit.stem: edit for edit in sorted(TOP.glob("crates/*/must-fail/*.edit"))}
     named = set()
     for crate, cells in rows(text):
-        if len(cells) != 3:
-            yield f"{crate}: {cells[0][:60]}: it has not three cells"
+        if len(cells) not in (2, 3):
+            yield f"{crate}: {cells[0][:60]}: it has not two or three cells"
             continue
-        named |= {it for it in re.findall(r"`([a-z0-9_]+)`", cells[2])}
+        named |= {it for cell in cells[2:] for it in re.findall(r"`([a-z0-9_]+)`", cell)}
         yield from (f"{crate}: {cells[0][:60]}: {fault}" for fault in faults_of_citing(crate, cells[1], found))
     scripts = re.findall(r"`((?:tests|bench|tools)/[\w./]+)`", text)
     yield from (f"there is no {script}" for script in scripts if not (TOP / script).exists())
