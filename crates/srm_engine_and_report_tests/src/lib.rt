@@ -14,8 +14,6 @@ mod gate_tests;
 #[cfg(test)]
 mod opening;
 #[cfg(test)]
-mod operations_tests;
-#[cfg(test)]
 mod outlet_tests;
 #[cfg(test)]
 mod stream_tests;
