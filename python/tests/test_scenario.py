@@ -4,6 +4,7 @@ import sys
 import tomllib
 from dataclasses import replace
 from pathlib import Path
+from typing import cast
 
 import pytest
 
@@ -190,7 +191,7 @@ def test_one_seed_gives_one_scenario_and_verbs_choose_apart():
     (lambda: scenario.chain(3).lose(rate=True), "rate is True, and has to be from 0 to 1"),
     (lambda: scenario.chain(3).lose(rate=0.5, link=2), "there is no link 2: the network has 2"),
     (lambda: scenario.chain(3).lose(rate=0.5, stream=-1), "stream is -1, and has to be 0 to 9223372036854775807"),
-    (lambda: scenario.chain(3).lose(rate=0.5, first="5"), "first is '5', and has to be a whole number"),
+    (lambda: scenario.chain(3).lose(rate=0.5, first=cast(int, "5")), "first is '5', and has to be a whole number"),
     (lambda: scenario.chain(3).lose(rate=0.5, first=9, last=8), "loss 0: `from` is 9, and has to be below `to`, 9"),
     (lambda: replace(scenario.chain(3), version=5).lose(rate=0.5), "`version` is 5, and has to be 1 to 4"),
     (lambda: scenario.chain(3).lose(rate=0.5, stream=1, sender=0), "losses at random, which know no sender"),
