@@ -1,5 +1,5 @@
 # fish completion of srm_lab
-complete -c srm_lab -l seed -x -d 'Seed of the random words'
+complete -c srm_lab -l seed -x -d 'Seed of the random words of members and losses'
 complete -c srm_lab -l replications -x -d 'How many runs, of seeds that rise by one'
 complete -c srm_lab -l engine -x -a "step\t'one event at a time' window\t'windows of time'" -d 'How the run is computed'
 complete -c srm_lab -l crew -x -a "plain\t'one thread' pool\t'a pool of threads' bag\t'workers that share a bag' team\t'workers that last for the run'" -d 'Who works in a window'

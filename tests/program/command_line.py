@@ -511,7 +511,7 @@ Usage: srm_lab [OPTIONS] < scenario.toml
 
 Options:
       --seed <0..=9223372036854775807>
-          The seed of the members' random words [default: 0]
+          The seed of the random words of members and losses [default: 0]
       --replications <1..=1000000>
           How many runs are made, with the seeds from --seed on: each row begins with its seed
       --show <trace|members|losses|operations|links|timers>

@@ -103,7 +103,7 @@ const SEED_LINE: OptionLine = OptionLine {
     name: SEED,
     takes: "0..=9223372036854775807",
     default: Some("0"),
-    about: "The seed of the members' random words",
+    about: "The seed of the random words of members and losses",
     reader: SEEDS,
     words: &[],
 };
