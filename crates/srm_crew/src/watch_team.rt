@@ -37,9 +37,9 @@ use std::alloc::{AllocError, Global};
 use std::marker::Copy;
 use std::sync::Wait;
 
-/// Advances watched jobs on the threads of a team, which stay for the next call. It serves runs of one scenario, which it keeps with
-/// its network. What a call hands to the team is in no more pieces than it has room for. As it is written, the thread that calls does
-/// all the work where something is due in few cells: to wake the others would take longer.
+/// Advances watched jobs on the threads of a team, which stay for the next call. It serves runs of one scenario, which it keeps
+/// with its network. What a call hands to the team is in no more pieces than it has room for. As it is written, the thread that
+/// calls does all the work where something is due in few cells: to wake the others would take longer.
 #[derive(Drop)]
 pub struct WatchTeam<'a, R: Wait, M: Participant, K: Drop, W: Watch<K> + Copy, J: Naming> {
     rt: R,
@@ -117,8 +117,8 @@ impl<'a, R: Wait, M: Participant, K: Drop, W: Watch<K> + Copy, J: Naming> WatchT
     W,
     J,
 > {
-    /// A crew that has this team, and does this work. As it is written, the thread that calls does it where something is due in fewer
-    /// than `few` cells, or where the team has room for no item. It does not allocate.
+    /// A crew that has this team, and does this work. As it is written, the thread that calls does it where something is due in
+    /// fewer than `few` cells, or where the team has room for no item. It does not allocate.
     ///
     /// A call of it is refused with `NoMemory` also where its team is `Worn` or `Left`, and never for `TooMany`.
     pub fn new(
