@@ -47,8 +47,7 @@ impl Pending {
         }
     }
 
-    /// Takes the place of what is next, if there is any, unless that has the lesser key: then it is left where it is, and nothing is
-    /// copied.
+    /// Takes the place of what is next, unless that has the lesser key: then nothing is copied.
     pub(crate) fn take_place(self, next: &mut Option<Pending>)
         ensures { next.new ≡ pending.sooner_pending (Some self) next.old }
     {
