@@ -100,8 +100,7 @@ impl<M: Participant> Cell<M> {
         if self.inbox.accept(packet, arrival).is_err() {
             return Err(CellFault::NoMemory);
         }
-        let arriving = Pending::arriving(self.number, arrival, packet.id);
-        self.next = sooner(Some(arriving), self.next);
+        Pending::arriving(self.number, arrival, packet.id).take_place(&mut self.next);
         Ok(())
     }
 

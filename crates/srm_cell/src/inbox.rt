@@ -136,10 +136,12 @@ fn put_at(
         let more = line.len() / 4 + 2;
         line.reserve_exact(more)?;
     }
-    match line.insert(place, flight) {
-        Ok(()) => Ok(()),
-        Err(_) => Err(AllocError),
+    if place == line.len() {
+        line.push_back(flight)?;
+    } else {
+        line.insert(place, flight)?;
     }
+    Ok(())
 }
 
 // Whether the first of a line goes before all others.

@@ -1,5 +1,5 @@
 //! Which of a cell's events is next.
-ghost use Rattle.std.specs.Prelude.{◌≡◌};
+ghost use Rattle.std.specs.Prelude.{◌≡◌, Some};
 ghost use Rattle.std.specs.Ordering.{is_gt};
 ghost use Rattle.srm_net.specs.Keys.{key_cmp};
 ghost use Rattle.srm_cell.specs.Pending as pending;
@@ -44,6 +44,19 @@ impl Pending {
                 c: id.count,
             },
             source: Source::Inbox,
+        }
+    }
+
+    /// Takes the place of what is next, unless that has the lesser key: then nothing is copied.
+    pub(crate) fn take_place(self, next: &mut Option<Pending>)
+        ensures { next.new ≡ pending.sooner_pending (Some self) next.old }
+    {
+        let is_later = match next {
+            None => false,
+            Some(other) => self.is_after(other),
+        };
+        if !is_later {
+            *next = Some(self);
         }
     }
 

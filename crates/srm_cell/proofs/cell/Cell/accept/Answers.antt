@@ -1,4 +1,4 @@
-use Rattle.std.proofs.Common.{◌≡◌, Some, sym, ◌∙◌, ap, subst}
+use Rattle.std.proofs.Common.{Some, sym, ◌∙◌, ap, subst}
 use Rattle.srm_net.specs.Orders.{place}
 use Rattle.srm_cell.specs.Flights.{flight_cmp}
 use Rattle.srm_cell.specs.Cells.{hear_at, next_event}
@@ -12,8 +12,7 @@ returns-clause-ok g c = λ m p h.
     let placed = if_ok c.accept.result _ (sym c.is_err.ensures.value ∙ c.if-is_err.false) c.accept.ensures.ok in
     let packet = c.args.packet.now in
     let was = c.args.self.now.next in
-    let is : c.sooner-self.result ≡ sooner_pending (Some (arriving m c.args.arrival packet.id)) was =
-    c.sooner-self.ensures ∙ ap (λ q. sooner_pending (Some q) was) (c.arriving-arriving.ensures
+    let is = c.take_place.ensures ∙ ap (λ q. sooner_pending (Some q) was) (c.arriving.ensures
     ∙ ap (λ n. arriving n c.args.arrival packet.id) h.parts.number) in
     record {
       parts = record {
