@@ -136,10 +136,14 @@ impl<W: Work<T, D> + Copy, T: Drop, D: Drop, J: Naming> Ends<W, T, D, J> {
         Ok(())
     }
 
-    /// The next answer. The leader works on orders that nobody has taken.
+    /// The next answer. Where none is there, the leader works on an order that nobody has taken. Answers come first, since they
+    /// make room for orders, without which workers sleep.
     pub(crate) fn next<R: Wait>(&self, rt: &R) -> Result<Answer<W, T, D, J>, TeamFault>
         ensures { IfErr result (λ e. e ≡ TeamFault.Left) }
     {
+        if let Ok(answer) = self.answers.try_recv(rt) {
+            return Ok(answer);
+        }
         if let Ok(order) = self.orders.try_recv(rt) {
             return Ok(order.carry_out());
         }
