@@ -5,8 +5,8 @@ use Rattle.srm_member.specs.declared.row.Row.{Row}
 use Rattle.srm_member.specs.ByMember.{rows_of_member}
 use Rattle.srm_model.specs.Laws.{by_member}
 use Rattle.srm_model.proofs.StandAlike.{results_by_member}
-use Rattle.srm_interfaces.specs.Watches.{KeepEach}
-use Rattle.srm_engine.specs.KeptMembers.{KeepMembers, KeptGoesOn, KeptOfWindow}
+use Rattle.srm_interfaces.specs.Watches.{KeepEach, KeepMembers}
+use Rattle.srm_engine.specs.KeptMembers.{KeptGoesOn, KeptOfWindow}
 
 module _ {K : Type 0} (keeps : K → List Row → Type 0) where
   go_on : (n m : ℕ) (trace rows : List Row) (old new : List K) → KeepMembers keeps m old trace

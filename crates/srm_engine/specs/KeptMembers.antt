@@ -1,19 +1,13 @@
 -- What is kept of each member's rows, from window to window.
-use Rattle.std.specs.Prelude.{◌≤◌, ℕ, suc, List, [], ◌∷◌, ◌++◌}
+use Rattle.std.specs.Prelude.{◌≤◌, ℕ, List, [], ◌++◌}
 use Rattle.srm_member.specs.declared.row.Row.{Row}
-use Rattle.srm_member.specs.ByMember.{rows_of_member}
 use Rattle.srm_cell.specs.Setting.{Setting, IsFit}
 use Rattle.srm_model.specs.World.{World, IsReached}
 use Rattle.srm_model.specs.Schedules.{IsSafe}
 use Rattle.srm_model.specs.WindowRuns.{OwnResult, AreOwnRuns, rows_in, IsMerge}
-use Rattle.srm_interfaces.specs.Watches.{KeepEach}
+use Rattle.srm_interfaces.specs.Watches.{KeepEach, KeepMembers}
 
 module _ {K : Type 0} (keeps : K → List Row → Type 0) where
-  -- this is kept of member m, of member m + 1 and so on: what is kept of each keeps its rows of these
-  abbrev pub KeepMembers : ℕ → List K → List Row → Type 0
-  KeepMembers m [] trace = Unit {0}
-  KeepMembers m (k ∷ ks) trace = keeps k (rows_of_member m trace) × KeepMembers (suc m) ks trace
-
   -- so it goes on over a window: what kept each member's rows so far, and takes in those of its own run, keeps its
   -- rows of the longer trace. No row is sorted
   abbrev pub KeptGoesOn : Type 0
@@ -21,8 +15,8 @@ module _ {K : Type 0} (keeps : K → List Row → Type 0) where
       (s : Setting) (w : World) (till : ℕ) → IsFit s → IsReached s w → till ≤ s.traffic.until → IsSafe s till w
       → (results : List OwnResult) → AreOwnRuns till 0 w.cells results
       → (rows : List Row) → IsMerge (rows_in results) rows
-      → (old new : List K) → KeepMembers 0 old w.trace → KeepEach keeps old (rows_in results) new
-      → KeepMembers 0 new (w.trace ++ rows)
+      → (old new : List K) → KeepMembers keeps 0 old w.trace → KeepEach keeps old (rows_in results) new
+      → KeepMembers keeps 0 new (w.trace ++ rows)
 
   -- and what keeps a window's rows alone, begun with nothing kept, keeps each member's rows of it
   abbrev pub KeptOfWindow : Type 0
@@ -30,5 +24,5 @@ module _ {K : Type 0} (keeps : K → List Row → Type 0) where
       (s : Setting) (w : World) (till : ℕ) → IsFit s → IsReached s w → till ≤ s.traffic.until → IsSafe s till w
       → (results : List OwnResult) → AreOwnRuns till 0 w.cells results
       → (rows : List Row) → IsMerge (rows_in results) rows
-      → (old new : List K) → KeepMembers 0 old [] → KeepEach keeps old (rows_in results) new
-      → KeepMembers 0 new rows
+      → (old new : List K) → KeepMembers keeps 0 old [] → KeepEach keeps old (rows_in results) new
+      → KeepMembers keeps 0 new rows

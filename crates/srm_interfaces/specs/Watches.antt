@@ -1,11 +1,12 @@
 -- What is kept of the rows of jobs.
-use Rattle.std.specs.Prelude.{◌≡◌, List, [], ◌∷◌, ◌++◌, All, length, map, Result, Ok, Err}
+use Rattle.std.specs.Prelude.{◌≡◌, ℕ, suc, List, [], ◌∷◌, ◌++◌, All, length, map, Result, Ok, Err}
 use Rattle.std.specs.List.{AllZip}
 use Rattle.std.specs.Global.{Vec}
 use Rattle.srm_net.specs.Network.{Network}
 use Rattle.srm_scenario.specs.Plain.{PlainScenario}
 use Rattle.srm_member.specs.declared.row.Row.{Row}
 use Rattle.srm_member.specs.Record.{Record}
+use Rattle.srm_member.specs.ByMember.{rows_of_member}
 use Rattle.srm_ledger.specs.Seats.{SeatView}
 use Rattle.srm_cell.specs.declared.job.Job.{Job}
 use Rattle.srm_cell.specs.declared.job.Done as job
@@ -25,6 +26,11 @@ KeepEach keeps [] [] [] = Unit {0}
 KeepEach keeps (a ∷ old) (rows ∷ more) (b ∷ new) =
     ((before : List Row) → keeps a before → keeps b (before ++ rows)) × KeepEach keeps old more new
 KeepEach keeps old more new = ⊥
+
+-- this is kept of member m, of member m + 1 and so on: what is kept of each keeps its rows of these
+abbrev pub KeepMembers : {K : Type 0} → (K → List Row → Type 0) → ℕ → List K → List Row → Type 0
+KeepMembers keeps m [] rows = Unit {0}
+KeepMembers keeps m (k ∷ ks) rows = keeps k (rows_of_member m rows) × KeepMembers keeps (suc m) ks rows
 
 module _ {M : Type 0} where
   -- this is done of the jobs, of all jobs that they may be seen as

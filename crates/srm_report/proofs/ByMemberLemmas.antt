@@ -97,13 +97,14 @@ turn_alike xs ys alike o m = subst (λ l. AreLostOnce l × AreFixedAfterLoss l) 
 
 -- ---- what became of losses
 
-at_alike : (k : ℕ) (q : Row → Bool) (xs ys : List Row) → AreAlike xs ys → row_time (lists.find (λ r. (r.key.member == k) && q r) xs)
+at_alike : (k : ℕ) (q : Row → Bool) (xs ys : List Row) → rows_of_member k xs ≡ rows_of_member k ys
+    → row_time (lists.find (λ r. (r.key.member == k) && q r) xs)
     ≡ row_time (lists.find (λ r. (r.key.member == k) && q r) ys)
 at_alike k q xs ys alike =
-    ap row_time (find_filtered (by k) q xs ∙ ap (λ l. lists.find q l) (alike k) ∙ sym (find_filtered (by k) q ys))
+    ap row_time (find_filtered (by k) q xs ∙ ap (λ l. lists.find q l) alike ∙ sym (find_filtered (by k) q ys))
 
-course_alike : (xs ys : List Row) → AreAlike xs ys → (k : Loss) → course_of xs k ≡ course_of ys k
-course_alike xs ys alike k =
+pub course_at : (k : Loss) (xs ys : List Row) → rows_of_member k.member xs ≡ rows_of_member k.member ys → course_of xs k ≡ course_of ys k
+course_at k xs ys alike =
     let d : detected_at xs k ≡ detected_at ys k = at_alike k.member (λ r. list_any (is_name k.name) r.lost) xs ys alike in
     let f : recovered_at xs k ≡ recovered_at ys k =
     at_alike k.member (λ r. is_fixed r.told && option_map_or (is_name k.name) (brought r.about) false) xs ys alike in
@@ -147,11 +148,11 @@ row_within pre x post =
 losses_alike : (xs ys : List Row) → AreAlike xs ys → ordered loss_cmp (losses_in xs) ≡ ordered loss_cmp (losses_in ys)
 losses_alike = same_of_alike (λ rows. ordered loss_cmp (losses_in rows)) (λ x zs. places (own_losses x) zs) row_within
 
-tell_alike : (xs ys : List Row) (es : List (Loss × Course)) → AreAlike xs ys → TellLosses xs es → TellLosses ys es
+pub tell_alike : (xs ys : List Row) (es : List (Loss × Course)) → AreAlike xs ys → TellLosses xs es → TellLosses ys es
 tell_alike xs ys es alike t = record {
   sorted = t.sorted;
   losses = t.losses ∙ losses_alike xs ys alike;
-  courses = λ k. t.courses k ∙ course_alike xs ys alike k;
+  courses = λ k. t.courses k ∙ course_at k xs ys (alike k.member);
 }
 
 -- ---- sinks

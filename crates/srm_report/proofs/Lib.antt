@@ -5,6 +5,7 @@ pub mod CountLemmas
 pub mod CourseLemmas
 pub mod EntryLemmas
 mod CutLemmas
+mod KeptLossLemmas
 pub mod LineLemmas
 pub mod LinkLemmas
 pub mod ListingLemmas

@@ -9,19 +9,21 @@ use Rattle.srm_scenario.specs.declared.parts.MemberSpec.{MemberSpec}
 use Rattle.srm_scenario.specs.Plain.{PlainScenario}
 use Rattle.srm_member.specs.declared.row.Row.{Row}
 use Rattle.srm_report.specs.declared.counts.Counts.{Counts}
-use Rattle.srm_report.specs.Counted.{AreCounts, counts_at}
+use Rattle.srm_report.specs.declared.member_count.MemberCount.{MemberCount}
+use Rattle.srm_report.specs.MemberCounts.{AreCounts, counts_at}
 use Rattle.srm_report.specs.Members.{counts_of, member_columns, member_fields, member_rows, members_table}
 use Rattle.srm_report.specs.Tables.{table_lines}
 use Rattle.srm_report.proofs.TableLemmas.{table_more}
 use Rattle.srm_report.proofs.CountLemmas.{member_rows-more}
 
-module _ (rows : List Row) (ks : List MemberSpec) (cs : List Counts) (counts : AreCounts rows cs) where
+module _ (rows : List Row) (ks : List MemberSpec) (cs : List MemberCount)
+    (counts : AreCounts (length ks) rows cs) where
   pub text_more : (m : ℕ) (k : MemberSpec) (n : Counts) (old new line : List ℕ) → slice_get ks m ≡ Some k → n ≡ counts_at cs m
       → old ≡ table_lines member_columns (member_rows rows 0 (take m ks)) → line ≡ row_text default_writer (member_fields m k n)
       → new ≡ old ++ line → new ≡ table_lines member_columns (member_rows rows 0 (take (m + 1) ks))
   text_more m k n old new line here is before f grown =
       let lt = slice_get_within ks m k here in
-      let own : n ≡ counts_of (rows_of_member m rows) = is ∙ counts m in
+      let own : n ≡ counts_of (rows_of_member m rows) = is ∙ counts m lt in
       let long = length-take-le m ks (omega arith) in
       let one : take (m + 1) ks ≡ take m ks ++ k ∷ [] = take_more ks m k lt
       ∙ ap (λ q. take m ks ++ q ∷ []) (get_or_from_slice_get ks m k k here) in

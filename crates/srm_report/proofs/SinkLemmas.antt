@@ -1,14 +1,17 @@
 -- What writing after what is gathered does to a sink.
 use Rattle.std.proofs.Common.{arith}
-use Rattle.std.proofs.Common.{◌≡◌, ◌∙◌, ℕ, Bool, List, [], ◌++◌, Option, Result, Ok, Err, length, ◌≤◌, ap, sym, append-nil}
+use Rattle.std.proofs.Common.{◌≡◌, ◌∙◌, ℕ, Bool, List, [], ◌++◌, Option, Result, Ok, Err, length, ◌≤◌, ap, refl, sym, append-nil}
 use Rattle.std.specs.Result.{MatchResult}
 use Rattle.srm_member.specs.declared.row.Row.{Row}
 use Rattle.srm_interfaces.specs.declared.sink.SinkFault.{SinkFault}
+use Rattle.srm_interfaces.specs.declared.sink.SinkFault.TheVariants as fault
+use Rattle.srm_interfaces.specs.declared.sink.Stage.TheVariants as stage
+use Rattle.srm_interfaces.specs.Sinks.{stage_after}
 use Rattle.srm_report.specs.declared.standing.Standing.{Standing}
 use Rattle.srm_report.specs.declared.listing_sink.ListingSink.{ListingSink}
 use Rattle.srm_report.specs.Listings.{Form}
 use Rattle.srm_report.specs.Standings.{text_next, after_answer, TakesText}
-use Rattle.srm_report.specs.ListingSinks.{outlet_under, gathered_by, written_by, PutsAll}
+use Rattle.srm_report.specs.ListingSinks.{outlet_under, gathered_by, stage_at, written_by, PutsAll}
 use Rattle.srm_report.specs.ListingSinks.{PutsText, PutsRows, PutsPart, WritesThrough}
 use Rattle.srm_report.specs.SinkLaws.{all_more, front_more}
 
@@ -26,6 +29,13 @@ written_after taken a b c text (Ok v) none same h k = (
 )
 written_after taken a b c text (Err e) none same h k =
     front_more taken a b c [] text h (k.0, k.1, ap (λ (l : List ℕ). l ++ text) none ∙ k.2, record { bytes = k.3; counted = k.4 })
+
+-- a fault of the outlet tells how many bytes it took in all
+pub told_all : {L O A : Type 0} (taken : O → Option (List ℕ)) (a b : ListingSink L O) (text : List ℕ) (r : Result A SinkFault)
+    → PutsText taken a text r b → stage_at (after_answer r) (written_by b) ≡ stage_after r
+told_all taken a b text (Ok v) h = refl
+told_all taken a b text (Err fault.NoMemory) h = refl
+told_all taken a b text (Err (fault.Stopped n)) h = ap (λ m. stage.Refused (fault.Stopped m)) (sym h.1)
 
 -- after the text of rows was put, and the sink stands as the answer says
 pub rows_put : {L O A : Type 0} (taken : O → Option (List ℕ)) (f : Form) (a b : ListingSink L O) (rows : List Row) (r : Result A SinkFault)

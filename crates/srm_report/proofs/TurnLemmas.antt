@@ -20,6 +20,7 @@ use Rattle.srm_member.proofs.AllIn.{AllIn}
 use Rattle.srm_member.specs.ByMember.{rows_of_member, AreAlike}
 use Rattle.srm_member.proofs.ByMemberLemmas.{alike_first, alike_none}
 use Rattle.srm_cell.specs.Crossings.{joined}
+use Rattle.srm_interfaces.specs.Watches.{KeepMembers}
 use Rattle.srm_model.specs.Laws.{by_member}
 use Rattle.srm_model.specs.World.{row_cmp}
 use Rattle.srm_model.proofs.Merge.{same, no_same, after_all, one_self, count-sum_by}
@@ -142,13 +143,19 @@ members_in : (n : ℕ) (rows : List Row) → All (HasTurn n) rows → AllIn (λ 
 members_in n [] h = tt
 members_in n (r ∷ rows) h = ((All-head (HasTurn n) r rows h).member, members_in n rows (All-tail (HasTurn n) r rows h))
 
+lists_are : (f : Form) (rows : List Row) (m : ℕ) (lists : List (List (ℕ × List ℕ)))
+    → KeepMembers (λ l own. l ≡ lines_of f own) m lists rows → lists ≡ map (λ own. lines_of f own) (by_member m (length lists) rows)
+lists_are f rows m [] h = refl
+lists_are f rows m (l ∷ lists) h = λ i. h.0 i ∷ lists_are f rows (suc m) lists h.1 i
+
 -- sorted, the turns of all members' lines are those of rows whose keys rise
 pub sorted_turns : (f : Form) (rows : List Row) (lists : List (List (ℕ × List ℕ))) (turns sorted : List ℕ) → AreLinesOf f rows lists
     → IsSorted row_cmp rows → turns ≡ turns_from 0 lists → IsPermutation turns sorted → IsSorted nat_cmp sorted
     → sorted ≡ map turn_of rows
 sorted_turns f rows lists turns sorted are rise is perm in_order =
     let n = length lists in
-    let listed : turns ≡ map turn_of (joined (by_member 0 n rows)) = is ∙ ap (turns_from 0) are.are ∙ all_turns f n 0 rows in
+    let listed : turns ≡ map turn_of (joined (by_member 0 n rows)) =
+    is ∙ ap (turns_from 0) (lists_are f rows 0 lists are.are) ∙ all_turns f n 0 rows in
     let alike = listed_alike n rows (members_in n rows are.turns) in
     let moved : IsPermutation (map turn_of rows) sorted =
     IsPermutation-trans _ _ _
@@ -247,7 +254,7 @@ next_turn f rows lists turns i t are is lt at =
       here = λ own own_is.
           let zero_m : 0 + m ≡ m = omega arith in
           let lines : own ≡ lines_of f (rows_of_member m (take i rows) ++ r ∷ rows_of_member m e.1) =
-          own_list f (length lists) 0 m rows own has.member (own_is ∙ ap (λ l. get_or l m own) are.are)
+          own_list f (length lists) 0 m rows own has.member (own_is ∙ ap (λ l. get_or l m own) (lists_are f rows 0 lists are.are))
           ∙ ap (λ k. lines_of f (rows_of_member k rows)) zero_m ∙ ap (lines_of f) mine in (
             subst (λ l. length (rows_of_member m (take i rows)) < length l) (sym lines)
                 (longer f (rows_of_member m (take i rows)) r (rows_of_member m e.1)),

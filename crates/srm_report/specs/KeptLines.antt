@@ -2,7 +2,7 @@
 use Rattle.std.specs.Prelude.{ℕ, zero, suc, ◌+◌, ◌*◌, ◌^◌, ◌<◌, List, [], ◌∷◌, ◌++◌, ◌≡◌, ◌≤◌, ◌-◌, take, drop}
 use Rattle.std.specs.Prelude.{map, length, All, nat_lt, cond}
 use Rattle.srm_member.specs.declared.row.Row.{Row}
-use Rattle.srm_model.specs.Laws.{by_member}
+use Rattle.srm_interfaces.specs.Watches.{KeepMembers}
 use Rattle.srm_report.specs.Listings.{Form}
 use Rattle.srm_report.specs.declared.lines.LineEnd.{LineEnd}
 
@@ -50,4 +50,4 @@ pub record HasTurn (members : ℕ) (r : Row) : Type 0 where
 pub record AreLinesOf (f : Form) (rows : List Row) (lists : List (List (ℕ × List ℕ))) : Type 0 where
   pub few : length lists ≤ 2 ^ 16
   pub turns : All (HasTurn (length lists)) rows
-  pub are : lists ≡ map (λ own. lines_of f own) (by_member 0 (length lists) rows)
+  pub are : KeepMembers (λ l own. l ≡ lines_of f own) 0 lists rows

@@ -1,23 +1,23 @@
 -- Rows of members that are counted as they come.
-use Rattle.std.specs.Prelude.{List, [], ◌++◌}
+use Rattle.std.specs.Prelude.{ℕ, List, [], ◌++◌}
 use Rattle.std.proofs.Common.{sym, subst, append_assoc, append-nil}
 use Rattle.srm_member.specs.declared.row.Row.{Row}
 use Rattle.srm_interfaces.specs.declared.sink.Stage.{Stage}
-use Rattle.srm_report.specs.declared.counts.Counts.{Counts}
+use Rattle.srm_report.specs.declared.member_count.MemberCount.{MemberCount}
 use Rattle.srm_report.specs.declared.members_sink.MembersSink.{MembersSink}
-use Rattle.srm_report.specs.Counted.{AreCounts}
+use Rattle.srm_report.specs.MemberCounts.{IsCounted}
 
 -- where the sink stands
 abbrev pub stage_of_members : MembersSink → Stage
 stage_of_members s = s.stage
 
--- the counts of the members, up to the last that had a row
-abbrev pub counts_in : MembersSink → List Counts
+-- what was counted of the members, up to the last that had a row
+abbrev pub counts_in : MembersSink → List MemberCount
 counts_in s = s.counts.items
 
 -- the sink has counted exactly these rows
 abbrev pub HasCountedRows : List Row → MembersSink → Type 0
-HasCountedRows rows s = AreCounts rows (counts_in s)
+HasCountedRows rows s = (m : ℕ) → IsCounted rows (counts_in s) m
 
 -- between these two values exactly these rows were counted, after those before
 abbrev pub CountsRows : MembersSink → List Row → MembersSink → Type 0

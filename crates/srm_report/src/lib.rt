@@ -10,6 +10,7 @@ pub mod fault;
 mod fields;
 pub mod find_losses;
 pub mod in_turn;
+pub mod keep_lines;
 pub mod keep_nothing;
 pub mod laws_of_operations;
 mod line;

@@ -1,12 +1,12 @@
 //! Tables that list rows.
-ghost use Rattle.std.specs.Prelude.{◌≡◌, IfOk};
+ghost use Rattle.std.specs.Prelude.{◌≡◌, ◌++◌, IfOk, OnOk};
 ghost use Rattle.srm_report.specs.Listings.{Form, lines_in, text_in};
 ghost use Rattle.srm_report.specs.Texts.{bytes_of};
 
 use crate::fault::ReportFault;
 use crate::text::Text;
 use srm_member::row::Row;
-use std::alloc::Global;
+use std::alloc::{AllocError, Global};
 
 /// A table that lists rows in the order of the trace, each as it comes. A contract sees how.
 pub trait Listing: Drop {
@@ -27,7 +27,14 @@ pub trait Listing: Drop {
     fn lines(alloc: Global, rows: &[Row]) -> Result<Vec<u8>, ReportFault>
         ensures { IfOk result (λ text. text.items ≡ lines_in form rows.now) };
 
-    /// The same of rows that are then gone. The thread that calls makes the text, unless the table has others for that.
+    /// Puts the lines of a row behind a text.
+    ///
+    /// # Errors
+    /// [`AllocError`].
+    fn put_line(text: &mut Vec<u8>, row: &Row) -> Result<(), AllocError>
+        ensures { OnOk result (text.new.items ≡ text.old.items ++ form.line row.now) };
+
+    /// The lines of rows that are then gone. The thread that calls makes the text, unless the table has others for that.
     ///
     /// # Errors
     /// `NoMemory`.

@@ -1,10 +1,15 @@
 //! A table that lists rows, written as they come.
-ghost use Rattle.std.specs.Prelude.{◌≡◌, ◌<◌, ◌+◌, ◌-◌, ◌^◌, ◌≤◌, ◌==◌, ◌||◌, [], false, is_ok, not, if◌then◌else◌, length, IfOk};
+ghost use Rattle.std.specs.Prelude.{◌≡◌, ◌<◌, ◌+◌, ◌-◌, ◌^◌, ◌≤◌, ◌==◌, ◌||◌, List, [], false, is_ok, not, if◌then◌else◌, length, IfOk, IsSorted};
+ghost use Rattle.srm_member.specs.declared.row.Row.{Row as R};
+ghost use Rattle.srm_model.specs.World.{row_cmp};
+ghost use Rattle.srm_report.specs.KeptLines.{AreLinesOf};
 ghost use Rattle.srm_report.specs.Standings.{text_next, after_answer, TakesText};
 ghost use Rattle.srm_report.specs.Pieces.{joined_pieces};
 ghost use Rattle.srm_report.specs.Texts.{bytes_of};
 
 use crate::fault::ReportFault;
+use crate::in_turn::put_in_order;
+use crate::lines::Lines;
 use crate::listing::Listing;
 use crate::outlet::{OutFault, Outlet};
 use crate::standing::Standing;
@@ -49,6 +54,26 @@ fn text_of<L: Listing>(
             Err(fault) => Err(fault),
         },
         Standing::Live | Standing::NoMemory | Standing::Stopped => listing.lines_of(alloc, rows),
+    }
+}
+
+// The same of rows of which these are the lines of all members.
+fn text_of_lines<L: Listing>(
+    alloc: Global,
+    standing: Standing,
+    kept: &[Lines],
+) -> Result<Vec<u8>, ReportFault>
+    ensures { (rows : List R) → AreLinesOf L.form rows kept.now → IsSorted row_cmp rows
+        → IfOk result (λ text. text.items ≡ text_next L.form standing rows) }
+{
+    let lines = put_in_order(alloc, kept)?;
+    match standing {
+        Standing::Fresh => {
+            let mut text = L::text(alloc, &[])?;
+            text.extend_from_slice(lines.as_slice())?;
+            Ok(text)
+        }
+        Standing::Live | Standing::NoMemory | Standing::Stopped => Ok(lines),
     }
 }
 
@@ -104,8 +129,9 @@ fn write_each<O: Outlet>(
 
 impl<'a, L: Listing, O: Outlet> ListingSink<'a, L, O> {
     ghost use Rattle.srm_interfaces.specs.declared.sink.Stage.{Stage as AStage};
-    ghost use Rattle.srm_interfaces.specs.Sinks.{IsOpen, stops_in};
-    ghost use Rattle.srm_report.specs.ListingSinks.{stage_of, standing_of, has_begun, outlet_under, gathered_by, gathering_room, written_by, AreOverOne, StandsAsBefore, Gathers, PutsText, LeavesOutlet, WritesGathered, WritesThrough, Flushes};
+    ghost use Rattle.std.specs.Prelude.{MatchResult};
+    ghost use Rattle.srm_interfaces.specs.Sinks.{IsOpen, stage_after, stops_in};
+    ghost use Rattle.srm_report.specs.ListingSinks.{stage_at, stage_of, standing_of, has_begun, outlet_under, gathered_by, gathering_room, written_by, AreOverOne, StandsAsBefore, Gathers, PutsPart, PutsRows, PutsText, LeavesOutlet, WritesGathered, WritesThrough, Flushes};
 
     /// A sink of this table over this outlet, which took no rows yet. It writes each piece of the table as it comes. It does not
     /// allocate.
@@ -140,6 +166,28 @@ impl<'a, L: Listing, O: Outlet> ListingSink<'a, L, O> {
             written: 0,
             standing: Standing::Fresh,
         }
+    }
+
+    /// Writes the lines of the rows that come next after those before, as `rows` does, where these are the lines of all members, in
+    /// order of the members: each in the order of its rows. Whatever the rows are, their keys rise.
+    ///
+    /// # Errors
+    /// As of `rows`.
+    pub fn lines(&mut self, alloc: Global, kept: &[Lines]) -> Result<(), SinkFault>
+        requires open { IsOpen (stage_of self.old) }
+        requires failures { O.failures (outlet_under self.old) < 2 ^ 64 - 1 }
+        ensures same { AreOverOne self.old self.new }
+        ensures stage { stage_of self.new ≡ stage_after result }
+        ensures failures { O.failures (outlet_under self.new) ≡ O.failures (outlet_under self.old) + stops_in result }
+        ensures rows { (rows : List R) → AreLinesOf L.form rows kept.now → IsSorted row_cmp rows
+            → MatchResult result (λ _. PutsRows O.taken L.form self.old rows self.new)
+            (λ _. PutsPart O.taken L.form self.old rows self.new) }
+        ensures left { LeavesOutlet self.old result self.new }
+    {
+        let answer = self.put_lines(alloc, kept);
+        self.has_begun = true;
+        self.standing = standing_after(&answer);
+        answer
     }
 
     /// Writes what is gathered.
@@ -203,6 +251,23 @@ impl<'a, L: Listing, O: Outlet> ListingSink<'a, L, O> {
         match text_of(alloc, &mut self.listing, self.standing, rows) {
             Ok(Text::Whole(text)) => self.put(text.as_slice()),
             Ok(Text::Pieces(pieces)) => self.put_pieces(pieces.as_slice()),
+            Err(ReportFault::NoMemory) => Err(SinkFault::NoMemory),
+        }
+    }
+
+    // The same of rows of which these are the lines of all members.
+    fn put_lines(&mut self, alloc: Global, kept: &[Lines]) -> Result<(), SinkFault>
+        requires failures { O.failures (outlet_under self.old) < 2 ^ 64 - 1 }
+        ensures outlet { AreOverOne self.old self.new }
+        ensures standing { StandsAsBefore self.old self.new }
+        ensures failures { O.failures (outlet_under self.new) ≡ O.failures (outlet_under self.old) + stops_in result }
+        ensures text { (rows : List R) → AreLinesOf L.form rows kept.now → IsSorted row_cmp rows
+            → PutsText O.taken self.old (text_next L.form (standing_of self.old) rows) result self.new }
+        ensures told { stage_at (after_answer result) (written_by self.new) ≡ stage_after result }
+        ensures left { LeavesOutlet self.old result self.new }
+    {
+        match text_of_lines::<L>(alloc, self.standing, kept) {
+            Ok(text) => self.put(text.as_slice()),
             Err(ReportFault::NoMemory) => Err(SinkFault::NoMemory),
         }
     }

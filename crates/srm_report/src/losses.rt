@@ -1,9 +1,13 @@
 //! The table of losses as CSV.
-ghost use Rattle.std.specs.Prelude.{◌≡◌, IfOk, length};
+ghost use Rattle.std.specs.Prelude.{◌≡◌, ◌≤◌, List, IfOk, length};
+ghost use Rattle.srm_interfaces.specs.Watches.{KeepMembers};
+ghost use Rattle.srm_member.specs.declared.row.Row.{Row as R};
 ghost use Rattle.srm_member.specs.Orderly.{IsOrderly};
+ghost use Rattle.srm_report.specs.KeptLosses.{KeepsLosses};
 ghost use Rattle.srm_report.specs.Losses.{losses_table};
 
 use crate::fault::ReportFault;
+use crate::loss_lines::table_text;
 use crate::losses_sink::LossesSink;
 use srm_member::row::Row;
 use srm_net::net::Net;
@@ -33,4 +37,23 @@ pub fn losses_text(alloc: Global, net: &Net, rows: &[Row]) -> Result<Vec<u8>, Re
     let mut sink = LossesSink::new(alloc);
     sink.take(rows)?;
     sink.text(alloc, net)
+}
+
+/// The same of rows of whose losses this was kept of each member, as [`FindLosses`](crate::find_losses::FindLosses) keeps them.
+///
+/// # Errors
+/// `NoMemory`.
+pub fn losses_kept(alloc: Global, net: &Net, kept: &[LossesSink]) -> Result<Vec<u8>, ReportFault>
+    requires { (rows : List R) × IsOrderly (length net.now.hosts) rows × (length net.now.hosts ≤ length kept.now)
+        × KeepMembers (λ k own. KeepsLosses own k) 0 kept.now rows }
+    ensures { (rows : List R) → IsOrderly (length net.now.hosts) rows → length net.now.hosts ≤ length kept.now
+        → KeepMembers (λ k own. KeepsLosses own k) 0 kept.now rows
+        → IfOk result (λ text. text.items ≡ losses_table net.now rows) }
+{
+    let mut entries = Vec::new(alloc);
+    for own in kept {
+        let found = own.losses.entries(alloc)?;
+        entries.extend_from_slice(found.as_slice())?;
+    }
+    table_text(alloc, net, entries.as_slice())
 }

@@ -14,7 +14,7 @@ use std::alloc::{AllocError, Global};
 /// Keeps what became of each loss, and no row. It has no device that fails. Its room grows with the losses, and not with the rows.
 #[derive(Drop)]
 pub struct LossesSink {
-    losses: ByLoss<Course>,
+    pub(crate) losses: ByLoss<Course>,
     stage: Stage,
 }
 

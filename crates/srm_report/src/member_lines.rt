@@ -3,14 +3,15 @@ ghost use Rattle.std.specs.Prelude.{◌≡◌, ◌≤◌, ℕ, List, [], ◌∷�
 ghost use Rattle.csv.specs.Machine.{line_feed};
 ghost use Rattle.csv.specs.Writing.{default_writer, row_text};
 ghost use Rattle.srm_member.specs.declared.row.Row.{Row as R};
-ghost use Rattle.srm_report.specs.Counted.{AreCounts, counts_at};
 ghost use Rattle.srm_report.specs.Lines.{full_room, line_room, line_text, line_written};
+ghost use Rattle.srm_report.specs.MemberCounts.{AreCounts, counts_at};
 ghost use Rattle.srm_report.specs.Members.{member_fields, members_table, role_word};
 
 use crate::counts::Counts;
 use crate::fault::ReportFault;
 use crate::fields::{put_number, put_sum, put_time, put_word};
 use crate::line::Line;
+use crate::member_count::MemberCount;
 use srm_net::role::Role;
 use srm_scenario::parts::MemberSpec;
 use srm_scenario::scenario::Scenario;
@@ -20,13 +21,14 @@ use std::alloc::Global;
 const HEADER: &[u8] =
     b"member,role,node,joined,left,drawn,heard,lost,fixed,open,requests,repairs,sessions\n";
 
-// The table of a scenario's members with these counts, in the order of their numbers. Members after the last count had no row.
+// The table of a scenario's members of which this was counted, in the order of their numbers. Members after the last had no row.
 pub(crate) fn table_text(
     alloc: Global,
     scenario: &Scenario,
-    counts: &[Counts],
+    counts: &[MemberCount],
 ) -> Result<Vec<u8>, ReportFault>
-    ensures { (rows : List R) → AreCounts rows counts.now → IfOk result (λ text. text.items ≡ members_table scenario.now rows) }
+    ensures { (rows : List R) → AreCounts (length scenario.now.members) rows counts.now
+        → IfOk result (λ text. text.items ≡ members_table scenario.now rows) }
 {
     let mut text = Vec::from_slice(alloc, HEADER)?;
     let mut line = Line::new();
@@ -44,11 +46,11 @@ pub(crate) fn table_text(
 }
 
 // The counts of a member.
-fn counts_of_member(counts: &[Counts], member: u16) -> Counts
+fn counts_of_member(counts: &[MemberCount], member: u16) -> Counts
     ensures { result ≡ counts_at counts.now member }
 {
     match counts.get(usize::from(member)) {
-        Some(counts) => *counts,
+        Some(count) => count.counts,
         None => Counts::new(),
     }
 }

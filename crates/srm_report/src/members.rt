@@ -1,8 +1,13 @@
 //! The table of members as CSV.
-ghost use Rattle.std.specs.Prelude.{◌≡◌, IfOk};
+ghost use Rattle.std.specs.Prelude.{◌≡◌, ◌≤◌, List, length, IfOk};
+ghost use Rattle.srm_interfaces.specs.Watches.{KeepMembers};
+ghost use Rattle.srm_member.specs.declared.row.Row.{Row as R};
+ghost use Rattle.srm_report.specs.MemberCounts.{IsCountOf};
 ghost use Rattle.srm_report.specs.Members.{members_table};
 
 use crate::fault::ReportFault;
+use crate::member_count::MemberCount;
+use crate::member_lines::table_text;
 use crate::members_sink::MembersSink;
 use srm_member::row::Row;
 use srm_scenario::scenario::Scenario;
@@ -39,4 +44,20 @@ pub fn members_text(
     let mut sink = MembersSink::new(alloc);
     sink.take(rows)?;
     sink.text(alloc, scenario)
+}
+
+/// The same of rows of which this was counted of each member, as [`CountRows`](crate::count_rows::CountRows) counts it.
+///
+/// # Errors
+/// `NoMemory`.
+pub fn members_kept(
+    alloc: Global,
+    scenario: &Scenario,
+    kept: &[MemberCount],
+) -> Result<Vec<u8>, ReportFault>
+    ensures { (rows : List R) → length scenario.now.members ≤ length kept.now
+        → KeepMembers (λ k own. IsCountOf own k) 0 kept.now rows
+        → IfOk result (λ text. text.items ≡ members_table scenario.now rows) }
+{
+    table_text(alloc, scenario, kept)
 }

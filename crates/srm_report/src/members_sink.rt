@@ -1,28 +1,21 @@
 //! What the rows of each member say of it, counted as they come.
-ghost use Rattle.std.specs.Prelude.{◌≡◌, ◌≤◌, ◌<◌, ◌+◌, All};
-ghost use Rattle.srm_report.specs.Counted.{IsAtMost};
+ghost use Rattle.std.specs.Prelude.{◌≡◌, ◌<◌};
 
-use crate::counts::Counts;
 use crate::fault::ReportFault;
+use crate::member_count::MemberCount;
 use crate::member_lines::table_text;
 use srm_interfaces::sink::{RowSink, SinkFault, Stage};
 use srm_member::row::Row;
 use srm_scenario::scenario::Scenario;
 use std::alloc::{AllocError, Global};
 
-// How many rows are counted at most, so that no count of them is too great for its number.
-const MOST_ROWS: u64 = 1 << 63;
-
 /// Counts what the rows of each member say of it, and keeps no row. It has no device that fails. Its room grows with the greatest
 /// number of a member that had a row, and not with the rows.
 #[derive(Drop)]
 pub struct MembersSink {
-    // The counts of each member, up to the last that had a row.
-    counts: Vec<Counts>,
-    // How many rows were counted.
-    taken: u64,
+    // What was counted of each member, up to the last that had a row.
+    counts: Vec<MemberCount>,
     stage: Stage,
-    ghost bounds: { All (IsAtMost taken) counts.items },
 }
 
 impl MembersSink {
@@ -39,7 +32,6 @@ impl MembersSink {
     {
         MembersSink {
             counts: Vec::new(alloc),
-            taken: 0,
             stage: Stage::Fresh,
         }
     }
@@ -55,7 +47,7 @@ impl MembersSink {
         table_text(alloc, scenario, self.counts.as_slice())
     }
 
-    // Counts these rows. It answers no memory also where they would be more than [`MOST_ROWS`] in all.
+    // Counts these rows. It answers no memory also where a member's would be too many.
     pub(crate) fn take(&mut self, rows: &[Row]) -> Result<(), AllocError>
         ensures taken { OnOk result (CountsRows self.old rows.now self.new) }
         ensures some { OnErr result (0 < length rows.now) }
@@ -70,24 +62,18 @@ impl MembersSink {
     fn count(&mut self, row: &Row) -> Result<(), AllocError>
         ensures { OnOk result (CountsRows self.old (row.now ∷ []) self.new) }
     {
-        if self.taken >= MOST_ROWS {
-            return Err(AllocError);
-        }
         let member = usize::from(row.key.member);
         self.reach(member)?;
-        self.counts[member].add(row);
-        self.taken += 1;
-        Ok(())
+        self.counts[member].count(row)
     }
 
     // Makes room for the counts of a member.
     fn reach(&mut self, member: usize) -> Result<(), AllocError>
         ensures room { OnOk result (member < length (counts_in self.new)) }
-        ensures taken { self.new.taken ≡ self.old.taken }
         ensures counts { (rows : List R) → HasCountedRows rows self.old → HasCountedRows rows self.new }
     {
         while self.counts.len() <= member {
-            self.counts.push(Counts::new())?;
+            self.counts.push(MemberCount::new())?;
         }
         Ok(())
     }
@@ -125,7 +111,7 @@ impl RowSink for MembersSink {
     /// Counts the rows.
     ///
     /// # Errors
-    /// `NoMemory`, also where they would be more than 2^63 rows in all (`MOST_ROWS`). There are rows then: a call without rows is
+    /// `NoMemory`, also where they would be more than 2^63 rows of one member. There are rows then: a call without rows is
     /// not refused.
     fn rows(&mut self, _alloc: Global, rows: Vec<Row>) -> Result<(), SinkFault>
         ensures stage { stage_of_members self.new ≡ stage_after result }

@@ -11,7 +11,7 @@ use crate::text::Text;
 use srm_member::row::Row;
 use srm_team::naming::Naming;
 use srm_team::team::Team;
-use std::alloc::Global;
+use std::alloc::{AllocError, Global};
 use std::marker::Copy;
 use std::sync::Wait;
 
@@ -73,6 +73,10 @@ impl<R: Wait + Drop, L: Listing + Copy, J: Naming> Listing for TeamListing<R, L,
 
     fn lines(alloc: Global, rows: &[Row]) -> Result<Vec<u8>, ReportFault> {
         L::lines(alloc, rows)
+    }
+
+    fn put_line(text: &mut Vec<u8>, row: &Row) -> Result<(), AllocError> {
+        L::put_line(text, row)
     }
 
     /// # Errors

@@ -37,6 +37,11 @@ impl Listing for TimersListing {
     fn lines(alloc: Global, rows: &[Row]) -> Result<Vec<u8>, ReportFault> {
         lines_text(alloc, rows)
     }
+
+    fn put_line(text: &mut Vec<u8>, row: &Row) -> Result<(), AllocError> {
+        let mut line = Line::new();
+        append_row(text, &mut line, row)
+    }
 }
 
 /// The table of timers, as CSV with line feeds: a header, and a line for each join of a member that is no listener and for each event

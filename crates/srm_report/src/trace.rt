@@ -37,6 +37,13 @@ impl Listing for TraceListing {
     fn lines(alloc: Global, rows: &[Row]) -> Result<Vec<u8>, ReportFault> {
         lines_text(alloc, rows)
     }
+
+    fn put_line(text: &mut Vec<u8>, row: &Row) -> Result<(), AllocError> {
+        let mut line = Line::new();
+        put_row(&mut line, row);
+        text.extend_from_slice(line.text())?;
+        Ok(())
+    }
 }
 
 /// The text of a trace, as CSV with line feeds: a header, and a line for each row.

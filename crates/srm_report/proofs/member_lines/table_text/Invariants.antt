@@ -1,6 +1,6 @@
-use Rattle.std.proofs.Common.{◌≡◌, List, take}
+use Rattle.std.proofs.Common.{◌≡◌, List, length, take}
 use Rattle.srm_member.specs.declared.row.Row.{Row}
-use Rattle.srm_report.specs.Counted.{AreCounts}
+use Rattle.srm_report.specs.MemberCounts.{AreCounts}
 use Rattle.srm_report.specs.Members.{member_columns, member_rows}
 use Rattle.srm_report.specs.Tables.{table_lines}
 use Rattle.srm_report.proofs.member_lines.table_text.Given as goal
@@ -8,5 +8,5 @@ use Rattle.srm_report.proofs.member_lines.table_text.Given as goal
 -- the header and the rows of the members so far were written, whichever rows were counted
 abbrev pub invariant-loop-member : goal.invariant-loop-member
 invariant-loop-member l =
-    (rows : List Row) → AreCounts rows l.counts
+    (rows : List Row) → AreCounts (length l.scenario.members) rows l.counts
     → l.text.items ≡ table_lines member_columns (member_rows rows 0 (take l.member l.scenario.members))

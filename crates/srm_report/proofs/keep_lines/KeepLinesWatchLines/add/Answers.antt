@@ -1,0 +1,23 @@
+use Rattle.std.proofs.Common.{◌≡◌, ◌∙◌, ◌<◌, ◌++◌, ap, append-nil, sym, length, take, arith}
+use Rattle.std.proofs.Math.Seq.{take-length}
+use Rattle.srm_report.specs.KeptLines.{lines_of}
+use Rattle.srm_report.proofs.ListingLemmas.{kept-more}
+use Rattle.srm_report.proofs.keep_lines.KeepLinesWatchLines.add.Goals as goal
+
+pub loop-row-init : goal.loop-row-init
+loop-row-init g c before was = c.replace-lines.ensures.value ∙ was ∙ ap (lines_of g.L.Listing.form) (sym (append-nil before))
+
+pub loop-row-preserved : goal.loop-row-preserved
+loop-row-preserved g c before was =
+    let lt : c.loop-row.row-index < length c.args.rows.now = c.loop-row-test.true in
+    let none = c.clear.ensures.items in
+    kept-more g.L.Listing.form before c.args.rows.now c.loop-row.row-index c.row-item.result _ _ _ lt c.row-item.is
+    (c.loop-row.invariant before was)
+    (c.as_slice.ensures.value ∙ c.in_ok-put_line.ensures ∙ ap (λ l. l ++ g.L.Listing.form.line c.row-item.result) none)
+    c.in_ok-lines.ensures
+
+pub returns : goal.returns
+returns g c before was =
+    let whole : c.loop-row.row-index ≡ length c.args.rows.now = omega arith in
+    c.loop-row.invariant before was
+    ∙ ap (λ l. lines_of g.L.Listing.form (before ++ l)) (ap (λ n. take n c.args.rows.now) whole ∙ take-length c.args.rows.now)
