@@ -22,6 +22,8 @@ def _status(work: Callable[..., int | None], words: Sequence[str], log: str) -> 
     """What a job gives; the streams that were there stay alone, since another thread may have been writing to them."""
     with open(log, "w", encoding="utf-8") as sys.stderr:
         sys.stdout = sys.stderr
+        for name in [name for name, module in sys.modules.items() if module is None]:
+            del sys.modules[name]  # snakemake_alone.py kept it from being loaded
         try:
             return work(*words) or 0
         except BaseException:  # whatever it is, this process ends here

@@ -48,8 +48,9 @@ CONFIG_FILE = $(firstword $(wildcard $(PWD)/$(CONFIG) $(abspath $(CONFIG)) $(abs
 SNAKEMAKE = cd $(dir $(CONFIG_FILE)) && export PYTHONPATH=$(abspath python/src) && \
 	results=$$($(PYTHON) $(abspath experiments/check_config.py) $(CONFIG_FILE)) && mkdir -p "$$results" && \
 	flock --verbose --nonblock --conflict-exit-code 3 "$$results/.lock" \
-	snakemake --snakefile $(abspath experiments/Snakefile) --scheduler greedy --force-use-threads --nolock \
-	--rerun-incomplete --keep-going --show-failed-logs --configfile $(CONFIG_FILE) --config program=$(abspath $(SRM_LAB))
+	$(PYTHON) $(abspath experiments/snakemake_alone.py) --snakefile $(abspath experiments/Snakefile) --scheduler greedy \
+	--force-use-threads --nolock --rerun-incomplete --keep-going --show-failed-logs --configfile $(CONFIG_FILE) \
+	--config program=$(abspath $(SRM_LAB))
 REPORT = && realpath "$$results/report.html"
 
 .PHONY: experiments experiments-slurm

@@ -20,6 +20,7 @@ from srm_lab import RefusedError, ScenarioError, __version__, read_scenario, run
 from srm_lab.follower import Follower
 from srm_lab.frames import COLUMNS, Text, frame_of
 from srm_lab.tables import read_trace
+from srm_lab.traces import table_text
 
 ROOT = Path(__file__).resolve().parents[2]
 FILES = sorted([*(ROOT / "examples").glob("*.toml"), *(ROOT / "tests/scenarios").glob("*.toml")])
@@ -257,6 +258,22 @@ def test_progress_is_shown_where_it_is_asked_for(program, capsys):
     for progress, shown in ((True, True), (None, False), (False, False)):  # standard error is no terminal here
         run(scenario.chain(3), range(2), program=program, cache=None, progress=progress)
         assert ("2/2" in capsys.readouterr().err) == shown
+
+
+def test_bar_moves_while_the_program_writes(tmp_path):
+    """The program does not write its third run before it is seen that the first is made, and else gives up."""
+    path, seen, told = tmp_path / "srm_lab", tmp_path / "seen", []
+    path.write_text('#!/bin/sh\nprintf "seed,link\\n4,0\\n4,1\\n5,0\\n"\n'
+                    f'for _ in $(seq 300); do test -e {seen} && printf "6,0\\n" && exit; sleep 0.1; done\nexit 1\n')
+    path.chmod(0o755)
+
+    def made(count):
+        told.append(count)
+        if count == 1:
+            seen.touch()
+
+    assert table_text(b"", "links", [4, 5, 6], path, made=made) == b"seed,link\n4,0\n4,1\n5,0\n6,0\n"
+    assert told[0] == 1 and told[-1] == 3
 
 
 def test_table_that_was_not_asked_for(program):

@@ -57,6 +57,15 @@ def test_small_random_trees(size):
     assert len(tree.random_labelled(size, 1, random.Random(0)).links) == size - 1
 
 
+@pytest.mark.parametrize("seed", range(30))
+def test_tree_of_a_code_is_that_of_networkx(seed):
+    import networkx
+    rng = random.Random(seed)
+    code = [rng.randrange(seed + 3) for _ in range(seed + 1)]
+    wanted = networkx.from_prufer_sequence(code).edges
+    assert {frozenset(one) for one in tree.of_code(code, len(code) + 2)} == {frozenset(one) for one in wanted}
+
+
 def test_each_labelled_tree_of_three_nodes_comes_up():
     middles = set()
     for seed in range(40):

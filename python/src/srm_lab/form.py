@@ -21,13 +21,21 @@ class Key:
     needed: bool = True
 
 
-def number(least: int, most: int) -> Check:
+@dataclass(frozen=True)
+class Number:
     """A whole number in a range."""
-    def check(value: object) -> str | None:
+
+    least: int
+    most: int
+
+    def __call__(self, value: object) -> str | None:
         if isinstance(value, bool) or not isinstance(value, int):
             return f"is {value!r}, and has to be a whole number"
-        return None if least <= value <= most else f"is {value}, and has to be {least} to {most}"
-    return check
+        return None if self.least <= value <= self.most else f"is {value}, and has to be {self.least} to {self.most}"
+
+    def pass_all(self, values: list[Any]) -> bool:
+        """Whether all of these pass."""
+        return {*map(type, values)} <= {int} and (not values or self.least <= min(values) and max(values) <= self.most)
 
 
 def word(*words: str) -> Check:
@@ -68,32 +76,32 @@ def one_each(things: object, of: Check) -> Check:
 @cache
 def elements(limits: Limits) -> dict[str, dict[str, Key]]:
     """The keys of the elements of each part."""
-    node = Key(number(0, limits.nodes - 1))
-    member = Key(number(0, limits.members - 1))
-    link = Key(number(0, limits.nodes - 1))
-    at = Key(number(0, limits.time))
-    delay = number(1, limits.delay)
+    node = Key(Number(0, limits.nodes - 1))
+    member = Key(Number(0, limits.members - 1))
+    link = Key(Number(0, limits.nodes - 1))
+    at = Key(Number(0, limits.time))
+    delay = Number(1, limits.delay)
     back = {"back": Key(delay, False)} if limits.two_way else {}
     keys = {
-        "member": {"node": node, "role": Key(word(*ROLES)), "stream": Key(number(0, limits.stream)),
-                   "join": Key(number(0, limits.time), False), "leave": Key(number(1, limits.time), False),
-                   "pages": Key(array(limits.pages, number(0, limits.page)), False)},
-        "draw": {"member": member, "page": Key(number(0, limits.page)), "ink": Key(number(0, limits.ink)), "at": at},
+        "member": {"node": node, "role": Key(word(*ROLES)), "stream": Key(Number(0, limits.stream)),
+                   "join": Key(Number(0, limits.time), False), "leave": Key(Number(1, limits.time), False),
+                   "pages": Key(array(limits.pages, Number(0, limits.page)), False)},
+        "draw": {"member": member, "page": Key(Number(0, limits.page)), "ink": Key(Number(0, limits.ink)), "at": at},
         "session": {"member": member, "at": at},
-        "drop": {"link": link, "sender": member, "count": Key(number(0, limits.count))},
-        "outage": {"link": link, "from": at, "to": Key(number(1, limits.time))},
-        "loss": {"link": link, "rate": Key(number(1, limits.rate)), "stream": Key(number(0, limits.stream), False),
-                 "from": replace(at, needed=False), "to": Key(number(1, limits.time), False)},
+        "drop": {"link": link, "sender": member, "count": Key(Number(0, limits.count))},
+        "outage": {"link": link, "from": at, "to": Key(Number(1, limits.time))},
+        "loss": {"link": link, "rate": Key(Number(1, limits.rate)), "stream": Key(Number(0, limits.stream), False),
+                 "from": replace(at, needed=False), "to": Key(Number(1, limits.time), False)},
     }
-    repetition = {"times": Key(number(1, limits.elements), False), "every": Key(number(0, limits.time), False)}
+    repetition = {"times": Key(Number(1, limits.elements), False), "every": Key(Number(0, limits.time), False)}
     return {"link": {"a": node, "b": node, "delay": Key(delay), **back},
             **{part: own | (repetition if limits.large else {}) for part, own in keys.items()}}
 
 
 def top(limits: Limits, table: dict[str, Any]) -> dict[str, Key]:
     """The keys of the top table, which depend on whether a topology is named."""
-    constant = Key(number(0, limits.constant))
-    keys = {"version": Key(number(min(VERSIONS), max(VERSIONS))), "until": Key(number(1, limits.time)),
+    constant = Key(Number(0, limits.constant))
+    keys = {"version": Key(Number(min(VERSIONS), max(VERSIONS))), "until": Key(Number(1, limits.time)),
             **dict.fromkeys(CONSTANTS, constant)}
     if limits.adaptive:
         keys |= adaptive(limits, table)
@@ -102,14 +110,14 @@ def top(limits: Limits, table: dict[str, Any]) -> dict[str, Key]:
     if limits.large and table.get("topology") == "parents":
         keys |= parents(limits, table)
     elif "topology" in table:
-        delay = number(1, limits.delay)
-        keys |= {"size": Key(number(1, limits.nodes)), "delay": Key(delay)}
+        delay = Number(1, limits.delay)
+        keys |= {"size": Key(Number(1, limits.nodes)), "delay": Key(delay)}
         if limits.two_way:
             keys["back"] = Key(delay, False)
         if table["topology"] == "tree":
-            keys["degree"] = Key(number(2, limits.nodes - 1))
+            keys["degree"] = Key(Number(2, limits.nodes - 1))
     else:
-        keys |= {"nodes": Key(number(1, limits.nodes)), "link": Key(array(limits.nodes - 1), False)}
+        keys |= {"nodes": Key(Number(1, limits.nodes)), "link": Key(array(limits.nodes - 1), False)}
     count = total if limits.large else len
     keys["member"] = Key(array(limits.members, count=count), False)
     parts = ["draw", "session", "drop", *(["outage"] if limits.outages else []), *(["loss"] if limits.losses else [])]
@@ -120,21 +128,21 @@ def top(limits: Limits, table: dict[str, Any]) -> dict[str, Key]:
 
 def parents(limits: Limits, table: dict[str, Any]) -> dict[str, Key]:
     """The keys of a network that is told by the parent of each node: of its delays either that of all links or each."""
-    delay = number(1, limits.delay)
+    delay = Number(1, limits.delay)
     each = one_each(table.get("parent"), delay)
-    return {"parent": Key(array(limits.nodes - 1, number(0, limits.nodes - 1))),
+    return {"parent": Key(array(limits.nodes - 1, Number(0, limits.nodes - 1))),
             **({"delays": Key(each)} if "delays" in table else {"delay": Key(delay)}),
             **({"backs": Key(each)} if "backs" in table else {"back": Key(delay, False)})}
 
 
 def adaptive(limits: Limits, table: dict[str, Any]) -> dict[str, Key]:
     """The keys of adaptive timers: what a constant may become is told beside its first value."""
-    keys = {"backoff": Key(number(2, 3), False)}
+    keys = {"backoff": Key(Number(2, 3), False)}
     for name in CONSTANTS:
         first = table.get(name)
         if isinstance(first, int):
-            keys[f"{name}_least"] = Key(number(0, first), False)
-            keys[f"{name}_most"] = Key(number(first, limits.constant), False)
+            keys[f"{name}_least"] = Key(Number(0, first), False)
+            keys[f"{name}_most"] = Key(Number(first, limits.constant), False)
     return keys
 
 
@@ -150,6 +158,19 @@ def faults(table: dict[str, Any], keys: dict[str, Key]) -> Iterator[tuple[str, s
                 yield key, told
         elif one.needed:
             yield key, "is missing"
+
+
+def are_faultless(elements: list[Any], keys: dict[str, Key]) -> bool:
+    """Whether each element is a table without a fault and stands for itself alone; of many that is seen at once."""
+    if any(type(element) is not dict or not element.keys() <= keys.keys() - {"times"} for element in elements):
+        return False
+    for key, one in keys.items():
+        values = [element[key] for element in elements if key in element]
+        if one.needed and len(values) < len(elements):
+            return False
+        if not (one.check.pass_all(values) if isinstance(one.check, Number) else not any(map(one.check, values))):
+            return False
+    return True
 
 
 def _hint(key: str, table: dict[str, Any]) -> str:
@@ -181,7 +202,8 @@ def check_keys(table: dict[str, Any]) -> None:
         raise ScenarioError(f"top table: `{key}` {told}", "top", 0, key)
     keys = elements(limits)
     for part in PARTS:
-        for place, element in enumerate(table.get(part, [])):
+        several = table.get(part, [])
+        for place, element in enumerate(() if are_faultless(several, keys[part]) else several):
             if not isinstance(element, dict):
                 raise ScenarioError(f"{part} {place} is {element!r}, and has to be a table", part, place)
             for key, told in faults(element, keys[part]):

@@ -73,8 +73,15 @@ def _read(name: str, rows: bytes) -> pandas.DataFrame:
     read = pandas.read_csv(BytesIO(rows), header=None, names=["seed", *columns], index_col=False, engine="c",
                            dtype=dict.fromkeys(words, str), keep_default_na=False,
                            na_values={column: ["-", ""] for column in columns if column not in words})
-    kinds = {"seed": "int64", **{column: "Int64" for column in columns if column not in words}}
-    return read.astype(kinds)
+    return read.assign(seed=read["seed"].astype("int64"),
+                       **{column: _whole(read[column]) for column in columns if column not in words})
+
+
+def _whole(column: pandas.Series) -> pandas.arrays.IntegerArray:
+    """Whole numbers, of which some may be missing, as they were read; `astype` looks at each a second time."""
+    values = column.to_numpy() if len(column) else numpy.zeros(0, int)
+    is_missing = numpy.isnan(values)
+    return pandas.arrays.IntegerArray(numpy.where(is_missing, 0, values).astype("int64"), is_missing)
 
 
 def _add_ends(frame: pandas.DataFrame, given: Sequence[Scenario], scenarios: numpy.ndarray) -> None:

@@ -7,7 +7,7 @@ import tempfile
 from collections.abc import Callable, Iterable, Iterator, Sequence
 from concurrent.futures import ProcessPoolExecutor, ThreadPoolExecutor
 from dataclasses import dataclass, field
-from functools import cached_property
+from functools import cached_property, partial
 from multiprocessing import get_context
 from operator import index
 from pathlib import Path
@@ -23,7 +23,7 @@ from .limits import MOST_SEED, within
 from .scenario import Scenario
 from .statistics import Statistic, evaluated, summarise
 from .timers import COLUMNS as TIMERS, timers_of
-from .traces import find_program, table_text, trace_of, version_of
+from .traces import find_program, nobody, table_text, trace_of, version_of
 
 LAYOUT = 2  # of what the cache keeps; a cache of another layout is not read
 CACHE = "cache"
@@ -54,20 +54,23 @@ class Asked:
         return self.cache / f"{hashlib.sha256(words.encode()).hexdigest()}.csv"
 
 
-def perform(given: Scenario, seeds: Sequence[int], asked: Asked, workers: int) -> dict[str, bytes]:
+def perform(given: Scenario, seeds: Sequence[int], asked: Asked, workers: int,
+            made: Callable[[int], None]) -> dict[str, bytes]:
     """The tables of runs of one scenario as they are written, the seed in front: of the cache, or by so many workers.
 
     Each table is a process of the program, and all are side by side: to read a trace takes longer than several runs.
+    `made` is told, as the first table comes, how many of the runs are made.
     """
     def make(name: str) -> bytes:
         place = asked.place(given, name, seeds)
         if place is not None and place.exists():
             return place.read_bytes()
-        made = (timers_text(given, seeds, asked, workers) if name == "timers" else
-                table_text(given.plain_text, name, seeds, asked.program, asked.options, workers))
+        tell = made if name == asked.tables[0] else nobody
+        found = (timers_text(given, seeds, asked, workers, tell) if name == "timers" else
+                 table_text(given.plain_text, name, seeds, asked.program, asked.options, workers, tell))
         if place is not None:
-            keep(place, made)
-        return made
+            keep(place, found)
+        return found
 
     own = {name: make(name) for name in asked.tables if name == "timers"}  # before there are threads: it may fork
     others = [name for name in asked.tables if name not in own]
@@ -77,14 +80,17 @@ def perform(given: Scenario, seeds: Sequence[int], asked: Asked, workers: int) -
         return own | dict(zip(others, pool.map(make, others)))
 
 
-def timers_text(given: Scenario, seeds: Sequence[int], asked: Asked, workers: int) -> bytes:
+def timers_text(given: Scenario, seeds: Sequence[int], asked: Asked, workers: int, made: Callable[[int], None]) -> bytes:
     """The table of timers, of the trace of each run."""
-    def of_one(seed: int) -> list[str]:
-        with trace_of(given.plain_text, seed, asked.program, asked.options) as rows:
-            return [",".join(map(str, (seed, *row))) for row in timers_of(given, rows)]
+    def of_one(seed: int) -> bytes:
+        rows = timers_of(given, trace_of(given.plain_text, seed, asked.program, asked.options))
+        return "".join(f"{','.join(map(str, (seed, *row)))}\n" for row in rows).encode()
 
-    parts = _mapped(of_one, seeds, min(workers, len(seeds)))
-    return "".join(f"{line}\n" for part in ([",".join(("seed", *TIMERS))], *parts) for line in part).encode()
+    parts = [f"{','.join(('seed', *TIMERS))}\n".encode()]
+    for part in _mapped(of_one, seeds, min(workers, len(seeds))):
+        made(len(parts))
+        parts.append(part)
+    return b"".join(parts)
 
 
 def keep(place: Path, text: bytes) -> None:
@@ -99,20 +105,25 @@ def perform_all(make: Callable[[int], Scenario], jobs: Sequence[Job], asked: Ask
                 progress: bool | None, said: Callable[[int], str] | None = None) -> tuple[Frames, list[str]]:
     """The tables of many runs, with the number of the scenario in front, and the digest of each scenario in order.
 
-    `make` gives the scenario of a number, and `said` what a refusal tells of it.
+    `make` gives the scenario of a number, and `said` what a refusal tells of it. A bar counts the runs.
     """
     processors = workers or len(os.sched_getaffinity(0))
     several = min(len(jobs), processors)
-    if several > 1:
-        make(jobs[0][0]).digest()  # loads what making scenarios needs, before there are several to load it
+    if several > 1:  # what all workers need is there before they are: what making scenarios loads, the program's digest
+        make(jobs[0][0]).digest(), asked.digest
+    is_shown = sys.stderr.isatty() if progress is None else progress
+    bar = tqdm.tqdm(total=sum(len(seeds) for _, seeds in jobs), unit="run", disable=not is_shown)
 
     def work(chunk: Sequence[Job]) -> tuple[list[str], Frames]:
         digests, texts = [], []
         for number, seeds in chunk:
             given = make(number)
             digests.append(given.digest())
+            tell: Callable[[int], None] = nobody
+            if several == 1:
+                tell = partial(move, bar, bar.n)
             try:
-                found = perform(given, seeds, asked, processors // several)
+                found = perform(given, seeds, asked, processors // several, tell)
             except RefusedError as fault:
                 if said is not None:
                     fault.add_note(f"refused at {said(number)}")
@@ -120,11 +131,21 @@ def perform_all(make: Callable[[int], Scenario], jobs: Sequence[Job], asked: Ask
             texts.append({name: Text(number, given, text) for name, text in found.items()})
         return digests, {name: frame_of(name, [one[name] for one in texts]) for name in asked.tables}
 
-    digests, parts = [], []
-    for found, frames in in_parallel(work, jobs, several, progress):
-        digests += found
-        parts.append(frames)
+    digests, parts, made = [], [], 0
+    size = max(1, min(MOST_IN_CHUNK, len(jobs) // (4 * several)))
+    chunks = [jobs[place:place + size] for place in range(0, len(jobs), size)]
+    with bar:
+        for chunk, (found, frames) in zip(chunks, _mapped(work, chunks, several)):
+            digests += found
+            parts.append(frames)
+            made += sum(len(seeds) for _, seeds in chunk)
+            move(bar, 0, made)
     return joined(parts), digests
+
+
+def move(bar: tqdm.tqdm, before: int, made: int) -> None:
+    """Moves a bar on to so many runs after those before, and never back."""
+    bar.update(max(0, before + made - bar.n))
 
 
 _work: list[Callable[[Any], Any]] = []  # what this process does, where it is a worker
@@ -134,22 +155,11 @@ def _do(chunk: Any) -> Any:
     return _work[0](chunk)
 
 
-def in_parallel(work: Callable[[Sequence[Job]], Any], jobs: Sequence[Job], several: int,
-                progress: bool | None) -> Iterator[Any]:
-    """What the function gives for each chunk of jobs, in order, from one pool of workers; a bar counts the runs.
+def _mapped(work: Callable[[Any], Any], chunks: Sequence[Any], several: int) -> Iterator[Any]:
+    """What the function gives for each chunk, in order, from one pool of workers.
 
     Workers are forked, so that the function need not be one that can be sent to them: it may hold a user's lambda.
     """
-    size = max(1, min(MOST_IN_CHUNK, len(jobs) // (4 * several)))
-    chunks = [jobs[place:place + size] for place in range(0, len(jobs), size)]
-    is_shown = sys.stderr.isatty() if progress is None else progress
-    with tqdm.tqdm(total=sum(len(seeds) for _, seeds in jobs), unit="run", disable=not is_shown) as bar:
-        for chunk, found in zip(chunks, _mapped(work, chunks, several)):
-            bar.update(sum(len(seeds) for _, seeds in chunk))
-            yield found
-
-
-def _mapped(work: Callable[[Any], Any], chunks: Sequence[Any], several: int) -> Iterator[Any]:
     if several == 1:
         yield from map(work, chunks)
         return
@@ -214,7 +224,7 @@ def run(given: Scenario, seeds: int | Iterable[int] = 1, tables: str | Iterable[
 
     Of each table the program makes all runs of neighbouring seeds in one process, on `workers` processors (by default
     on all); `timers` alone are put together from the trace of each run. A bar counts the runs where standard error is a
-    terminal, or where `progress` says so; it moves as scenarios end, and not from seed to seed of one. A table is kept
+    terminal, or where `progress` says so. A table is kept
     in the folder `cache` (by default the user's, srm_lab in XDG_CACHE_HOME), and read from there where scenario, seeds
     and program are the same; with None nothing is kept. The program is `program`, or SRM_LAB of the environment, or the
     one of the package's wheel, or srm_lab on the path; `options` are more words of its command line that leave the

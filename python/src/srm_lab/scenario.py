@@ -215,9 +215,12 @@ class Scenario:
     # ---- verbs -----------------------------------------------------------------
 
     def _with(self, **changes: Any) -> "Scenario":
-        """This scenario with changes; elements that were checked already, and stay, are not checked again."""
+        """This scenario with changes; elements that were checked already, and stay, are not checked again.
+
+        What one version of the format takes, each later one does.
+        """
         made = replace(self, **changes)
-        if "_checked" in vars(self) and made.least_version == self.least_version:
+        if "_checked" in vars(self) and made.least_version >= self.least_version:
             parts = {"tree": "link", "random_losses": "loss"}
             changed = {parts.get(one, one.removesuffix("s")) for one in changes}
             check_keys(writing.keys_of(made, changed))

@@ -16,6 +16,7 @@ if TYPE_CHECKING:
 METHODS = ("t", "bootstrap")
 RESAMPLES = 9999
 SUMMARY = ["mean", "low", "high", "seeds", "values", "left_out"]
+VALUE = "(value)"  # a column beside those of a table
 # of the values of one run: a word of pandas' own such as "mean", a quantile from 0 to 1, or a function of a Series
 Statistic = Union[str, float, Callable[[pandas.Series], float]]
 
@@ -87,7 +88,7 @@ def evaluated(frame: pandas.DataFrame, expression: str) -> pandas.Series:
     """The numbers of an expression of a table's columns, such as `delay / round_trip`; what has no value is NaN."""
     if not isinstance(expression, str):
         raise TypeError(f"the expression is {expression!r}, and has to be text, such as \"delay / round_trip\"")
-    numbers = frame.astype({name: float for name, kind in frame.dtypes.items() if str(kind) == "Int64"})
+    numbers = frame.astype({name: float for name, kind in frame.dtypes.items() if str(kind) == "Int64" and name in expression})
     try:
         found = numbers.eval(expression, engine="python")
         return pandas.Series(found, frame.index).astype(float)
@@ -118,17 +119,21 @@ def summarise(given: "Runs | pandas.DataFrame", expression: str, by: str | Seque
     """
     _check(method, level)
     frame = table_of(given, expression)
-    if by is not None:
-        names = [by] if isinstance(by, str) or not isinstance(by, Iterable) else list(by)
-        _check_columns(frame, names)
-        found = frame.groupby(by if isinstance(by, str) else names).apply(
-            summarise, expression, None, statistic, method, level) if len(frame) else pandas.DataFrame(columns=SUMMARY)
-        found = found.astype(dict.fromkeys(SUMMARY[3:], int))
-    elif isinstance(statistic, Sequence) and not isinstance(statistic, str):
-        found = pandas.DataFrame({_name(one): summarise(frame, expression, None, one, method, level)
-                                  for one in statistic}).T.rename_axis("statistic")
+    names = [] if by is None else [by] if isinstance(by, str) or not isinstance(by, Iterable) else list(by)
+    _check_columns(frame, ["seed", *names])
+    values = frame[list(dict.fromkeys(["seed", *names]))].assign(**{VALUE: evaluated(frame, expression)})
+
+    def of(group: pandas.DataFrame) -> pandas.DataFrame | pandas.Series:
+        if isinstance(statistic, Sequence) and not isinstance(statistic, str):
+            return pandas.DataFrame({_name(one): _summary(group, one, method, level) for one in statistic}
+                                    ).T.rename_axis("statistic")
+        return _summary(group, statistic, method, level)
+
+    if by is None:
+        found = of(values)
     else:
-        found = _summary(frame, expression, statistic, method, level)
+        found = (values.groupby(by if isinstance(by, str) else names).apply(of) if len(frame) else
+                 pandas.DataFrame(columns=SUMMARY)).astype(dict.fromkeys(SUMMARY[3:], int))
     found.attrs = {**frame.attrs, "expression": expression, "method": method, "level": level}
     return found
 
@@ -143,10 +148,9 @@ def _no_column(name: object, frame: pandas.DataFrame) -> ScenarioError:
     return ScenarioError(f"there is no column {name!r}{perhaps(name, frame.columns)}: there are {', '.join(frame.columns)}")
 
 
-def _summary(frame: pandas.DataFrame, expression: str, statistic: Statistic, method: str, level: float) -> pandas.Series:
-    _check_columns(frame, ["seed"])
-    values = evaluated(frame, expression)
-    groups = values.groupby(frame["seed"])
+def _summary(group: pandas.DataFrame, statistic: Statistic, method: str, level: float) -> pandas.Series:
+    values = group[VALUE]
+    groups = values.groupby(group["seed"])
     each = groups.quantile(statistic) if isinstance(statistic, float) else groups.agg(statistic)
     one = interval(each, method, level)
     counts = (each.notna().sum(), values.notna().sum(), values.isna().sum())

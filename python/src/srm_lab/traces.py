@@ -3,10 +3,9 @@ import os
 import shutil
 import subprocess
 import tempfile
-from collections.abc import Iterable, Iterator, Sequence
-from contextlib import contextmanager
+from collections.abc import Callable, Iterable, Iterator, Sequence
+from functools import partial
 from pathlib import Path
-from typing import IO
 
 from .errors import RefusedError, ScenarioError
 from .tables import Row, read_trace
@@ -43,24 +42,42 @@ def version_of(program: Path) -> str:
 
 # the names of tables that the program calls otherwise
 SHOWN = {"constants": "timers"}
+BLOCK = 2**16  # as many bytes as a pipe has room for
+
+
+def nobody(made: int) -> None:
+    """Is told how many runs are made where nobody wants to know."""
 
 
 def table_text(text: bytes, table: str, seeds: Sequence[int], program: Path, options: Sequence[str] = (),
-               workers: int = 1) -> bytes:
+               workers: int = 1, made: Callable[[int], None] = nobody) -> bytes:
     """What the program writes of a table of runs of one scenario, the seed in front; RefusedError where it refuses one.
 
     Seeds that follow each other are one process. With `options`, more words of the command line, each seed is one.
+    `made` is told, as they come, how many of the runs are made.
     """
     words = ["--show", SHOWN.get(table, table), *options]
-    parts = []
-    for first, count in neighbours(seeds):
-        if options:
-            parts += [_with_seed(seed, written(text, [*words, "--seed", str(seed)], program))
-                      for seed in range(first, first + count)]
-        else:
-            parts.append(written(text, [*words, "--seed", str(first), "--replications", str(count), "--workers", str(workers)],
-                                 program))
+    parts: list[bytes] = []
+    before = 0
+    for first, count in [(seed, 1) for seed in seeds] if options else neighbours(seeds):
+        own = [] if options else ["--replications", str(count), "--workers", str(workers)]
+        blocks = []
+        for block in written(text, [*words, "--seed", str(first), *own], program):
+            blocks.append(block)
+            if not options:
+                made(before + last_seed(block, first) - first)
+        part = b"".join(blocks)
+        parts.append(_with_seed(first, part) if options else part)
+        before += count
+        made(before)
     return parts[0] + b"".join(part.partition(b"\n")[2] for part in parts[1:])
+
+
+def last_seed(block: bytes, first: int) -> int:
+    """The seed of the last row that begins in a block after another one, or the first seed where no row does."""
+    _, line, row = block.rstrip(b"\n").rpartition(b"\n")
+    seed, comma, _ = row.partition(b",")
+    return int(seed) if line and comma else first
 
 
 def neighbours(seeds: Sequence[int]) -> Iterator[tuple[int, int]]:
@@ -78,38 +95,38 @@ def _with_seed(seed: int, table: bytes) -> bytes:
     return b"".join([b"seed," + header, *(b"%d," % seed + row for row in rows)])
 
 
-def written(text: bytes, words: Sequence[str], program: Path) -> bytes:
-    """What the program writes of a scenario; RefusedError where it refuses it."""
-    done = subprocess.run([program, "--explain", *words], input=text, capture_output=True, check=False)
-    if done.returncode:
-        raise _refusal(done.stderr, done.returncode)
-    return done.stdout
-
-
-@contextmanager
-def trace_of(text: bytes, seed: int, program: Path, options: Sequence[str] = ()) -> Iterator[Iterator[Row]]:
-    """The rows of a run, while the program writes them; RefusedError where it refuses the run.
-
-    `options` are more words of the program's command line, which has to write the trace with them.
-    """
+def written(text: bytes, words: Sequence[str], program: Path) -> Iterator[bytes]:
+    """What the program writes of a scenario, in blocks as they come; RefusedError at their end where it refuses it."""
     with tempfile.TemporaryFile() as scenario, tempfile.TemporaryFile() as told:
         scenario.write(text)
         scenario.seek(0)
-        with subprocess.Popen([program, "--explain", "--seed", str(seed), *options], stdin=scenario,
-                              stdout=subprocess.PIPE, stderr=told, encoding="ascii") as running:
+        with subprocess.Popen([program, "--explain", *words], bufsize=0, stdin=scenario, stdout=subprocess.PIPE,
+                              stderr=told) as running:
             assert running.stdout is not None
             try:
-                yield read_trace(_lines(running.stdout, running, told))
+                yield from iter(partial(running.stdout.read, BLOCK), b"")
+                if running.wait():
+                    told.seek(0)
+                    raise _refusal(told.read(), running.returncode)
             finally:
                 running.kill()
 
 
-def _lines(lines: Iterable[str], running: subprocess.Popen, told: IO[bytes]) -> Iterator[str]:
-    """The lines, and after them the program's refusal if it has one."""
-    yield from lines
-    if running.wait():
-        told.seek(0)
-        raise _refusal(told.read(), running.returncode)
+def trace_of(text: bytes, seed: int, program: Path, options: Sequence[str] = ()) -> Iterator[Row]:
+    """The rows of a run, while the program writes them; RefusedError where it refuses the run.
+
+    `options` are more words of the program's command line, which has to write the trace with them.
+    """
+    return read_trace(_lines(written(text, ["--seed", str(seed), *options], program)))
+
+
+def _lines(blocks: Iterable[bytes]) -> Iterator[str]:
+    rest = ""
+    for block in blocks:
+        *whole, rest = (rest + block.decode("ascii")).split("\n")
+        yield from whole
+    if rest:
+        yield rest
 
 
 def _refusal(told: bytes, status: int) -> RefusedError:

@@ -1,8 +1,10 @@
 """Networks: trees of nodes and links."""
 import random
-from collections.abc import Callable, Iterable
+from collections import Counter
+from collections.abc import Callable, Iterable, Iterator
 from dataclasses import dataclass, field, replace
 from functools import cached_property
+from heapq import heappop, heappush
 from typing import Any
 
 from .errors import ScenarioError
@@ -224,9 +226,18 @@ def of_parents(keys: dict[str, Any]) -> Tree:
 def random_labelled(size: int, delay: int, rng: random.Random) -> Tree:
     """A tree that each labelled tree of this size is with one and the same chance: that of a random Pruefer code."""
     within("size", size, 1, MOST_NODES)
-    if size < 3:
-        return Tree(size, _even(((node, node + 1) for node in range(size - 1)), delay))
-    import networkx
+    ends = of_code([rng.randrange(size) for _ in range(size - 2)], size)
+    return Tree(size, _even(sorted((min(a, b), max(a, b)) for a, b in ends), delay)).by_parents_if_large()
 
-    graph = networkx.from_prufer_sequence([rng.randrange(size) for _ in range(size - 2)])
-    return Tree(size, _even(((min(a, b), max(a, b)) for a, b in sorted(graph.edges)), delay)).by_parents_if_large()
+
+def of_code(code: list[int], size: int) -> Iterator[tuple[int, int]]:
+    """The links of the tree of a Pruefer code: each of its nodes is joined to the least leaf that is left."""
+    later = Counter(code)
+    leaves = [node for node in range(size) if node not in later]
+    for node in code:
+        yield heappop(leaves), node
+        later[node] -= 1
+        if not later[node]:
+            heappush(leaves, node)
+    if size > 1:
+        yield heappop(leaves), heappop(leaves)
