@@ -18,9 +18,8 @@ use std::collections::HashSet;
 use std::marker::Model;
 use std::sync::Arc;
 
-/// The packets that links are configured to drop, the outages of links, and their losses. Contracts see it as the rules of its
-/// entries in the order of links, senders and counts, each once, of its outages and losses as they were given, and of the seed of
-/// the losses.
+/// The packets that links are configured to drop, the outages of links, and their losses. Contracts see it as the rules of its entries
+/// in the order of links, senders and counts, each once, of its outages and losses as they were given, and of the seed of the losses.
 ///
 /// Those of several seeds share all but the seed.
 #[derive(Drop)]

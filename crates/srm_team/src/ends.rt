@@ -136,8 +136,8 @@ impl<W: Work<T, D> + Copy, T: Drop, D: Drop, J: Naming> Ends<W, T, D, J> {
         Ok(())
     }
 
-    /// The next answer. Where none is there, the leader works on an order that nobody has taken. Answers come first, since they
-    /// make room for orders, without which workers sleep.
+    /// The next answer. The leader works on orders that nobody has taken, where no answer is there: what it takes in makes room for
+    /// orders, without which workers sleep while it works.
     pub(crate) fn next<R: Wait>(&self, rt: &R) -> Result<Answer<W, T, D, J>, TeamFault>
         ensures { IfErr result (λ e. e ≡ TeamFault.Left) }
     {
