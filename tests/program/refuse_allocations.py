@@ -49,7 +49,6 @@ TESTS = (
     "srm_cell_and_ledger_tests:ledger_tests",
     "srm_crew_tests:crew_tests",
     "srm_engine_and_report_tests:drops_tests",
-    "srm_engine_and_report_tests:totals_tests",
 )
 
 

@@ -69,17 +69,6 @@ module _ {M : Type 0} (f : M → Record) (n : ℕ) where
     few = omega arith;
   }
 
-  ran_cells : (end : ℕ) (qs : List OwnCell) (rows : List (List Row)) (cs : List (Cell M)) → RanEach f end qs rows cs → AreMembers n qs
-      → (rs : List OwnCell) × AreCells f cs rs × AreMembers n rs × (length rs ≡ length qs)
-  ran_cells end [] [] [] h m = ([], tt, tt, refl)
-  ran_cells end [] [] (c ∷ cs) h m = absurd h
-  ran_cells end [] (r ∷ rows) cs h m = absurd h
-  ran_cells end (q ∷ qs) [] cs h m = absurd h
-  ran_cells end (q ∷ qs) (r ∷ rows) [] h m = absurd h
-  ran_cells end (q ∷ qs) (r ∷ rows) (c ∷ cs) h m =
-      let more = ran_cells end qs rows cs h.1 m.1 in
-      (record { member = q.member; cell = h.0.0 } ∷ more.0, (h.0.2, more.1), (m.0, more.2), ap suc more.3)
-
   -- jobs that may be advanced, as they are seen
   abbrev Fit : List PlainJob → Type 0
   Fit [] = Unit {0}
@@ -91,25 +80,6 @@ module _ {M : Type 0} (f : M → Record) (n : ℕ) where
       let one = All-head (λ j. MayAdvance f n j) j js h in
       let more = fit_jobs js (All-tail (λ j. MayAdvance f n j) j js h) in
       (one.plain_job ∷ more.0, (one.is, more.1), ((one.few, one.of_members), more.2))
-
-  known_cells : (t : Traffic) (ps : List PlainJob) (ds : List (job.Done M)) → AllZip (λ p d. IsDone f t p d) ps ds → Fit ps
-      → All (λ (d : job.Done M). AreKnown f n d.cells.items) ds
-  known_cells t [] [] z fit = All-nil (λ (d : job.Done M). AreKnown f n d.cells.items)
-  known_cells t [] (d ∷ ds) z fit = absurd z
-  known_cells t (p ∷ ps) [] z fit = absurd z
-  known_cells t (p ∷ ps) (d ∷ ds) z fit =
-      let one = ran_cells p.till p.cells d.rows.items d.cells.items z.0.runs fit.0.1 in
-      let more = known_cells t ps ds z.1 fit.1 in
-      let few : length one.0 ≤ 1024 = (let e = one.3 in let le = fit.0.0 in omega arith) in
-      All-cons (λ (d : job.Done M). AreKnown f n d.cells.items) d ds (record { seen = one.0; are = one.1; of_members = one.2; few = few })
-      more
-
-  -- the cells of what a crew has done of such jobs are cells of members
-  pub known_done : (k : PlainScenario) (net : Network) (seat : SeatView) (js : List (Job M)) (r : Vec (job.Done M) × SeatView)
-      → MayMap f n js → Maps f k net seat js (Ok r)
-      → All (λ (d : job.Done M). AreKnown f n d.cells.items) r.0.items
-  known_done k net seat js r h m = let fit = fit_jobs js h.jobs in known_cells (traffic_of k net) fit.0 r.0.items
-      (m.tells fit.0 fit.1).0 fit.2
 
   -- the seat is still one of its ledger
   pub same_ledger : (k : PlainScenario) (net : Network) (seat : SeatView) (js : List (Job M)) (r : Vec (job.Done M) × SeatView)

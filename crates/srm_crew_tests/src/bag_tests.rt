@@ -1,8 +1,7 @@
-//! A bag of numbers: calls in a row, and the refusals between them.
+//! A bag of numbers, that two passes share.
 ghost use Rattle.std.specs.Prelude.{◌≡◌, ◌≤◌};
 
 use srm_crew::bag::Bag;
-use srm_crew::bag_fault::{EmptyFault, PutFault, SplitFault};
 use srm_crew::pass::Pass;
 use std::alloc::Global;
 use std::process::Abort;
@@ -49,50 +48,6 @@ fn taken_in_turn<R: Wait>(
     ensures { (first.new.bag ≡ bag.now.name) × (second.new.bag ≡ bag.now.name) }
 {
     [bag.take(rt, first), bag.take(rt, second)]
-}
-
-// Asserts that the bag is not emptied by this pass, for this reason. Both come back.
-fn expect_not_emptied(
-    rt: &impl Abort,
-    bag: Bag<u32>,
-    pass: Pass<u32>,
-    reason: EmptyFault,
-) -> (Bag<u32>, Pass<u32>)
-    requires { pass.bag ≡ bag.name }
-    ensures { result.1.bag ≡ result.0.name }
-{
-    let Err((bag, pass, fault)) = bag.empty(pass) else {
-        panic!(rt; "emptied");
-    };
-    assert_eq!(rt; fault, reason);
-    (bag, pass)
-}
-
-#[test]
-fn numbers_are_put_until_the_bag_is_full(rt: HostRuntime) {
-    let (bag, mut pass) = bag_of(&rt, rt.alloc(), 2, &[10, 11]);
-    assert_eq!(rt; bag.put(&rt, &mut pass, 12), Err((12, PutFault::Full)));
-}
-
-#[test]
-fn each_number_is_taken_once_by_two_passes(rt: HostRuntime) {
-    let (bag, pass) = bag_of(&rt, rt.alloc(), 3, &[10, 11]);
-    let (mut first, mut second) = halves(&rt, rt.alloc(), &bag, pass);
-    assert_eq!(rt; bag.put(&rt, &mut first, 13), Err((13, PutFault::NotWhole)));
-    let taken = [
-        taken_in_turn(&rt, &bag, &mut first, &mut second),
-        taken_in_turn(&rt, &bag, &mut first, &mut second),
-    ];
-    assert_eq!(rt; taken, [[Some(10), Some(11)], [None, None]]);
-}
-
-#[test]
-fn a_bag_is_emptied_by_a_whole_pass_alone(rt: HostRuntime) {
-    let (bag, pass) = bag_of(&rt, rt.alloc(), 1, &[10]);
-    let (bag, pass) = expect_not_emptied(&rt, bag, pass, EmptyFault::NotEmpty);
-    let (mut first, _) = halves(&rt, rt.alloc(), &bag, pass);
-    assert_eq!(rt; bag.take(&rt, &mut first), Some(10));
-    expect_not_emptied(&rt, bag, first, EmptyFault::NotWhole);
 }
 
 // The pass after its first half took 10 and its second half 11.
@@ -143,33 +98,4 @@ fn a_join_puts_the_list_of_the_first_pass_first(rt: HostRuntime) {
     let pass = taken_by_halves(&rt, rt.alloc(), &bag, pass);
     let pass = taken_by_first_half(&rt, rt.alloc(), &bag, pass);
     expect_indices(&rt, bag, pass, &[0, 1, 2]);
-}
-
-// The first half of the first half and so on, after so many splits.
-fn first_half_of_each(
-    rt: &impl Abort,
-    alloc: Global,
-    bag: &Bag<u32>,
-    pass: Pass<u32>,
-    splits: usize,
-) -> Pass<u32>
-    requires { pass.bag ≡ bag.now.name }
-    ensures { result.bag ≡ bag.now.name }
-{
-    let mut left = pass;
-    for _ in 0..splits {
-        let (first, _) = halves(rt, alloc, bag, left);
-        left = first;
-    }
-    left
-}
-
-#[test]
-fn a_pass_is_split_sixteen_times_and_no_more(rt: HostRuntime) {
-    let (bag, pass) = bag_of(&rt, rt.alloc(), 1, &[]);
-    let least = first_half_of_each(&rt, rt.alloc(), &bag, pass, 16);
-    let Err((_, fault)) = bag.split(rt.alloc(), least) else {
-        panic!(rt; "split once more");
-    };
-    assert_eq!(rt; fault, SplitFault::TooManySeats);
 }

@@ -2,15 +2,7 @@
 #![tactic(auto)]
 
 #[cfg(test)]
-mod boxed;
-pub mod counting;
-#[cfg(test)]
 mod drops_tests;
-pub mod failing;
-#[cfg(test)]
-mod fault_tests;
-#[cfg(test)]
-mod gate_tests;
 #[cfg(test)]
 mod opening;
 #[cfg(test)]
@@ -18,14 +10,6 @@ mod outlet_tests;
 #[cfg(test)]
 mod stream_tests;
 #[cfg(test)]
-mod streaming;
-#[cfg(test)]
-mod table_tests;
-#[cfg(test)]
-mod totals_tests;
-#[cfg(test)]
 mod trace_sink_tests;
-#[cfg(test)]
-mod trace_tests;
 #[cfg(test)]
 mod window_tests;

@@ -5,24 +5,24 @@ use std::io;
 use std::io::{ErrorKind, Write};
 use std::process::Abort;
 
-// What a writer does at the call at which it takes nothing.
+/// What a writer does at the call at which it takes nothing.
 #[derive(Clone, Copy, Debug)]
-enum Refusal {
+pub(crate) enum Refusal {
     Error(ErrorKind),
     TakesNothing,
 }
 
-// Takes three bytes at a time, and refuses at one call, of those counted from 0.
+/// Takes three bytes at a time, and refuses at one call, of those counted from 0.
 #[derive(Drop)]
-struct RefusesOnce {
-    taken: Vec<u8>,
+pub(crate) struct RefusesOnce {
+    pub(crate) taken: Vec<u8>,
     call: usize,
     refuses_at: usize,
     refusal: Refusal,
 }
 
 impl RefusesOnce {
-    fn new(alloc: Global, refuses_at: usize, refusal: Refusal) -> Self {
+    pub(crate) fn new(alloc: Global, refuses_at: usize, refusal: Refusal) -> Self {
         RefusesOnce {
             taken: Vec::new(alloc),
             call: 0,
@@ -54,8 +54,8 @@ impl Write for RefusesOnce {
 
 const TEXT: &[u8] = b"time,member,cause";
 
-// Puts what is left of the text at an outlet of such a writer, four times, and asserts that just the call fails at which the writer
-// refuses.
+// Puts what is left of the text at an outlet of such a writer, four times, and asserts that just the call fails at which the
+// writer refuses.
 fn expect_failure_at(rt: &impl Abort, alloc: Global, refuses_at: usize, refusal: Refusal) {
     let mut outlet = WriteOutlet::new(RefusesOnce::new(alloc, refuses_at, refusal));
     let mut taken = 0;

@@ -1,16 +1,19 @@
-//! Runs whose rows are taken as they come: how far such a run is when they are.
+//! Runs whose rows are written as they come: how far such a run is when the first one is.
+ghost use Rattle.std.specs.Prelude.{◌<◌, ◌-◌, ◌^◌};
+ghost use Rattle.srm_interfaces.specs.Sinks.{IsOpen};
 
-use crate::failing::Failing;
-use crate::streaming::{expect_windows, stream_text};
-use srm_crew::recording::Recording;
+use crate::opening::{members_of, opened};
+use srm_crew::plain::PlainCrew;
+use srm_engine::step_stream::step_stream;
 use srm_engine::stream_fault::StreamFault;
 use srm_engine::width::{Width, Windows};
+use srm_engine::window_stream::window_stream;
 use srm_examples::scenarios::CHAIN_OF_FIVE_ONE_LOSS;
-use srm_interfaces::sink::Stage;
-use srm_report::fault::ReportFault;
+use srm_examples::watched::Watch;
+use srm_interfaces::sink::RowSink;
 use srm_report::listing_sink::ListingSink;
 use srm_report::outlet::WriteOutlet;
-use srm_report::trace::{TraceListing, trace_text};
+use srm_report::trace::TraceListing;
 use std::alloc::{AllocError, Global};
 use std::io;
 use std::io::Write;
@@ -18,45 +21,28 @@ use std::process::Abort;
 use std::sync::Arc;
 use std::sync::atomic::{AtomicU64, Ordering};
 
-// Windows of one tick, in which one job has the cells of all members.
-const TICKS: Option<Windows> = Some(Windows {
-    cut: 64,
-    width: Width::Ticks(1),
-});
-
-// The sink is called with no rows, with those of the first window, and after the second, when its device fails: the
-// crew was handed two windows, those of ticks 0 and 1, and is handed no third.
-#[test]
-fn a_run_ends_with_the_window_after_which_its_sink_fails(
-    rt: HostRuntime,
-) -> Result<(), AllocError> {
-    let alloc = rt.alloc();
-    let text = CHAIN_OF_FIVE_ONE_LOSS.scenario;
-    let reacts = Arc::new(alloc, AtomicU64::new(0))?;
-    let mut crew = Recording::new(alloc);
-    let mut sink = Failing {
-        rows: Vec::new(alloc),
-        stage: Stage::Fresh,
-        calls_left: 2,
-        failures: 0,
-    };
-    let fault = stream_text(&rt, alloc, text, &reacts, &mut crew, TICKS, &mut sink)?;
-    assert_eq!(rt; fault, Some(StreamFault::Stopped { written: 6 }));
-    expect_windows(&rt, &crew, 5, &[1, 2]);
-    expect_front(&rt, alloc, &sink)
-}
-
-// Asserts that the sink holds the rows of tick 0, with which the trace begins.
-fn expect_front(rt: &impl Abort, alloc: Global, sink: &Failing) -> Result<(), AllocError> {
-    assert_eq!(rt; sink.rows.len(), 6);
-    match trace_text(alloc, sink.rows.as_slice()) {
-        Ok(text) => {
-            let trace = CHAIN_OF_FIVE_ONE_LOSS.trace.as_bytes();
-            assert!(rt; trace.starts_with(text.as_slice()));
-            Ok(())
+// Runs the watched members of a scenario's text, in windows or else in the sequential run. Why the run was refused, if it was.
+fn stream_text<S: RowSink>(
+    rt: &impl Abort,
+    alloc: Global,
+    text: &str,
+    watch: &mut Watch,
+    asked: Option<Windows>,
+    sink: &mut S,
+) -> Result<Option<StreamFault>, AllocError>
+    requires open { IsOpen (S.stage sink.old) }
+    requires failures { S.failures sink.old < 2 ^ 64 - 1 }
+{
+    let (scenario, net) = opened(rt, alloc, text)?;
+    let members = members_of(alloc, &scenario, &net, watch)?;
+    let mut crew = PlainCrew::new();
+    let fault = match asked {
+        Some(windows) => {
+            window_stream(alloc, &scenario, &net, members, &mut crew, windows, sink).err()
         }
-        Err(ReportFault::NoMemory) => Err(AllocError),
-    }
+        None => step_stream(alloc, &scenario, &net, members, sink).err(),
+    };
+    Ok(fault)
 }
 
 /// Takes all bytes, and notes a shared number when the first byte after so many comes.
@@ -83,33 +69,36 @@ impl Write for Noting {
 
 const HEADER: &str = "time,member,cause,ref,result,lost,sent\n";
 
-// How often senders had been asked to react when the first row of a run's trace was written, and when the run had ended.
+// How often members had reacted when the first row of a run's trace was written, and when the run had ended.
 fn reacts_of_run(
     rt: &impl Abort,
     alloc: Global,
     text: &str,
     asked: Option<Windows>,
 ) -> Result<(Option<u64>, u64), AllocError> {
-    let reacts = Arc::new(alloc, AtomicU64::new(0))?;
+    let mut watch = Watch::new(alloc)?;
+    let reacts = watch.reacts()?;
     let mut outlet = WriteOutlet::new(Noting {
-        number: Arc::try_clone(&reacts)?,
+        number: watch.reacts()?,
         left: HEADER.len(),
         noted: None,
     });
-    let mut crew = Recording::new(alloc);
     let mut sink = ListingSink::over(alloc, TraceListing, &mut outlet);
-    let fault = stream_text(rt, alloc, text, &reacts, &mut crew, asked, &mut sink)?;
+    let fault = stream_text(rt, alloc, text, &mut watch, asked, &mut sink)?;
     assert_eq!(rt; fault, None);
     drop(sink);
     Ok((outlet.into_inner().noted, reacts.load(Ordering::SeqCst)))
 }
 
-// The sender joins and draws at tick 0; later it draws once more, hears a request, and hears the repair. When the first
-// row is written it has met the two events of the first window alone.
+// At tick 0 five members join, and the sender draws; the whole run has 22 events.
 #[test]
 fn rows_are_written_before_later_windows_are_run(rt: HostRuntime) -> Result<(), AllocError> {
-    let reacts = reacts_of_run(&rt, rt.alloc(), CHAIN_OF_FIVE_ONE_LOSS.scenario, TICKS)?;
-    assert_eq!(rt; reacts, (Some(2), 5));
+    let ticks = Windows {
+        cut: 64,
+        width: Width::Ticks(1),
+    };
+    let reacts = reacts_of_run(&rt, rt.alloc(), CHAIN_OF_FIVE_ONE_LOSS, Some(ticks))?;
+    assert_eq!(rt; reacts, (Some(6), 22));
     Ok(())
 }
 
@@ -154,11 +143,11 @@ draw = [
 ]
 "#;
 
-// The sender joins and draws twenty times. When the first row is written it has drawn eleven times: the first 32 rows are three
-// joins, eleven draws, and the arrivals of nine packets at two members.
+// The first 32 rows are written together: three joins, eleven draws, and the arrivals of nine packets at two members. The whole run
+// has three joins, twenty draws, and forty arrivals.
 #[test]
 fn rows_are_written_before_later_events_are_handled(rt: HostRuntime) -> Result<(), AllocError> {
     let reacts = reacts_of_run(&rt, rt.alloc(), TWENTY_DRAWS, None)?;
-    assert_eq!(rt; reacts, (Some(12), 21));
+    assert_eq!(rt; reacts, (Some(32), 63));
     Ok(())
 }

@@ -1,13 +1,16 @@
-//! A trace that is written as its rows come, to outlets that fail.
+//! A trace that is written as its rows come.
 ghost use Rattle.std.specs.Prelude.{◌<◌, ◌-◌, ◌^◌};
 ghost use Rattle.srm_interfaces.specs.Sinks.{IsOpen};
 ghost use Rattle.srm_report.specs.ListingSinks.{stage_of, outlet_under};
 
-use crate::trace_tests::{Narrow, Of, row_of};
+use crate::outlet_tests::{Refusal, RefusesOnce};
 use srm_interfaces::sink::{RowSink, SinkFault};
-use srm_member::row::{Row, Word};
+use srm_member::adapted::Adapted;
+use srm_member::row::{About, Row, Word};
 use srm_member::told::Told;
-use srm_net::packet::PacketId;
+use srm_net::key::Key;
+use srm_net::rank::Rank;
+use srm_net::sequence::Sequence;
 use srm_report::listing_sink::ListingSink;
 use srm_report::outlet::{Outlet, WriteOutlet};
 use srm_report::trace::TraceListing;
@@ -18,28 +21,26 @@ use std::io::Write;
 use std::process::Abort;
 
 const TEXT: &[u8] =
-    b"time,member,cause,ref,result,lost,sent\n0,0,join,-,in,0,-\n3,1,data,0:0,fresh,0,-\n";
+    b"time,member,cause,ref,result,lost,sent\n0,0,join,-,in,0,-\n3,1,leave,-,out,0,-\n";
 
-fn join(alloc: Global) -> Result<Row, AllocError> {
-    row_of(
-        alloc,
-        (0, 0, Word::Join, Of::Nothing, Told::Entered),
-        0,
-        None,
-    )
-}
-
-fn arrival(alloc: Global) -> Result<Row, AllocError> {
-    let data = PacketId {
-        sender: 0,
-        count: 0,
-    };
-    row_of(
-        alloc,
-        (3, 1, Word::Data, Of::Packet(data), Told::Fresh),
-        0,
-        None,
-    )
+// The row of a member that joins or leaves.
+fn row_of(alloc: Global, time: u64, member: u16, cause: Word, told: Told) -> Row {
+    Row {
+        key: Key {
+            time,
+            member,
+            rank: Rank::Join,
+            a: 0,
+            b: 0,
+            c: 0,
+        },
+        cause,
+        about: About::Nothing,
+        told,
+        lost: Sequence::new(alloc),
+        sent: None,
+        adapted: Adapted::nothing(),
+    }
 }
 
 // A list of one item.
@@ -51,9 +52,11 @@ fn one<T: Drop>(alloc: Global, item: T) -> Result<Vec<T>, AllocError> {
 
 // What a sink is handed, call by call: no rows, one row, and another.
 fn calls(alloc: Global) -> Result<Vec<Vec<Row>>, AllocError> {
+    let join = row_of(alloc, 0, 0, Word::Join, Told::Entered);
+    let leave = row_of(alloc, 3, 1, Word::Leave, Told::Parted);
     let mut calls = one(alloc, Vec::new(alloc))?;
-    calls.push(one(alloc, join(alloc)?)?)?;
-    calls.push(one(alloc, arrival(alloc)?)?)?;
+    calls.push(one(alloc, join)?)?;
+    calls.push(one(alloc, leave)?)?;
     Ok(calls)
 }
 
@@ -81,75 +84,20 @@ fn written<O: Outlet>(
     Ok(None)
 }
 
-// What an outlet that takes so many bytes took, and what the first fault told, where so many bytes may be gathered.
+// What an outlet took of these calls, where up to 1,000 bytes may be gathered, and what the first fault told.
 fn written_to(
     alloc: Global,
-    takes: usize,
-    gathers: usize,
     calls: Vec<Vec<Row>>,
     flushes: bool,
 ) -> Result<(Vec<u8>, Option<u64>), AllocError> {
-    let mut outlet = WriteOutlet::new(Narrow::new(alloc, takes, true));
-    let sink = ListingSink::gathering(alloc, TraceListing, &mut outlet, gathers);
+    let writer = RefusesOnce::new(alloc, usize::MAX, Refusal::TakesNothing);
+    let mut outlet = WriteOutlet::new(writer);
+    let sink = ListingSink::gathering(alloc, TraceListing, &mut outlet, 1_000);
     let told = written(alloc, sink, calls, flushes)?;
     Ok((outlet.into_inner().taken, told))
 }
 
-// Asserts what an outlet that takes so many bytes took of the text, and what the first fault told.
-fn expect_front(
-    rt: &impl Abort,
-    alloc: Global,
-    takes: usize,
-    gathers: usize,
-    told_of: Option<u64>,
-) -> Result<(), AllocError> {
-    let (taken, told) = written_to(alloc, takes, gathers, calls(alloc)?, true)?;
-    assert_eq!(rt; told, told_of, "{takes} bytes, {gathers} gathered");
-    let front = TEXT.get(..takes).unwrap_or(TEXT);
-    assert_eq!(rt;
-        taken.as_slice(),
-        front,
-        "{takes} bytes, {gathers} gathered"
-    );
-    Ok(())
-}
-
-#[test]
-fn an_outlet_that_fails_has_the_front_that_is_told(rt: HostRuntime) -> Result<(), AllocError> {
-    for gathers in [0, 1, 40, 60, 1_000] {
-        for takes in 0..TEXT.len() {
-            expect_front(&rt, rt.alloc(), takes, gathers, Some(takes as u64))?;
-        }
-    }
-    Ok(())
-}
-
-#[test]
-fn pieces_are_the_text_of_the_whole(rt: HostRuntime) -> Result<(), AllocError> {
-    for gathers in [0, 1, 40, 60, 1_000] {
-        expect_front(&rt, rt.alloc(), 1_000, gathers, None)?;
-    }
-    Ok(())
-}
-
-// What an outlet that takes 1,000 bytes took of a sink that was handed one row, and what the first fault told.
-fn written_of_one_row(alloc: Global) -> Result<(Vec<u8>, Option<u64>), AllocError> {
-    let rows = one(alloc, join(alloc)?)?;
-    let mut outlet = WriteOutlet::new(Narrow::new(alloc, 1_000, true));
-    let sink = ListingSink::over(alloc, TraceListing, &mut outlet);
-    let told = written(alloc, sink, one(alloc, rows)?, false)?;
-    Ok((outlet.into_inner().taken, told))
-}
-
-#[test]
-fn a_sink_over_an_outlet_writes_each_piece_as_it_comes(rt: HostRuntime) -> Result<(), AllocError> {
-    let (taken, told) = written_of_one_row(rt.alloc())?;
-    assert_eq!(rt; told, None);
-    assert_eq!(rt; taken.as_slice(), &TEXT[..57]);
-    Ok(())
-}
-
-// The header and the first rows are written at once, so that a run is seen to go; then up to 1,000 bytes are gathered.
+// The header and the first rows are written at once, so that a run is seen to go; the rest is gathered.
 #[test]
 fn only_what_comes_after_the_first_rows_is_gathered(rt: HostRuntime) -> Result<(), AllocError> {
     for (handed, flushes, bytes) in [
@@ -160,8 +108,12 @@ fn only_what_comes_after_the_first_rows_is_gathered(rt: HostRuntime) -> Result<(
     ] {
         let mut calls = calls(rt.alloc())?;
         calls.truncate(handed);
-        let (taken, told) = written_to(rt.alloc(), 1_000, 1_000, calls, flushes)?;
-        assert_eq!(rt; (taken.len(), told), (bytes, None), "after {handed} calls");
+        let (taken, told) = written_to(rt.alloc(), calls, flushes)?;
+        assert_eq!(rt;
+            (Some(taken.as_slice()), told),
+            (TEXT.get(..bytes), None),
+            "after {handed} calls"
+        );
     }
     Ok(())
 }

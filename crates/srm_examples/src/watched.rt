@@ -1,4 +1,4 @@
-//! Members whose end is watched.
+//! Members whose reactions and ends are watched.
 ghost use Rattle.std.specs.Prelude.{◌≡◌, ◌+◌, [], length, IfOk};
 
 use srm_member::cause::Cause;
@@ -11,16 +11,21 @@ use std::alloc::{AllocError, Global};
 use std::sync::Arc;
 use std::sync::atomic::{AtomicU64, Ordering};
 
-/// A member that answers as the one inside, and counts its drops.
+/// A member that answers as the one inside, and counts its reactions and drops.
 pub struct Watched<M: Member> {
     inner: M,
+    reacts: Arc<AtomicU64>,
     drops: Arc<AtomicU64>,
 }
 
 impl<M: Member> Drop for Watched<M> {
     fn drop(self) {
         self.drops.fetch_add(1, Ordering::SeqCst);
-        let Watched { inner: _, drops: _ } = self;
+        let Watched {
+            inner: _,
+            reacts: _,
+            drops: _,
+        } = self;
     }
 }
 
@@ -36,6 +41,7 @@ impl<M: Member> Member for Watched<M> {
     }
 
     fn react(&mut self, alloc: Global, at: u64, cause: &Cause) -> Result<React, MemberFault> {
+        self.reacts.fetch_add(1, Ordering::SeqCst);
         self.inner.react(alloc, at, cause)
     }
 
@@ -44,20 +50,33 @@ impl<M: Member> Member for Watched<M> {
     }
 }
 
-/// How often each of some members was dropped.
+/// How often some members have reacted together, and how often each was dropped.
 #[derive(Drop)]
 pub struct Watch {
+    reacts: Arc<AtomicU64>,
     drops: Vec<Arc<AtomicU64>>,
 }
 
 impl Watch {
     /// No member is watched yet.
-    pub fn new(alloc: Global) -> Watch
-        ensures { result.drops.items ≡ [] }
+    ///
+    /// # Errors
+    /// [`AllocError`] alone.
+    pub fn new(alloc: Global) -> Result<Watch, AllocError>
+        ensures { IfOk result (λ w. w.drops.items ≡ []) }
     {
-        Watch {
+        Ok(Watch {
+            reacts: Arc::new(alloc, AtomicU64::new(0))?,
             drops: Vec::new(alloc),
-        }
+        })
+    }
+
+    /// How often the members have reacted, also from now on.
+    ///
+    /// # Errors
+    /// [`AllocError`] alone.
+    pub fn reacts(&self) -> Result<Arc<AtomicU64>, AllocError> {
+        Ok(Arc::try_clone(&self.reacts)?)
     }
 
     /// The member, watched from now on.
@@ -68,9 +87,14 @@ impl Watch {
         ensures member { IfOk result (λ w. w.inner ≡ inner) }
         ensures more { IfOk result (λ _. length self.new.drops.items ≡ length self.old.drops.items + 1) }
     {
+        let reacts = self.reacts()?;
         let drops = Arc::new(alloc, AtomicU64::new(0))?;
         self.drops.push(Arc::try_clone(&drops)?)?;
-        Ok(Watched { inner, drops })
+        Ok(Watched {
+            inner,
+            reacts,
+            drops,
+        })
     }
 
     /// How many members were watched.

@@ -11,7 +11,6 @@ use srm_crew::bag_crew::BagCrew;
 use srm_crew::gate::OpenGate;
 use srm_crew::plain::PlainCrew;
 use srm_crew::pool::PoolCrew;
-use srm_crew::recording::Recording;
 use srm_interfaces::crew::Crew;
 use srm_interfaces::fault::CrewFault;
 use srm_ledger::ledger::{Ledger, Seat};
@@ -84,22 +83,6 @@ impl<R: Threads + Sync> BoxCrew for PoolCrew<R> {
 
 impl<R: Threads + Wait + Sync> BoxCrew for BagCrew<R, OpenGate> {
     ghost ready = { λ _. IsSync R.row };
-
-    fn map_boxes(
-        &mut self,
-        alloc: Global,
-        scenario: &Scenario,
-        net: &Net,
-        ledger: &Ledger,
-        seat: Seat,
-        jobs: Vec<Job>,
-    ) -> Result<(Vec<Done>, Seat), CrewFault> {
-        self.map(alloc, scenario, net, ledger, seat, jobs)
-    }
-}
-
-impl BoxCrew for Recording {
-    ghost ready = { λ _. Unit {0} };
 
     fn map_boxes(
         &mut self,

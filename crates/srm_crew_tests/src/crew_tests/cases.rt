@@ -8,86 +8,63 @@ use srm_member::told::Told;
 
 // The sender draws at ticks 0 and 5; the first packet crosses the link.
 const SENDER_AND_LISTENER: Case = Case {
-    example: TWO_NODES,
+    scenario: TWO_NODES,
     sent: 0,
     is_over: false,
     counted: 0,
-    splits: 0,
-    ends: [1, 5],
-    windows: &[
-        Wanted {
-            rows: &[
-                (0, 0, Word::Join, Told::Entered, None),
-                (0, 0, Word::Draw, Told::Sent, Some(0)),
-                (0, 1, Word::Join, Told::Entered, None),
-            ],
-            crossings: &[(0, [1, 0, 0, 0, 0])],
-            next_times: &[Some(5), None],
-        },
-        Wanted {
-            rows: &[],
-            crossings: &[],
-            next_times: &[Some(5), None],
-        },
-    ],
-    fault: None,
-    totals: &[[1, 0, 0, 0, 0]],
+    till: 5,
+    wanted: Ok(Wanted {
+        rows: &[
+            (0, 0, Word::Join, Told::Entered, None),
+            (0, 0, Word::Draw, Told::Sent, Some(0)),
+            (0, 1, Word::Join, Told::Entered, None),
+        ],
+        crossings: &[(0, [1, 0, 0, 0, 0])],
+        next_times: &[Some(5), None],
+        totals: &[[1, 0, 0, 0, 0]],
+    }),
 };
 
 // The first packet is dropped at once, and the second crosses all links.
 const FOUR_ROUND_A_NODE: Case = Case {
-    example: STAR_LOSS_AT_THE_SOURCE,
+    scenario: STAR_LOSS_AT_THE_SOURCE,
     sent: 0,
     is_over: false,
     counted: 0,
-    splits: 0,
-    ends: [5, 105],
-    windows: &[
-        Wanted {
-            rows: &[
-                (0, 0, Word::Join, Told::Entered, None),
-                (0, 0, Word::Draw, Told::Sent, Some(0)),
-                (0, 1, Word::Join, Told::Entered, None),
-                (0, 2, Word::Join, Told::Entered, None),
-                (0, 3, Word::Join, Told::Entered, None),
-            ],
-            crossings: &[
-                (0, [0, 0, 0, 0, 1]),
-                (0, [0, 0, 0, 0, 0]),
-                (0, [0, 0, 0, 0, 0]),
-                (0, [0, 0, 0, 0, 0]),
-            ],
-            next_times: &[Some(100), None, None, None],
-        },
-        Wanted {
-            rows: &[(100, 0, Word::Draw, Told::Sent, Some(1))],
-            crossings: &[
-                (0, [1, 0, 0, 0, 0]),
-                (0, [1, 0, 0, 0, 0]),
-                (0, [1, 0, 0, 0, 0]),
-                (0, [1, 0, 0, 0, 0]),
-            ],
-            next_times: &[None, None, None, None],
-        },
-    ],
-    fault: None,
-    totals: &[
-        [1, 0, 0, 0, 1],
-        [1, 0, 0, 0, 0],
-        [1, 0, 0, 0, 0],
-        [1, 0, 0, 0, 0],
-    ],
+    till: 105,
+    wanted: Ok(Wanted {
+        rows: &[
+            (0, 0, Word::Join, Told::Entered, None),
+            (0, 0, Word::Draw, Told::Sent, Some(0)),
+            (100, 0, Word::Draw, Told::Sent, Some(1)),
+            (0, 1, Word::Join, Told::Entered, None),
+            (0, 2, Word::Join, Told::Entered, None),
+            (0, 3, Word::Join, Told::Entered, None),
+        ],
+        crossings: &[
+            (0, [1, 0, 0, 0, 1]),
+            (0, [1, 0, 0, 0, 0]),
+            (0, [1, 0, 0, 0, 0]),
+            (0, [1, 0, 0, 0, 0]),
+        ],
+        next_times: &[None, None, None, None],
+        totals: &[
+            [1, 0, 0, 0, 1],
+            [1, 0, 0, 0, 0],
+            [1, 0, 0, 0, 0],
+            [1, 0, 0, 0, 0],
+        ],
+    }),
 };
 
-// The sender has one packet left, and is to send two.
+// The sender has one packet left, and sends it.
 const LAST_PACKET: Case = Case {
-    example: TWO_NODES,
+    scenario: TWO_NODES,
     sent: 281_474_976_710_655,
     is_over: false,
     counted: 0,
-    splits: 0,
-    ends: [1, 6],
-    windows: &[Wanted {
+    till: 1,
+    wanted: Ok(Wanted {
         rows: &[
             (0, 0, Word::Join, Told::Entered, None),
             (0, 0, Word::Draw, Told::Sent, Some(281_474_976_710_655)),
@@ -95,48 +72,38 @@ const LAST_PACKET: Case = Case {
         ],
         crossings: &[(0, [1, 0, 0, 0, 0])],
         next_times: &[Some(5), None],
-    }],
-    fault: Some(CrewFault::CountFull),
-    totals: &[],
+        totals: &[[1, 0, 0, 0, 0]],
+    }),
 };
 
-// The sender has no packet left, and is to send one.
+// The sender has one packet left, and is to send two.
 const NO_PACKET_LEFT: Case = Case {
-    example: TWO_NODES,
-    sent: 281_474_976_710_656,
+    scenario: TWO_NODES,
+    sent: 281_474_976_710_655,
     is_over: false,
     counted: 0,
-    splits: 0,
-    ends: [1, 5],
-    windows: &[],
-    fault: Some(CrewFault::CountFull),
-    totals: &[],
+    till: 6,
+    wanted: Err(CrewFault::CountFull),
 };
 
 // Both members have ended before they join.
 const OVER: Case = Case {
-    example: TWO_NODES,
+    scenario: TWO_NODES,
     sent: 0,
     is_over: true,
     counted: 0,
-    splits: 0,
-    ends: [1, 5],
-    windows: &[],
-    fault: Some(CrewFault::Spent),
-    totals: &[],
+    till: 1,
+    wanted: Err(CrewFault::Spent),
 };
 
 // The seat's share of what crosses the link is as large as it may be, and the sender's first packet crosses it.
 const FULL_SHARE: Case = Case {
-    example: TWO_NODES,
+    scenario: TWO_NODES,
     sent: 0,
     is_over: false,
     counted: SHARE_MOST,
-    splits: 0,
-    ends: [1, 5],
-    windows: &[],
-    fault: Some(CrewFault::ShareFull),
-    totals: &[],
+    till: 1,
+    wanted: Err(CrewFault::ShareFull),
 };
 
 /// Each of these cases.
@@ -148,9 +115,3 @@ pub(crate) static CASES: [Case; 6] = [
     OVER,
     FULL_SHARE,
 ];
-
-/// As four round a node, with a seat of weight 1.
-pub(crate) static LEAST_SEAT: Case = Case {
-    splits: 16,
-    ..FOUR_ROUND_A_NODE
-};

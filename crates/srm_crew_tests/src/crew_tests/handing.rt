@@ -1,5 +1,5 @@
 //! Jobs of single cells, as crews are handed them.
-ghost use Rattle.std.specs.Prelude.{◌≡◌, ◌≤◌, ◌<◌, length, map, All, IfOk};
+ghost use Rattle.std.specs.Prelude.{◌≡◌, ◌≤◌, ◌<◌, length, map, IfOk};
 ghost use Rattle.srm_net.specs.Limits.{end_of_time, most_sent};
 ghost use Rattle.srm_net.specs.Orders.{Rises};
 ghost use Rattle.srm_scenario.specs.Plain.{mark_cmp, network_of};
@@ -8,7 +8,6 @@ ghost use Rattle.srm_crew_tests.specs.Handed.{MayMap, AreKnown};
 
 use crate::crew_tests::boxed::BoxCrew;
 use crate::crew_tests::run_context::RunContext;
-use crate::crew_tests::seen::Window;
 use srm_cell::cell::Cell;
 use srm_cell::job::{Done, Job};
 use srm_interfaces::fault::CrewFault;
@@ -148,50 +147,23 @@ pub(crate) fn idle_jobs(
     Ok(jobs)
 }
 
-// The jobs of the same cells up to another end, and what was done.
-fn next_jobs(
-    rt: &impl Abort,
-    alloc: Global,
-    net: &Net,
-    all: Vec<Done>,
-    till: u64,
-) -> Result<(Vec<Job>, Window), AllocError>
-    requires known { All (λ d. AreKnown (λ b. (⟦<dyn Member as Member>⟧ b.vtable).plain b.value)
-        (length net.now.hosts) d.cells.items) all.items }
-    requires till { till ≤ end_of_time }
-    ensures { IfOk result (λ r. MayMap (λ b. (⟦<dyn Member as Member>⟧ b.vtable).plain b.value)
-        (length net.now.hosts) r.0.items) }
-{
-    let mut window = Window::new(alloc);
-    let mut jobs = Vec::new(alloc);
-    for done in all {
-        let cells = window.add(done)?;
-        add_job(rt, net, &mut jobs, till, cells)?;
-    }
-    Ok((jobs, window))
-}
-
-/// Hands a window's jobs to a crew. Gives the same cells' jobs up to another end, the seat, and what was done.
-pub(crate) fn map_window<C: BoxCrew>(
-    rt: &impl Abort,
+/// Hands jobs to a crew. Gives what was done of them, and the seat.
+pub(crate) fn map_jobs<C: BoxCrew>(
     alloc: Global,
     crew: &mut C,
     context: &RunContext,
     seat: Seat,
     jobs: Vec<Job>,
-    till: u64,
-) -> Result<(Vec<Job>, Seat, Window), CrewFault>
+) -> Result<(Vec<Done>, Seat), CrewFault>
     requires ready { C.ready crew.old }
-    requires jobs { MayMap (λ b. (⟦<dyn Member as Member>⟧ b.vtable).plain b.value) (length context.now.net.now.hosts) jobs.items }
+    requires jobs { MayMap (λ b. (⟦<dyn Member as Member>⟧ b.vtable).plain b.value)
+        (length context.now.net.now.hosts) jobs.items }
     requires links { context.now.ledger.now.links ≡ length context.now.net.now.links }
     requires seat { seat.ledger ≡ context.now.ledger.now.name }
-    requires till { till ≤ end_of_time }
     ensures ready { C.ready crew.new }
-    ensures jobs { IfOk result (λ r. MayMap (λ b. (⟦<dyn Member as Member>⟧ b.vtable).plain b.value)
-        (length context.now.net.now.hosts) r.0.items) }
     ensures seat { IfOk result (λ r. r.1.ledger ≡ context.now.ledger.now.name) }
 {
-    let (all, seat) = match crew.map_boxes(
+    match crew.map_boxes(
         alloc,
         context.scenario,
         context.net,
@@ -199,11 +171,7 @@ pub(crate) fn map_window<C: BoxCrew>(
         seat,
         jobs,
     ) {
-        Ok(mapped) => mapped,
-        Err(fault) => return Err(fault),
-    };
-    let Ok((next, window)) = next_jobs(rt, alloc, context.net, all, till) else {
-        return Err(CrewFault::NoMemory);
-    };
-    Ok((next, seat, window))
+        Ok(mapped) => Ok(mapped),
+        Err(fault) => Err(fault),
+    }
 }

@@ -67,23 +67,14 @@ fn map_by_team<'a, M: Participant, J: Naming, R: Wait>(
     )
 }
 
-// What is done of all jobs of a window.
-fn window_of(alloc: Global, all: Vec<Done>) -> Result<Window, AllocError> {
-    let mut window = Window::new(alloc);
-    for done in all {
-        window.add(done)?;
-    }
-    Ok(window)
-}
-
-// Hands the jobs of a case's first window to a crew of a team, and asserts that what the case says comes of them.
+// Hands a case's jobs to a crew of a team, and asserts that what the case says comes of them.
 fn map_first<R: Wait + Abort>(
     rt: &R,
     alloc: Global,
     case: &Case,
     watch: &mut Watch,
 ) -> Result<(), AllocError> {
-    let (scenario, net) = opened(rt, alloc, case.example.scenario)?;
+    let (scenario, net) = opened(rt, alloc, case.scenario)?;
     let jobs = first_jobs(rt, alloc, &scenario, &net, case, watch)?;
     let (ledger, seat) = ledger_of(rt, alloc, &net)?;
     let seat = counted(rt, &ledger, seat, case.counted);
@@ -94,15 +85,15 @@ fn map_first<R: Wait + Abort>(
         ledger: &ledger,
     };
     match map_by_team::<Box<dyn Member>, Brand, R>(rt, alloc, history, &context, seat, jobs) {
-        Ok((all, _seat)) => case.expect(rt, 0, &window_of(alloc, all)?),
-        Err(fault) => case.expect_fault(rt, 0, fault)?,
+        Ok((all, _seat)) => case.expect(rt, &Window::of(alloc, all.as_slice())?),
+        Err(fault) => case.expect_fault(rt, fault)?,
     }
     Ok(())
 }
 
 // The same. Each box is dropped once, whatever comes of it.
 fn map_once<R: Wait + Abort>(rt: &R, alloc: Global, case: &Case) -> Result<(), AllocError> {
-    let mut watch = Watch::new(alloc);
+    let mut watch = Watch::new(alloc)?;
     let answer = map_first(rt, alloc, case, &mut watch);
     assert!(rt; watch.saw_each_dropped_once());
     answer

@@ -1,21 +1,20 @@
-//! What each crew gives for two windows.
-ghost use Rattle.std.specs.Prelude.{◌≡◌, ◌<◌, length, All, IfOk, IfSome};
+//! What each crew gives for a window.
+ghost use Rattle.std.specs.Prelude.{◌≡◌, ◌<◌, length, IfOk};
 ghost use Rattle.srm_scenario.specs.Plain.{network_of};
-ghost use Rattle.srm_ledger.specs.Seats.{SeatView};
 ghost use Rattle.srm_crew_tests.specs.Handed.{MayMap};
 
 use crate::crew_tests::boxed::BoxCrew;
 use crate::crew_tests::case::Case;
-use crate::crew_tests::cases::{CASES, LEAST_SEAT};
-use crate::crew_tests::handing::{add_job, cells_of_member, map_window, opened};
+use crate::crew_tests::cases::CASES;
+use crate::crew_tests::handing::{add_job, cells_of_member, map_jobs, opened};
 use crate::crew_tests::run_context::RunContext;
-use crate::crew_tests::seats::{counted, halved, joined, ledger_of};
+use crate::crew_tests::seats::{counted, ledger_of};
+use crate::crew_tests::seen::Window;
 use srm_cell::job::Job;
 use srm_crew::bag_crew::BagCrew;
 use srm_crew::gate::OpenGate;
 use srm_crew::plain::PlainCrew;
 use srm_crew::pool::PoolCrew;
-use srm_crew::recording::Recording;
 use srm_examples::watched::{Watch, Watched};
 use srm_ledger::ledger::{Ledger, Seat};
 use srm_member::fault::MemberFault;
@@ -96,7 +95,7 @@ fn first_member(
     Ok(member)
 }
 
-/// The jobs of a case's first window: the cell of each member, alone.
+/// The jobs of a case: the cell of each member, alone.
 pub(crate) fn first_jobs(
     rt: &impl Abort,
     alloc: Global,
@@ -109,93 +108,28 @@ pub(crate) fn first_jobs(
     ensures { IfOk result (λ jobs. MayMap (λ b. (⟦<dyn Member as Member>⟧ b.vtable).plain b.value)
         (length net.now.hosts) jobs.items) }
 {
-    let [till, _] = case.ends;
-    assert!(rt; till <= LAST_END);
+    assert!(rt; case.till <= LAST_END);
     assert!(rt; case.sent <= MOST_PACKETS);
     let mut jobs = Vec::new(alloc);
     for m in 0..scenario.members() {
         let member = first_member(rt, alloc, scenario, net, m, case, watch)?;
         let cells = cells_of_member(rt, alloc, scenario, net, member, m, case.sent)?;
-        add_job(rt, net, &mut jobs, till, cells)?;
+        add_job(rt, net, &mut jobs, case.till, cells)?;
     }
     Ok(jobs)
 }
 
-// Hands a window's jobs, with the seat, to a crew, and asserts that what the case says comes of them. Gives the next window's jobs
-// and the seat where it is not refused.
-fn map_next<C: BoxCrew>(
-    rt: &impl Abort,
-    alloc: Global,
-    crew: &mut C,
-    context: &RunContext,
-    jobs_and_seat: (Vec<Job>, Seat),
-    case: &Case,
-    index: usize,
-) -> Result<Option<(Vec<Job>, Seat)>, AllocError>
-    requires ready { C.ready crew.old }
-    requires jobs { MayMap (λ b. (⟦<dyn Member as Member>⟧ b.vtable).plain b.value)
-        (length context.now.net.now.hosts) jobs_and_seat.0.items }
-    requires links { context.now.ledger.now.links ≡ length context.now.net.now.links }
-    requires seat { jobs_and_seat.1.ledger ≡ context.now.ledger.now.name }
-    ensures ready { C.ready crew.new }
-    ensures jobs { IfOk result (λ left. IfSome left (λ r. MayMap (λ b. (⟦<dyn Member as Member>⟧ b.vtable).plain b.value)
-        (length context.now.net.now.hosts) r.0.items)) }
-    ensures seat { IfOk result (λ left. IfSome left (λ r. r.1.ledger ≡ context.now.ledger.now.name)) }
+// Asserts that the seat can close its ledger, and that the case's totals were counted.
+fn expect_end(rt: &impl Abort, ledger: Ledger, seat: Seat, case: &Case)
+    requires { seat.ledger ≡ ledger.name }
 {
-    let (jobs, seat) = jobs_and_seat;
-    let [_, till] = case.ends;
-    assert!(rt; till <= LAST_END);
-    match map_window(rt, alloc, crew, context, seat, jobs, till) {
-        Ok((jobs, seat, window)) => {
-            case.expect(rt, index, &window);
-            Ok(Some((jobs, seat)))
-        }
-        Err(fault) => {
-            case.expect_fault(rt, index, fault)?;
-            Ok(None)
-        }
-    }
-}
-
-// Hands the jobs of a case's two windows to a crew. Gives the seat where none is refused.
-fn map_both<C: BoxCrew>(
-    rt: &impl Abort,
-    alloc: Global,
-    crew: &mut C,
-    context: &RunContext,
-    jobs_and_seat: (Vec<Job>, Seat),
-    case: &Case,
-) -> Result<Option<Seat>, AllocError>
-    requires ready { C.ready crew.old }
-    requires jobs { MayMap (λ b. (⟦<dyn Member as Member>⟧ b.vtable).plain b.value)
-        (length context.now.net.now.hosts) jobs_and_seat.0.items }
-    requires links { context.now.ledger.now.links ≡ length context.now.net.now.links }
-    requires seat { jobs_and_seat.1.ledger ≡ context.now.ledger.now.name }
-    ensures ready { C.ready crew.new }
-    ensures seat { IfOk result (λ left. IfSome left (λ s. s.ledger ≡ context.now.ledger.now.name)) }
-{
-    let Some(next) = map_next(rt, alloc, crew, context, jobs_and_seat, case, 0)? else {
-        return Ok(None);
-    };
-    let Some((_jobs, seat)) = map_next(rt, alloc, crew, context, next, case, 1)? else {
-        return Ok(None);
-    };
-    Ok(Some(seat))
-}
-
-// Asserts that the seat, joined with the others, can close its ledger, and that the case's totals were counted.
-fn expect_end(rt: &impl Abort, ledger: Ledger, seat: Seat, others: Vec<Seat>, case: &Case)
-    requires seat { seat.ledger ≡ ledger.name }
-    requires others { All (λ (s : SeatView). s.ledger ≡ ledger.name) others.items }
-{
-    let seat = joined(rt, &ledger, seat, others);
     match ledger.close(seat) {
         Ok(totals) => case.expect_totals(rt, &totals),
         Err(_) => panic!(rt; "not closed"),
     }
 }
 
-// Hands the jobs of a case's two windows to a crew, and asserts that what the case says comes of them.
+// Hands a case's jobs to a crew, and asserts that what the case says comes of them.
 fn map_members<C: BoxCrew>(
     rt: &impl Abort,
     alloc: Global,
@@ -212,14 +146,17 @@ fn map_members<C: BoxCrew>(
     let jobs = first_jobs(rt, alloc, scenario, net, case, watch)?;
     let (ledger, seat) = ledger_of(rt, alloc, net)?;
     let seat = counted(rt, &ledger, seat, case.counted);
-    let (seat, others) = halved(alloc, &ledger, seat, case.splits)?;
     let context = RunContext {
         scenario,
         net,
         ledger: &ledger,
     };
-    if let Some(seat) = map_both(rt, alloc, crew, &context, (jobs, seat), case)? {
-        expect_end(rt, ledger, seat, others, case);
+    match map_jobs(alloc, crew, &context, seat, jobs) {
+        Ok((all, seat)) => {
+            case.expect(rt, &Window::of(alloc, all.as_slice())?);
+            expect_end(rt, ledger, seat, case);
+        }
+        Err(fault) => case.expect_fault(rt, fault)?,
     }
     Ok(())
 }
@@ -234,8 +171,8 @@ fn map_once<C: BoxCrew>(
     requires { C.ready crew.old }
     ensures { C.ready crew.new }
 {
-    let (scenario, net) = opened(rt, alloc, case.example.scenario)?;
-    let mut watch = Watch::new(alloc);
+    let (scenario, net) = opened(rt, alloc, case.scenario)?;
+    let mut watch = Watch::new(alloc)?;
     let answer = map_members(rt, alloc, crew, &scenario, &net, case, &mut watch);
     assert!(rt; watch.saw_each_dropped_once());
     answer
@@ -268,28 +205,16 @@ fn map_cases<C: BoxCrew>(rt: &impl Abort, alloc: Global, crew: &mut C) -> Result
 }
 
 #[test]
-fn a_plain_crew_maps_two_windows(rt: HostRuntime) -> Result<(), AllocError> {
+fn a_plain_crew_maps_a_window(rt: HostRuntime) -> Result<(), AllocError> {
     map_cases(&rt, rt.alloc(), &mut PlainCrew::new())
 }
 
 #[test]
-fn a_crew_that_notes_its_calls_maps_two_windows(rt: HostRuntime) -> Result<(), AllocError> {
-    map_cases(&rt, rt.alloc(), &mut Recording::new(rt.alloc()))
-}
-
-#[test]
-fn a_crew_of_pool_threads_maps_two_windows(rt: HostRuntime) -> Result<(), AllocError> {
+fn a_crew_of_pool_threads_maps_a_window(rt: HostRuntime) -> Result<(), AllocError> {
     map_cases(&rt, rt.alloc(), &mut PoolCrew::new(&rt))
 }
 
 #[test]
-fn a_crew_of_workers_maps_two_windows(rt: HostRuntime) -> Result<(), AllocError> {
+fn a_crew_of_workers_maps_a_window(rt: HostRuntime) -> Result<(), AllocError> {
     map_cases(&rt, rt.alloc(), &mut BagCrew::new(&rt, OpenGate, 3))
-}
-
-// Four workers have one seat then, which is not halved any more, and count what four seats count.
-#[test]
-fn a_seat_of_weight_1_comes_back_from_four_workers(rt: HostRuntime) -> Result<(), AllocError> {
-    let mut crew = BagCrew::new(&rt, OpenGate, 4);
-    map_case(&rt, rt.alloc(), &mut crew, &LEAST_SEAT)
 }

@@ -1,6 +1,4 @@
 //! What tests look at of what is done of jobs.
-ghost use Rattle.std.specs.Prelude.{◌≡◌, IfOk};
-
 use srm_cell::cell::Cell;
 use srm_cell::crossings::Crossings;
 use srm_cell::job::Done;
@@ -33,29 +31,22 @@ pub(crate) struct Window {
 }
 
 impl Window {
-    /// Nothing is done yet.
-    pub(crate) fn new(alloc: Global) -> Self {
-        Window {
+    /// What is done of these jobs.
+    ///
+    /// # Errors
+    /// [`AllocError`] alone.
+    pub(crate) fn of(alloc: Global, all: &[Done]) -> Result<Self, AllocError> {
+        let mut window = Window {
             rows: Vec::new(alloc),
             crossings: Vec::new(alloc),
             next_times: Vec::new(alloc),
+        };
+        for done in all {
+            window.add_lists(done.rows.as_slice())?;
+            window.add_crossings(done.place, &done.crossings)?;
+            window.add_next_times(done.cells.as_slice())?;
         }
-    }
-
-    /// Adds what is done of a job. Gives the job's cells.
-    pub(crate) fn add(&mut self, done: Done) -> Result<Vec<Cell>, AllocError>
-        ensures { IfOk result (λ cells. cells ≡ done.cells) }
-    {
-        let Done {
-            place,
-            rows,
-            crossings,
-            cells,
-        } = done;
-        self.add_lists(rows.as_slice())?;
-        self.add_crossings(place, &crossings)?;
-        self.add_next_times(cells.as_slice())?;
-        Ok(cells)
+        Ok(window)
     }
 
     fn add_lists(&mut self, lists: &[Sequence<Row>]) -> Result<(), AllocError> {

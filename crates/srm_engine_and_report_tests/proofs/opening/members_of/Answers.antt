@@ -1,6 +1,6 @@
 use Rattle.std.proofs.Common.{◌∙◌, map, ap}
 use Rattle.srm_engine.proofs.Openings.{opening-push}
-use Rattle.srm_engine_and_report_tests.proofs.streaming.members_of.Goals as goal
+use Rattle.srm_engine_and_report_tests.proofs.opening.members_of.Goals as goal
 
 pub loop-m-preserved : goal.loop-m-preserved
 loop-m-preserved g c =

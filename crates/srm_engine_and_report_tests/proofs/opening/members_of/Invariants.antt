@@ -1,6 +1,6 @@
 use Rattle.std.proofs.Common.{◌≡◌, map}
 use Rattle.srm_engine.specs.Outcomes.{records_from}
-use Rattle.srm_engine_and_report_tests.proofs.streaming.members_of.Given as goal
+use Rattle.srm_engine_and_report_tests.proofs.opening.members_of.Given as goal
 
 -- the members so far hold their opening records
 abbrev pub invariant-loop-m : goal.invariant-loop-m
