@@ -269,11 +269,14 @@ module _ {M : Type 0} (f : M → Record) where
       ∙ ap (λ l. length j.cells ∷ l) (sizes_after t js ds h.1)
 
   -- the groups keep their sizes
+  pub sizes_kept : (t : Traffic) (till : ℕ) (gs : List (Vec (Cell M))) (js : List cell.PlainJob) (ds : List (job.Done M))
+      → AreJobs f (jobs_with till 0 gs) js → AllZip (λ p d. cell.IsDone f t p d) js ds → sizes gs ≡ sizes (groups_of ds)
+  sizes_kept t till gs js ds before after = sizes_before till 0 gs js before ∙ sym (sizes_after t js ds after)
+
   pub cuts_kept : (t : Traffic) (cut till : ℕ) (gs : List (Vec (Cell M))) (js : List cell.PlainJob) (ds : List (job.Done M))
       → AreCuts cut (sizes gs) → AreJobs f (jobs_with till 0 gs) js → AllZip (λ p d. cell.IsDone f t p d) js ds
       → AreCuts cut (sizes (groups_of ds))
-  cuts_kept t cut till gs js ds cuts before after =
-      subst (AreCuts cut) (sizes_before till 0 gs js before ∙ sym (sizes_after t js ds after)) cuts
+  cuts_kept t cut till gs js ds cuts before after = subst (AreCuts cut) (sizes_kept t till gs js ds before after) cuts
 
   pub rows_joined : (ds : List (job.Done M)) → rows_of ds ≡ joined (lists_of ds)
   rows_joined [] = refl

@@ -21,3 +21,5 @@ pub mod WindowLemmas
 pub mod Merging
 mod KeptLemmas
 mod Leaving
+mod WatchedLemmas
+mod WatchWindows

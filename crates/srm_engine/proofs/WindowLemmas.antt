@@ -27,6 +27,7 @@ use Rattle.srm_cell.specs.Jobs as cell
 use Rattle.srm_cell.proofs.FitSettings.{settings_are_fit}
 use Rattle.srm_interfaces.specs.declared.fault.CrewFault.{CrewFault}
 use Rattle.srm_interfaces.specs.declared.fault.CrewFault.TheVariants as crew
+use Rattle.srm_interfaces.specs.Watches.{KeepEach, KeepMembers}
 use Rattle.srm_interfaces.specs.Crews.{AreJobs, AnyEnds, AreRowsOfSome, TellsMap, Maps, HasGrown, IsPast, rows_of, counted_in}
 use Rattle.srm_engine.specs.declared.window_engine.WindowEngine.{WindowEngine}
 use Rattle.srm_engine.specs.declared.window_fault.WindowFault.{WindowFault}
@@ -46,6 +47,7 @@ use Rattle.srm_model.specs.Schedules.{IsSafe, HasNoResult}
 use Rattle.srm_model.specs.WindowRuns.{OwnResult, own_cells, AreOwnRuns, rows_in, cells_in, IsMerge, AreNewInTurn, each_hears}
 use Rattle.srm_model.specs.WindowRuns.{IsWindow, after_window, jobs_of}
 use Rattle.srm_model.specs.WindowChains.{IsNext, start_of, IsEndRule, AreWindows}
+use Rattle.srm_engine.proofs.KeptLemmas.{kept_goes_on}
 use Rattle.srm_engine.specs.Groups.{AreGrouped, all_in, jobs_with, groups_of, lists_of, some_of}
 use Rattle.srm_engine.specs.declared.ends.Ends.{Ends}
 use Rattle.srm_engine.specs.Ends.{BeginsAt, MayEnd, TellsCutting, ends_rule}
@@ -306,6 +308,12 @@ module _ {M : Type 0} (f : M → Record) (e : WindowEngine M) (is : IsUnderWay f
           → n ≡ min e.session.scenario.now.until (start_of s after)
           → begin < n
       later begin n at early is_next = grind (arith, one_more)
+
+      -- what keeps each member's rows so far, and takes in those of its cell, keeps them after the window
+      pub kept_after : {K : Type 0} (keeps : K → List Row → Type 0) (old new : List K) → KeepMembers keeps 0 old w.trace
+          → KeepEach keeps old (lists_of ds) new → KeepMembers keeps 0 new (w.trace ++ rows)
+      kept_after keeps old new h each = kept_goes_on keeps s w till fit reached within safe ran.results ran.alone rows merge_is old new h
+          (subst (λ l. KeepEach keeps old l new) ran.rows each)
 
       pub counted_after : (seat : SeatView) → HasGrown (counted_in (crossings s.traffic (rows_of ds))) e.seat seat
           → IsCounted s.traffic e.ledger (w.trace ++ rows) seat

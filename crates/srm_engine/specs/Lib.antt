@@ -19,3 +19,6 @@ pub mod WindowStreams
 pub mod WindowEngines
 pub mod KeptMembers
 pub mod ByRows
+pub mod WatchedGroups
+pub mod WatchEngines
+pub mod WindowWatches

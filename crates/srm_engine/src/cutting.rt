@@ -46,6 +46,21 @@ impl Cutting {
 }
 
 /// What a run that may not be cut so answers: the refusal of the same name.
+impl From<CuttingFault> for RunFault {
+    ghost use Rattle.std.specs.Prelude.{◌≡◌};
+    ghost use Rattle.srm_engine.specs.Faults.{cutting_refused};
+
+    ghost from_gives = { λ fault told. told ≡ cutting_refused fault };
+
+    fn from(fault: CuttingFault) -> RunFault {
+        match fault {
+            CuttingFault::BadCut => RunFault::BadCut,
+            CuttingFault::BadWidth => RunFault::BadWidth,
+        }
+    }
+}
+
+/// The same of a run that hands its rows on.
 impl From<CuttingFault> for StreamFault {
     ghost use Rattle.std.specs.Prelude.{◌≡◌};
     ghost use Rattle.srm_engine.specs.Faults.{cutting_refused};

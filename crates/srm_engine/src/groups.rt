@@ -1,9 +1,11 @@
 //! The cells of all members, those of each job together.
-ghost use Rattle.std.specs.Prelude.{◌≡◌, ◌<◌, ◌≤◌, ◌++◌, [], ℕ, List, IfOk, length, map};
+ghost use Rattle.std.specs.Prelude.{◌≡◌, ◌<◌, ◌≤◌, ◌++◌, [], ℕ, List, All, IfOk, length, map};
 ghost use Rattle.srm_net.specs.Limits.{end_of_time};
 ghost use Rattle.srm_cell.specs.Cells.{PlainCell};
 ghost use Rattle.srm_cell.specs.Setting.{Setting};
-ghost use Rattle.srm_cell.specs.Crossings.{joined};
+ghost use Rattle.srm_member.specs.declared.row.Row.{Row as OneRow};
+ghost use Rattle.srm_cell.specs.Crossings.{joined, packets_of};
+ghost use Rattle.srm_cell.specs.Hearing.{IsSent, packets_in};
 ghost use Rattle.srm_model.specs.Windows.{way_of};
 ghost use Rattle.srm_engine.specs.Starts.{setting_on};
 ghost use Rattle.srm_engine.specs.Seen.{AreCellsInOrder};
@@ -18,7 +20,10 @@ use crate::soonest::{Soonest, soonest_in, soonest_of_each};
 use srm_cell::arrival::arrival;
 use srm_cell::cell::Cell;
 use srm_cell::job::{Done, Job};
+use srm_cell::sent::Sent;
 use srm_interfaces::crew::Crew;
+use srm_interfaces::watch::Watch;
+use srm_interfaces::watch_crew::WatchCrew;
 use srm_member::member::Member;
 use srm_member::participant::Participant;
 use srm_member::row::Row;
@@ -194,6 +199,34 @@ impl<M: Participant> Groups<M> {
         let Groups { cut, groups, .. } = self;
         let listed = sent_in(alloc, session, lists)?;
         let sent = in_order_of_sending(listed)?;
+        let groups = crew.hear(alloc, session.scenario, session.net, sent, groups)?;
+        let soon = soonest_of_each(alloc, session, groups.as_slice(), cut)?;
+        Ok(Groups { cut, groups, soon })
+    }
+
+    /// The groups after every member heard what was sent in some rows, in some order.
+    pub(crate) fn heard_from<K, W: Watch<K>, C: WatchCrew<M, K, W>>(
+        self,
+        alloc: Global,
+        session: Session,
+        crew: &mut C,
+        sent: Vec<Sent>,
+    ) -> Result<Groups<M>, AllocError>
+        requires ready { C.ready crew.old }
+        requires serves { C.serves crew.old session.scenario.now session.net.now }
+        requires sent { All (λ x. IsSent session.scenario.now session.net.now x) sent.items }
+        requires may { (seed : ℕ) × (rows : List OneRow) × (packets_of rows ≡ packets_in sent.items)
+            × MayHearInAnyOrder M.plain (setting_on session seed) rows self }
+        ensures ready { C.ready crew.new }
+        ensures serves { C.serves crew.new session.entry.scenario.now session.entry.net.now }
+        ensures handed { C.handed crew.old [] crew.new }
+        ensures cut { IfOk result (λ heard. heard.cut ≡ self.cut) }
+        ensures sizes { IfOk result (λ heard. sizes heard.groups.items ≡ sizes self.groups.items) }
+        ensures heard { IfOk result (λ heard. (seed : ℕ) (rows : List OneRow) → packets_of rows ≡ packets_in sent.items
+            → HearsInSomeOrder M.plain (setting_on session.entry seed) rows self heard) }
+    {
+        let Groups { cut, groups, .. } = self;
+        let sent = in_order_of_sending(sent)?;
         let groups = crew.hear(alloc, session.scenario, session.net, sent, groups)?;
         let soon = soonest_of_each(alloc, session, groups.as_slice(), cut)?;
         Ok(Groups { cut, groups, soon })

@@ -23,11 +23,14 @@ pub mod step_rows;
 pub mod step_run;
 pub mod step_stream;
 pub mod stream_fault;
+mod watch_engine;
+mod watched_groups;
 pub mod width;
 mod window_engine;
 pub mod window_fault;
 pub mod window_rows;
 pub mod window_run;
 pub mod window_stream;
+pub mod window_watch;
 
 pub use srm_interfaces::sink;

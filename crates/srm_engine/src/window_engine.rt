@@ -117,15 +117,15 @@ impl<'a, M: Participant> WindowEngine<'a, M> {
         }
     }
 
-    // When the next window begins: at the least of the next times of all cells, or with the end of the run.
-    fn begin(&self) -> u64
+    /// When the next window begins: at the least of the next times of all cells, or with the end of the run.
+    pub(crate) fn begin(&self) -> u64
         ensures { BeginsNext M.plain self.now result }
     {
         least(self.groups.soon.as_slice(), self.session.scenario.until())
     }
 
-    // When the window ends that begins at this tick.
-    fn end(&self, begin: u64) -> u64
+    /// When the window ends that begins at this tick.
+    pub(crate) fn end(&self, begin: u64) -> u64
         requires stands { IsUnderWay M.plain self.now }
         requires begin { BeginsNext M.plain self.now begin }
         requires early { begin < self.now.session.scenario.now.until }

@@ -1,20 +1,15 @@
-use Rattle.std.proofs.Common.{◌≡◌, ◌∙◌, List, [], ◌∷◌, length, map, All, refl, ap, sym, subst}
+use Rattle.std.proofs.Common.{◌≡◌, ◌∙◌, List, length, map, All, ap, sym, subst}
 use Rattle.std.specs.List.{range_with_len}
 use Rattle.std.proofs.lemmas.List.{length-map}
 use Rattle.srm_cell.specs.declared.job.Job.{Job}
 use Rattle.srm_cell.specs.Jobs.{MayAdvance, PlainJob}
 use Rattle.srm_cell.specs.Setting.{traffic_of}
-use Rattle.srm_interfaces.specs.declared.watched.WatchedJob.{WatchedJob}
 use Rattle.srm_interfaces.specs.Crews.{AreJobs}
 use Rattle.srm_interfaces.specs.Watches.{jobs_in, job_in}
 use Rattle.srm_engine.specs.ByRows.{LeftEach}
 use Rattle.srm_engine.proofs.Leaving.{left_of_jobs, may_leave, some_jobs}
+use Rattle.srm_engine.proofs.WatchedLemmas.{places_in}
 use Rattle.srm_engine.proofs.by_rows.ByRowsWatchCrew.map.Goals as goal
-
-places_in : {M K : Type 0} (js : List (WatchedJob M K))
-    → map (λ (j : Job M). j.place) (jobs_in js) ≡ map (λ (j : WatchedJob M K). j.place) js
-places_in [] = refl
-places_in (j ∷ js) = ap (λ l. j.place ∷ l) (places_in js)
 
 pub returns-in_default-clause-done : goal.returns-in_default-clause-done
 returns-in_default-clause-done g c = record { tells = λ ps h. tt }

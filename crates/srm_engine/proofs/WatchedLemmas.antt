@@ -1,0 +1,167 @@
+-- Watched jobs, and what is left of what is done of them.
+use Rattle.std.proofs.Common.{◌≡◌, ◌∙◌, ◌++◌, ℕ, suc, List, [], ◌∷◌, All, length, map, refl, sym, ap, append_assoc, append-nil}
+use Rattle.std.proofs.Common.{length-append, add-one}
+use Rattle.std.proofs.lemmas.List.{map-append}
+use Rattle.std.proofs.lemmas.List.Elements.{All-nil, All-cons, All-head, All-tail, All-append, filter_map-append}
+use Rattle.std.specs.Global.{Vec}
+use Rattle.srm_net.specs.Network.{Network}
+use Rattle.srm_scenario.specs.Plain.{PlainScenario}
+use Rattle.srm_member.specs.declared.row.Row.{Row}
+use Rattle.srm_cell.specs.declared.cell.Cell.{Cell}
+use Rattle.srm_cell.specs.declared.job.Job.{Job}
+use Rattle.srm_cell.specs.declared.job.Done as job
+use Rattle.srm_cell.specs.declared.sent.Sent.{Sent}
+use Rattle.srm_cell.specs.Crossings.{joined, packets_of}
+use Rattle.srm_cell.specs.Hearing.{IsSent, packets_in}
+use Rattle.srm_cell.proofs.RowPackets.{joined-append}
+use Rattle.srm_interfaces.specs.declared.watched.WatchedJob.{WatchedJob}
+use Rattle.srm_interfaces.specs.declared.watched.WatchedDone.{WatchedDone}
+use Rattle.srm_interfaces.specs.Watches.{HaveKept, KeepEach, WatchEach, job_in, jobs_in, KeepMembers}
+use Rattle.srm_engine.specs.Groups.{all_in, sizes, jobs_with, groups_of, lists_of}
+use Rattle.srm_engine.specs.WatchedGroups.{watched_with, groups_in, kept_of, sent_of}
+
+-- ---- jobs
+
+module _ {M K : Type 0} where
+  -- where nothing is left that is kept, there is no more job
+  pub no_more_jobs : (till place : ℕ) (gs : List (Vec (Cell M))) (ks : List (Vec K)) → ks ≡ [] → watched_with till place gs ks ≡ []
+  no_more_jobs till place [] ks e = refl
+  no_more_jobs till place (g ∷ gs) [] e = refl
+  no_more_jobs till place (g ∷ gs) (k ∷ ks) e = cc
+
+  -- one job more
+  pub watched_push : (till : ℕ) (js new : List (WatchedJob M K)) (n : ℕ) (g : Vec (Cell M)) (k : Vec K) (gs : List (Vec (Cell M)))
+      (ks : List (Vec K)) → n ≡ length js → new ≡ js ++ record { place = n; till = till; cells = g; kept = k } ∷ []
+      → new ++ watched_with till (length new) gs ks ≡ js ++ watched_with till (length js) (g ∷ gs) (k ∷ ks)
+  watched_push till js new n g k gs ks e h =
+      let j : WatchedJob M K = record { place = n; till = till; cells = g; kept = k } in
+      let more : List (WatchedJob M K) = watched_with till (suc (length js)) gs ks in
+      let many : length new ≡ suc (length js) = ap length h ∙ length-append js (j ∷ []) ∙ add-one (length js) in
+      ap (λ m. new ++ watched_with till m gs ks) many ∙ ap (λ l. l ++ more) h ∙ append_assoc js (j ∷ []) more
+      ∙ ap (λ m. js ++ record { place = m; till = till; cells = g; kept = k } ∷ more) e
+
+  -- the jobs without what is kept
+  pub their_jobs : (till place : ℕ) (gs : List (Vec (Cell M))) (ks : List (Vec K)) → sizes ks ≡ sizes gs
+      → jobs_in (watched_with till place gs ks) ≡ jobs_with till place gs
+  their_jobs till place [] ks e = refl
+  their_jobs till place (g ∷ gs) [] e = cc
+  their_jobs till place (g ∷ gs) (k ∷ ks) e =
+      let j : Job M = record { place = place; till = till; cells = g } in
+      let same : sizes ks ≡ sizes gs = cc in
+      ap (λ l. j ∷ l) (their_jobs till (suc place) gs ks same)
+
+  -- what is kept of the cells of each
+  pub kept_there : (till place : ℕ) (gs : List (Vec (Cell M))) (ks : List (Vec K)) → sizes ks ≡ sizes gs
+      → map (λ (j : WatchedJob M K). j.kept) (watched_with till place gs ks) ≡ ks
+  kept_there till place [] [] e = refl
+  kept_there till place [] (k ∷ ks) e = cc
+  kept_there till place (g ∷ gs) [] e = cc
+  kept_there till place (g ∷ gs) (k ∷ ks) e =
+      let same : sizes ks ≡ sizes gs = cc in
+      ap (λ l. k ∷ l) (kept_there till (suc place) gs ks same)
+
+  pub have_kept : (till place : ℕ) (gs : List (Vec (Cell M))) (ks : List (Vec K)) → sizes ks ≡ sizes gs
+      → All HaveKept (watched_with till place gs ks)
+  have_kept till place [] ks e = All-nil HaveKept
+  have_kept till place (g ∷ gs) [] e = All-nil HaveKept
+  have_kept till place (g ∷ gs) (k ∷ ks) e =
+      let j : WatchedJob M K = record { place = place; till = till; cells = g; kept = k } in
+      let long : length k.items ≡ length g.items = cc in
+      let same : sizes ks ≡ sizes gs = cc in
+      All-cons HaveKept j (watched_with till (suc place) gs ks) long (have_kept till (suc place) gs ks same)
+
+  pub places_in : (js : List (WatchedJob M K)) → map (λ (j : Job M). j.place) (jobs_in js) ≡ map (λ (j : WatchedJob M K). j.place) js
+  places_in [] = refl
+  places_in (j ∷ js) = ap (λ l. j.place ∷ l) (places_in js)
+
+-- ---- groups
+
+pub all_in_push : {A : Type 0} (gs : List (Vec A)) (g : Vec A) → all_in (gs ++ g ∷ []) ≡ all_in gs ++ g.items
+all_in_push [] g = append-nil g.items
+all_in_push (x ∷ gs) g = ap (λ l. x.items ++ l) (all_in_push gs g) ∙ sym (append_assoc x.items (all_in gs) g.items)
+
+-- ---- what is kept
+
+module _ {K : Type 0} (keeps : K → List Row → Type 0) where
+  pub none_kept : (m : ℕ) (ks : List K) → All (λ k. keeps k []) ks → KeepMembers keeps m ks []
+  none_kept m [] h = tt
+  none_kept m (k ∷ ks) h = (All-head (λ k. keeps k []) k ks h, none_kept (suc m) ks (All-tail (λ k. keeps k []) k ks h))
+
+  keep_append : (old more : List K) (ls ms : List (List Row)) (new later : List K) → KeepEach keeps old ls new
+      → KeepEach keeps more ms later → KeepEach keeps (old ++ more) (ls ++ ms) (new ++ later)
+  keep_append [] more [] ms [] later h g = g
+  keep_append [] more [] ms (b ∷ new) later h g = absurd h
+  keep_append [] more (l ∷ ls) ms new later h g = absurd h
+  keep_append (a ∷ old) more [] ms new later h g = absurd h
+  keep_append (a ∷ old) more (l ∷ ls) ms [] later h g = absurd h
+  keep_append (a ∷ old) more (l ∷ ls) ms (b ∷ new) later h g = (h.0, keep_append old more ls ms new later h.1 g)
+
+  keep_long : (old : List K) (ls : List (List Row)) (new : List K) → KeepEach keeps old ls new → length new ≡ length old
+  keep_long [] [] [] h = refl
+  keep_long [] [] (b ∷ new) h = absurd h
+  keep_long [] (l ∷ ls) new h = absurd h
+  keep_long (a ∷ old) [] new h = absurd h
+  keep_long (a ∷ old) (l ∷ ls) [] h = absurd h
+  keep_long (a ∷ old) (l ∷ ls) (b ∷ new) h = ap suc (keep_long old ls new h.1)
+
+-- ---- what is done
+
+module _ {M K : Type 0} (keeps : K → List Row → Type 0) (k : PlainScenario) (net : Network) where
+  pub groups_left : (js : List (WatchedJob M K)) (ds : List (job.Done M)) (es : List (WatchedDone M K))
+      → WatchEach keeps k net js ds es → groups_in es ≡ groups_of ds
+  groups_left [] [] [] h = refl
+  groups_left [] [] (e ∷ es) h = absurd h
+  groups_left [] (d ∷ ds) es h = absurd h
+  groups_left (j ∷ js) [] es h = absurd h
+  groups_left (j ∷ js) (d ∷ ds) [] h = absurd h
+  groups_left (j ∷ js) (d ∷ ds) (e ∷ es) h = ap (λ c. c ∷ groups_in es) h.0.cells
+      ∙ ap (λ l. d.cells ∷ l) (groups_left js ds es h.1)
+
+  -- of all cells this is kept, and the rows of each
+  pub all_kept : (js : List (WatchedJob M K)) (ds : List (job.Done M)) (es : List (WatchedDone M K))
+      → WatchEach keeps k net js ds es
+      → KeepEach keeps (all_in (map (λ (j : WatchedJob M K). j.kept) js)) (lists_of ds) (all_in (kept_of es))
+  all_kept [] [] [] h = tt
+  all_kept [] [] (e ∷ es) h = absurd h
+  all_kept [] (d ∷ ds) es h = absurd h
+  all_kept (j ∷ js) [] es h = absurd h
+  all_kept (j ∷ js) (d ∷ ds) [] h = absurd h
+  all_kept (j ∷ js) (d ∷ ds) (e ∷ es) h =
+      keep_append keeps j.kept.items (all_in (map (λ (j : WatchedJob M K). j.kept) js)) d.rows.items (lists_of ds) e.kept.items
+      (all_in (kept_of es)) h.0.kept (all_kept js ds es h.1)
+
+  pub as_many_left : (js : List (WatchedJob M K)) (ds : List (job.Done M)) (es : List (WatchedDone M K))
+      → WatchEach keeps k net js ds es → sizes (kept_of es) ≡ sizes (map (λ (j : WatchedJob M K). j.kept) js)
+  as_many_left [] [] [] h = refl
+  as_many_left [] [] (e ∷ es) h = absurd h
+  as_many_left [] (d ∷ ds) es h = absurd h
+  as_many_left (j ∷ js) [] es h = absurd h
+  as_many_left (j ∷ js) (d ∷ ds) [] h = absurd h
+  as_many_left (j ∷ js) (d ∷ ds) (e ∷ es) h =
+      ap (λ n. n ∷ sizes (kept_of es)) (keep_long keeps j.kept.items d.rows.items e.kept.items h.0.kept)
+      ∙ ap (λ l. length j.kept.items ∷ l) (as_many_left js ds es h.1)
+
+  pub all_sent : (js : List (WatchedJob M K)) (ds : List (job.Done M)) (es : List (WatchedDone M K))
+      → WatchEach keeps k net js ds es → All (λ x. IsSent k net x) (all_in (sent_of es))
+  all_sent [] [] [] h = All-nil (λ x. IsSent k net x)
+  all_sent [] [] (e ∷ es) h = absurd h
+  all_sent [] (d ∷ ds) es h = absurd h
+  all_sent (j ∷ js) [] es h = absurd h
+  all_sent (j ∷ js) (d ∷ ds) [] h = absurd h
+  all_sent (j ∷ js) (d ∷ ds) (e ∷ es) h =
+      All-append (λ x. IsSent k net x) e.sent.items (all_in (sent_of es)) h.0.sent (all_sent js ds es h.1)
+
+  -- what was sent are the packets of all rows
+  pub all_packets : (js : List (WatchedJob M K)) (ds : List (job.Done M)) (es : List (WatchedDone M K))
+      → WatchEach keeps k net js ds es → packets_of (joined (lists_of ds)) ≡ packets_in (all_in (sent_of es))
+  all_packets [] [] [] h = refl
+  all_packets [] [] (e ∷ es) h = absurd h
+  all_packets [] (d ∷ ds) es h = absurd h
+  all_packets (j ∷ js) [] es h = absurd h
+  all_packets (j ∷ js) (d ∷ ds) [] h = absurd h
+  all_packets (j ∷ js) (d ∷ ds) (e ∷ es) h =
+      ap packets_of (joined-append d.rows.items (lists_of ds))
+      ∙ filter_map-append (λ (r : Row). r.sent) (joined d.rows.items) (joined (lists_of ds))
+      ∙ ap (λ l. l ++ packets_of (joined (lists_of ds))) (sym h.0.packets)
+      ∙ ap (λ l. packets_in e.sent.items ++ l) (all_packets js ds es h.1)
+      ∙ sym (map-append (λ (x : Sent). x.packet) e.sent.items (all_in (sent_of es)))

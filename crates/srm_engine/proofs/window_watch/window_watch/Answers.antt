@@ -1,0 +1,61 @@
+use Rattle.std.proofs.Common.{◌≡◌, ◌∙◌, ℕ, length, refl, sym, ap, subst}
+use Rattle.srm_scenario.specs.declared.session.Session.{Session}
+use Rattle.srm_cell.specs.Setting.{Setting}
+use Rattle.srm_cell.specs.Crossings.{crossings}
+use Rattle.srm_model.specs.World.{World, IsLast, exits_of}
+use Rattle.srm_model.specs.WindowChains.{AreWindows, window_jobs}
+use Rattle.srm_engine.specs.declared.ends.Ends.{Ends}
+use Rattle.srm_engine.specs.Starts.{setting_on}
+use Rattle.srm_interfaces.specs.Watches.{KeepMembers}
+use Rattle.srm_engine.specs.Windowed.{MayCome, rule_of}
+use Rattle.srm_engine.proofs.WatchWindows.{all_long, refused_so}
+use Rattle.srm_engine.proofs.WindowLemmas.{as_asked, members_are}
+use Rattle.srm_engine.proofs.window_watch.window_watch.Goals as goal
+
+pub returns-in-Err-windows-clause-windows : goal.returns-in-Err-windows-clause-windows
+returns-in-Err-windows-clause-windows g c = λ seed h.
+    let s = setting_on c.args.start.session seed in
+    rw c.into-in-Err-windows.ensures
+    (refused_so s (rule_of s c.args.start.session.net.now c.args.asked.width) c.args.asked.cut c.args.crew.now c.windows.new.crew
+    c.in-Err-windows.fault
+    (as_asked (λ s rule cut. (w : World) × MayCome s rule cut w c.in-Err-windows.fault) c.in-Ok-open.engine.engine c.args.start.session
+    c.in-Ok.cutting c.args.asked seed c.in-Ok-open.ensures.frame c.in-Ok.ensures
+    (c.in-Err-windows.ensures.windows seed (c.in-Ok-open.ensures.opened seed h) c.in-Ok-open.ensures.none)))
+
+pub returns-clause-kept : goal.returns-clause-kept
+returns-clause-kept g c = λ seed h.
+    let f = g.M.Participant.plain in
+    let e = c.in-Ok-windows.ran in
+    let stands = c.in-Ok-windows.ensures.stands in
+    let same = c.in-Ok-windows.ensures.frame ∙ c.in-Ok-open.ensures.frame in
+    let t = c.in-Ok-windows.ensures.windows seed (c.in-Ok-open.ensures.opened seed h) c.in-Ok-open.ensures.none in (
+      ap length c.in-Ok-in_one.ensures ∙ all_long e.kept.items e.engine.groups.groups.items stands.each
+          ∙ t.2.kept.grouped.cells.as_many ∙ members_are f e.engine stands.under_way seed t.0 t.1 t.2
+          ∙ ap (λ (k : Session × ℕ × Ends). length k.0.scenario.now.members) same,
+      (
+        t.1.trace,
+        exits_of t.1,
+        record {
+          world = t.1;
+          last = subst (λ (k : Session × ℕ × Ends). IsLast (setting_on k.0 seed) t.1) c.in-Ok-open.ensures.frame t.3;
+          trace_is = refl;
+          exits_are = refl;
+          totals_are = c.into_totals.ensures seed t.0 t.1 t.2
+              ∙ ap (λ (k : Session × ℕ × Ends). crossings (setting_on k.0 seed).traffic t.1.trace) same;
+        },
+        subst (λ l. KeepMembers (g.W.Watch.keeps c.args.watch) 0 l t.1.trace) (sym c.in-Ok-in_one.ensures) t.4,
+      ),
+    )
+
+pub returns-clause-windows : goal.returns-clause-windows
+returns-clause-windows g c = λ seed h.
+    let t = c.in-Ok-windows.ensures.windows seed (c.in-Ok-open.ensures.opened seed h) c.in-Ok-open.ensures.none in (
+      t.0,
+      t.1,
+      as_asked (λ s rule cut. AreWindows s rule t.0 t.1) c.in-Ok-windows.ran.engine c.args.start.session c.in-Ok.cutting
+          c.args.asked seed (c.in-Ok-windows.ensures.frame ∙ c.in-Ok-open.ensures.frame) c.in-Ok.ensures t.2.windows,
+      as_asked (λ s rule cut. IsLast s t.1) c.in-Ok-open.engine.engine c.args.start.session c.in-Ok.cutting
+          c.args.asked seed c.in-Ok-open.ensures.frame c.in-Ok.ensures t.3,
+      as_asked (λ s rule cut. g.C.WatchCrew.handed c.args.crew.now (window_jobs rule cut t.0) c.windows.new.crew)
+          c.in-Ok-open.engine.engine c.args.start.session c.in-Ok.cutting c.args.asked seed c.in-Ok-open.ensures.frame c.in-Ok.ensures t.5,
+    )

@@ -1,0 +1,27 @@
+-- The jobs of a window whose rows are watched, and what comes of them.
+use Rattle.std.specs.Prelude.{ℕ, suc, List, [], ◌∷◌, map}
+use Rattle.std.specs.Global.{Vec}
+use Rattle.srm_cell.specs.declared.cell.Cell.{Cell}
+use Rattle.srm_cell.specs.declared.sent.Sent.{Sent}
+use Rattle.srm_interfaces.specs.declared.watched.WatchedJob.{WatchedJob}
+use Rattle.srm_interfaces.specs.declared.watched.WatchedDone.{WatchedDone}
+
+module _ {M K : Type 0} where
+  -- the jobs that have these groups, from a place on, with what is kept of the cells of each
+  abbrev pub watched_with : ℕ → ℕ → List (Vec (Cell M)) → List (Vec K) → List (WatchedJob M K)
+  watched_with till place [] ks = []
+  watched_with till place (g ∷ gs) [] = []
+  watched_with till place (g ∷ gs) (k ∷ ks) =
+      record { place = place; till = till; cells = g; kept = k } ∷ watched_with till (suc place) gs ks
+
+  -- the groups of what is done
+  abbrev pub groups_in : List (WatchedDone M K) → List (Vec (Cell M))
+  groups_in es = map (λ (e : WatchedDone M K). e.cells) es
+
+  -- what is kept of the cells of each
+  abbrev pub kept_of : List (WatchedDone M K) → List (Vec K)
+  kept_of es = map (λ (e : WatchedDone M K). e.kept) es
+
+  -- what was sent in each
+  abbrev pub sent_of : List (WatchedDone M K) → List (Vec Sent)
+  sent_of es = map (λ (e : WatchedDone M K). e.sent) es

@@ -1,0 +1,125 @@
+//! The engine in windows that keeps no rows, but what a watch keeps of them.
+ghost use Rattle.std.specs.Prelude.{◌≡◌, ◌<◌, [], ℕ, IfOk};
+ghost use Rattle.srm_engine.specs.Starts.{BeginsWith};
+ghost use Rattle.srm_engine.specs.Ends.{MayCut};
+ghost use Rattle.srm_engine.specs.WindowEngines.{frame_of, OpensAt, BeginsNext};
+ghost use Rattle.srm_engine.specs.WatchEngines.{IsWatching, KeepsRows, TellsWatched, TellsAllWatched};
+
+use crate::cutting::Cutting;
+use crate::groups::Groups;
+use crate::start::Start;
+use crate::watched_groups::{none_of_each, taken_apart, watched_jobs};
+use crate::window_engine::WindowEngine;
+use crate::window_fault::WindowFault;
+use srm_interfaces::watch::Watch;
+use srm_interfaces::watch_crew::WatchCrew;
+use srm_member::participant::Participant;
+use srm_scenario::session::Session;
+use std::alloc::{AllocError, Global};
+use std::marker::Copy;
+
+/// A run of a scenario in windows, and what is kept of each member's rows so far, beside the cells of its groups.
+#[derive(Drop)]
+pub(crate) struct WatchEngine<'a, M, K> {
+    pub(crate) engine: WindowEngine<'a, M>,
+    pub(crate) kept: Vec<Vec<K>>,
+}
+
+impl<'a, M: Participant, K: Drop> WatchEngine<'a, M, K> {
+    /// The cells of all members at the beginning, and what a watch keeps of no row.
+    pub(crate) fn open<W: Watch<K>>(
+        alloc: Global,
+        start: Start<'a, M>,
+        cutting: Cutting,
+        watch: &W,
+    ) -> Result<WatchEngine<'a, M, K>, AllocError>
+        requires cutting { MayCut start.session.net.now cutting }
+        ensures frame { IfOk result (λ e. frame_of e.engine ≡ (start.entry.session, cutting.cut, cutting.ends)) }
+        ensures stands { IfOk result (λ e. IsWatching M.plain e) }
+        ensures opened { IfOk result (λ e. (seed : ℕ) → BeginsWith start.entry seed → OpensAt M.plain seed e.engine) }
+        ensures none { IfOk result (λ e. KeepsRows (W.keeps watch.now) e []) }
+    {
+        let engine = WindowEngine::open(alloc, start, cutting)?;
+        let kept = none_of_each(alloc, watch, engine.groups.groups.as_slice())?;
+        Ok(WatchEngine { engine, kept })
+    }
+
+    // The window that begins at this tick: every cell runs alone to its end, and then hears all packets that were sent in it.
+    fn window<W: Watch<K> + Copy, C: WatchCrew<M, K, W>>(
+        self,
+        alloc: Global,
+        crew: &mut C,
+        watch: W,
+        begin: u64,
+    ) -> Result<WatchEngine<'a, M, K>, WindowFault>
+        requires ready { C.ready crew.old }
+        requires serves { C.serves crew.old self.engine.session.scenario.now self.engine.session.net.now }
+        requires stands { IsWatching M.plain self }
+        requires begin { BeginsNext M.plain self.engine begin }
+        requires early { begin < self.engine.session.scenario.now.until }
+        ensures ready { C.ready crew.new }
+        ensures serves { C.serves crew.new self.entry.engine.session.scenario.now self.entry.engine.session.net.now }
+        ensures frame { IfOk result (λ e. frame_of e.engine ≡ frame_of self.entry.engine) }
+        ensures stands { IfOk result (λ e. IsWatching M.plain e) }
+        ensures later { IfOk result (λ e. (next : ℕ) → BeginsNext M.plain e.engine next → begin < next) }
+        ensures window { TellsWatched C.handed M.plain (W.keeps watch) self.entry crew.old result crew.new }
+    {
+        let WatchEngine { engine, kept } = self;
+        let end = engine.end(begin);
+        let WindowEngine {
+            session,
+            ledger,
+            seat,
+            groups,
+            ends,
+        } = engine;
+        let Session { scenario, net } = session;
+        let Groups { cut, groups, soon } = groups;
+        let jobs = watched_jobs(alloc, groups, kept, end)?;
+        let (all, seat) = match crew.map(alloc, scenario, net, &ledger, seat, watch, jobs) {
+            Ok(done) => done,
+            Err(fault) => return Err(WindowFault::of(fault).unwrap()),
+        };
+        let (groups, kept, sent) = taken_apart(alloc, all)?;
+        let groups = Groups { cut, groups, soon }.look_again(session, end);
+        let groups = groups.heard_from(alloc, session, crew, sent)?;
+        let engine = WindowEngine {
+            session,
+            ledger,
+            seat,
+            groups,
+            ends,
+        };
+        Ok(WatchEngine { engine, kept })
+    }
+
+    /// Windows, one after the other, until nothing is pending before the end of the run.
+    pub(crate) fn windows<W: Watch<K> + Copy, C: WatchCrew<M, K, W>>(
+        self,
+        alloc: Global,
+        crew: &mut C,
+        watch: W,
+    ) -> Result<WatchEngine<'a, M, K>, WindowFault>
+        requires ready { C.ready crew.old }
+        requires serves { C.serves crew.old self.engine.session.scenario.now self.engine.session.net.now }
+        requires stands { IsWatching M.plain self }
+        ensures ready { C.ready crew.new }
+        ensures serves { C.serves crew.new self.entry.engine.session.scenario.now self.entry.engine.session.net.now }
+        ensures frame { IfOk result (λ e. frame_of e.engine ≡ frame_of self.entry.engine) }
+        ensures stands { IfOk result (λ e. IsWatching M.plain e) }
+        ensures windows { TellsAllWatched C.handed M.plain (W.keeps watch) self.entry crew.old result crew.new }
+    {
+        let until = self.engine.session.scenario.until();
+        let mut ran = self;
+        let mut begin = ran.engine.begin();
+        while begin < until {
+            let next = match ran.window(alloc, crew, watch, begin) {
+                Ok(next) => next,
+                Err(fault) => return Err(fault),
+            };
+            begin = next.engine.begin();
+            ran = next;
+        }
+        Ok(ran)
+    }
+}

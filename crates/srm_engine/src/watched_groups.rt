@@ -1,0 +1,105 @@
+//! The jobs of a window whose rows are watched, and what comes of them.
+ghost use Rattle.std.specs.Prelude.{◌≡◌, [], All, IfOk, length};
+ghost use Rattle.srm_engine.specs.Groups.{all_in, sizes};
+ghost use Rattle.srm_engine.specs.WatchedGroups.{watched_with, groups_in, kept_of, sent_of};
+
+use srm_cell::cell::Cell;
+use srm_cell::sent::Sent;
+use srm_interfaces::watch::Watch;
+use srm_interfaces::watched::{WatchedDone, WatchedJob};
+use srm_member::participant::Participant;
+use std::alloc::{AllocError, Global};
+
+/// What a watch keeps of no row, for each cell of the groups.
+pub(crate) fn none_of_each<M: Participant, K: Drop, W: Watch<K>>(
+    alloc: Global,
+    watch: &W,
+    groups: &[Vec<Cell<M>>],
+) -> Result<Vec<Vec<K>>, AllocError>
+    ensures each { IfOk result (λ kept. sizes kept.items ≡ sizes groups.now) }
+    ensures none { IfOk result (λ kept. All (λ k. W.keeps watch.now k []) (all_in kept.items)) }
+{
+    let mut kept = Vec::with_capacity(alloc, groups.len())?;
+    for group in groups {
+        let own = none_of(alloc, watch, group.len())?;
+        kept.push(own)?;
+    }
+    Ok(kept)
+}
+
+// What a watch keeps of no row, so many times.
+fn none_of<K: Drop, W: Watch<K>>(
+    alloc: Global,
+    watch: &W,
+    many: usize,
+) -> Result<Vec<K>, AllocError>
+    ensures many { IfOk result (λ own. length own.items ≡ many) }
+    ensures none { IfOk result (λ own. All (λ k. W.keeps watch.now k []) own.items) }
+{
+    let mut own = Vec::with_capacity(alloc, many)?;
+    for _ in 0..many {
+        own.push(watch.none())?;
+    }
+    Ok(own)
+}
+
+/// The jobs of a window, one for each group, with what is kept of its cells.
+pub(crate) fn watched_jobs<M: Participant, K: Drop>(
+    alloc: Global,
+    groups: Vec<Vec<Cell<M>>>,
+    kept: Vec<Vec<K>>,
+    till: u64,
+) -> Result<Vec<WatchedJob<M, K>>, AllocError>
+    ensures { IfOk result (λ jobs. jobs.items ≡ watched_with till 0 groups.items kept.items) }
+{
+    let mut jobs = Vec::with_capacity(alloc, groups.len())?;
+    for (cells, own) in groups.into_iter().zip(kept) {
+        let place = jobs.len();
+        jobs.push(WatchedJob {
+            place,
+            till,
+            cells,
+            kept: own,
+        })?;
+    }
+    Ok(jobs)
+}
+
+/// What is done of each job, taken apart: the groups, what is kept of their cells, and all that was sent.
+pub(crate) fn taken_apart<M: Participant, K: Drop>(
+    alloc: Global,
+    all: Vec<WatchedDone<M, K>>,
+) -> Result<(Vec<Vec<Cell<M>>>, Vec<Vec<K>>, Vec<Sent>), AllocError>
+    ensures groups { IfOk result (λ r. r.0.items ≡ groups_in all.items) }
+    ensures kept { IfOk result (λ r. r.1.items ≡ kept_of all.items) }
+    ensures sent { IfOk result (λ r. r.2.items ≡ all_in (sent_of all.items)) }
+{
+    let mut groups = Vec::with_capacity(alloc, all.len())?;
+    let mut each = Vec::with_capacity(alloc, all.len())?;
+    let mut sent = Vec::new(alloc);
+    for done in all {
+        let WatchedDone {
+            cells,
+            kept,
+            sent: own,
+            ..
+        } = done;
+        groups.push(cells)?;
+        each.push(kept)?;
+        let mut own = own;
+        sent.append(&mut own)?;
+    }
+    Ok((groups, each, sent))
+}
+
+/// All that is kept, in one vector.
+pub(crate) fn in_one<K: Drop>(alloc: Global, each: Vec<Vec<K>>) -> Result<Vec<K>, AllocError>
+    ensures { IfOk result (λ all. all.items ≡ all_in each.items) }
+{
+    let mut all = Vec::new(alloc);
+    for own in each {
+        let mut own = own;
+        all.append(&mut own)?;
+    }
+    Ok(all)
+}
