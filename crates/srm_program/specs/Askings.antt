@@ -1,5 +1,5 @@
 -- What is asked of a run, and what comes of it.
-use Rattle.std.specs.Prelude.{◌≡◌, ℕ, List, Result}
+use Rattle.std.specs.Prelude.{◌≡◌, ◌<◌, ◌-◌, ◌^◌, ℕ, List, Result}
 use Rattle.srm_net.specs.Network.{Network}
 use Rattle.srm_scenario.specs.Plain.{PlainScenario}
 use Rattle.srm_scenario.specs.declared.session.Session.{Session}
@@ -26,6 +26,12 @@ ForEachSeed task rs holds =
 pub record MayLead {C M : Type 0} (c : crew.Ghosts C M) (by : C) (of : Session) : Type 0 where
   pub ready : c.ready by
   pub serves : c.serves by of.scenario.now of.net.now
+
+-- the report of a session may be written: a crew may lead its runs, and one more failure of the outlet can be counted
+pub record MayReport {C M O : Type 0} (c : crew.Ghosts C M) (o : outlet.Ghosts O) (by : C) (of : Session) (to : O)
+    : Type 0 where
+  pub lead : MayLead c by of
+  pub count : o.failures to < 2 ^ 64 - 1
 
 -- what comes of a task, of members with these records, whose rows are handed to a sink: how it stands, and what it took
 pub record HandsOn {S : Type 0} (s : sink.Ghosts S) (task : Task) (rs : List Record) (old : S)
