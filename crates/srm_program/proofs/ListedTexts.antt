@@ -5,7 +5,7 @@ use Rattle.std.specs.Io.KnownBytes.{Appends, Keeps}
 use Rattle.srm_net.specs.Network.{Network}
 use Rattle.srm_scenario.specs.Plain.{PlainScenario}
 use Rattle.srm_member.specs.declared.row.Row.{Row}
-use Rattle.srm_cell.specs.Setting.{setting_of}
+use Rattle.srm_cell.specs.Setting.{Setting, setting_of}
 use Rattle.srm_interfaces.specs.declared.sink.SinkFault.TheVariants as sink
 use Rattle.srm_interfaces.specs.declared.sink.Stage.TheVariants as stage
 use Rattle.srm_model.specs.World.{World, IsReached, IsLast}
@@ -22,7 +22,7 @@ use Rattle.srm_report.specs.ListingSinks.{AreOverOne, PutsAll, PutsFront, PutsRo
 use Rattle.srm_report.specs.SinkLaws.{all_more, front_more}
 use Rattle.srm_program.specs.declared.fault.LabFault.{LabFault}
 use Rattle.srm_program.specs.declared.fault.LabFault.TheVariants.{BadCut, BadWidth, ShareFull, NoMemory, CountFull, WriteFault}
-use Rattle.srm_program.specs.Reports.{most_gathered, TakesAllBut, TakesFront, TellsListing, TellsReport}
+use Rattle.srm_program.specs.Reports.{most_gathered, ByShow, TakesAllBut, TakesFront, TellsListing, TellsTable}
 use Rattle.srm_program.specs.Runs.{MayBreakOff, StandsAfter, HandsRows, TellsRefusedFor, TellsRunFor}
 use Rattle.srm_options.specs.declared.options.Options.{Options}
 use Rattle.srm_options.specs.declared.options.Show.TheVariants.{Trace, Timers}
@@ -52,19 +52,25 @@ told standing.Stopped n m e = cc
 -- the trace, and the table of timers, are such texts
 pub trace_shown : {T : Type 0} (p : PlainScenario) (net : Network) (seed : ℕ) (o : Options) (old new : Option (List ℕ))
     (r : Result T LabFault) → o.show ≡ Trace
-    → TellsListing (text_in trace_form) most_gathered (MayBreakOff p net seed o) p net seed old new r → TellsRefusedFor p net seed o r
+    → TellsListing (text_in trace_form) (MayBreakOff p net seed o) (setting_of p net seed) old new r → TellsRefusedFor p net seed o r
     → TellsRunFor p net seed o old new r
 unfolding trace_of_rows
-trace_shown p net seed o old new r e h k =
-    (subst (λ s. TellsReport (MayBreakOff p net seed o) p net seed s old new r) (sym e) h, k)
+trace_shown p net seed o old new r e h k = (
+  subst (λ s. ByShow s (λ text. TellsListing text (MayBreakOff p net seed o) (setting_of p net seed) old new r)
+      (TellsTable p net seed o.show old new r)) (sym e) h,
+  k,
+)
 
 pub timers_shown : {T : Type 0} (p : PlainScenario) (net : Network) (seed : ℕ) (o : Options) (old new : Option (List ℕ))
     (r : Result T LabFault) → o.show ≡ Timers
-    → TellsListing (text_in timers_form) most_gathered (MayBreakOff p net seed o) p net seed old new r → TellsRefusedFor p net seed o r
+    → TellsListing (text_in timers_form) (MayBreakOff p net seed o) (setting_of p net seed) old new r → TellsRefusedFor p net seed o r
     → TellsRunFor p net seed o old new r
 unfolding timers_table
-timers_shown p net seed o old new r e h k =
-    (subst (λ s. TellsReport (MayBreakOff p net seed o) p net seed s old new r) (sym e) h, k)
+timers_shown p net seed o old new r e h k = (
+  subst (λ s. ByShow s (λ text. TellsListing text (MayBreakOff p net seed o) (setting_of p net seed) old new r)
+      (TellsTable p net seed o.show old new r)) (sym e) h,
+  k,
+)
 
 -- ---- what the outlet took, of a sink that was fresh and had nothing gathered
 
@@ -90,11 +96,11 @@ module _ {L O : Type 0} (taken : O → Option (List ℕ)) (form : Form) (a : Lis
       ∙ ap (λ (l : List ℕ). l ++ (put.0 ++ [])) none ∙ append-nil put.0 ∙ all_text b rows at put in
       subst (λ (l : List ℕ). Appends (taken (outlet_under a)) (taken (outlet_under c)) l) out all.2.bytes
 
-  module _ (breaks : LabFault → World → Type 0) (p : PlainScenario) (net : Network) (seed : ℕ) (none_written : written_by a ≡ 0) (old : O)
-      (is : outlet_under a ≡ old) where
+  module _ (breaks : LabFault → World → Type 0) (s : Setting) (none_written : written_by a ≡ 0)
+      (room : gathering_room a ≡ most_gathered) (old : O) (is : outlet_under a ≡ old) where
     -- a front of it
-    front_of : (c : ListingSink L O) (w : World) (text : List ℕ) → IsReached (setting_of p net seed) w → text ≡ text_in form w.trace
-        → (f : PutsFront taken a text c) → TakesFront (text_in form) p net seed (taken (outlet_under a)) (taken (outlet_under c)) f.0
+    front_of : (c : ListingSink L O) (w : World) (text : List ℕ) → IsReached s w → text ≡ text_in form w.trace
+        → (f : PutsFront taken a text c) → TakesFront (text_in form) s (taken (outlet_under a)) (taken (outlet_under c)) f.0
     front_of c w text reached same f =
         (w, reached, (f.1, sym same ∙ ap (λ (l : List ℕ). l ++ text) (sym none) ∙ f.2), f.3.bytes)
 
@@ -105,44 +111,44 @@ module _ {L O : Type 0} (taken : O → Option (List ℕ)) (form : Form) (a : Lis
         ap (λ k. min k (2 ^ 64 - 1)) (sym (told c.standing c.written n at)) ∙ wrote.counted
         ∙ ap (λ k. min (k + length out) (2 ^ 64 - 1)) none_written
 
-    fronted : (c : ListingSink L O) → streams.TakesTraceFront (PutsRows taken form) (PutsPart taken form) (setting_of p net seed) a c
-        → (out : List ℕ) × TakesFront (text_in form) p net seed (taken (outlet_under a)) (taken (outlet_under c)) out × Wrote taken a out c
+    fronted : (c : ListingSink L O) → streams.TakesTraceFront (PutsRows taken form) (PutsPart taken form) s a c
+        → (out : List ℕ) × TakesFront (text_in form) s (taken (outlet_under a)) (taken (outlet_under c)) out × Wrote taken a out c
     fronted c h =
         let f : PutsFront taken a (text_in form h.0.trace) c = subst (λ (l : List ℕ). PutsFront taken a l c) (first_text h.0.trace) h.2 in
         (f.0, front_of c h.0 (text_in form h.0.trace) h.1 refl f, f.3)
 
     -- all but what is gathered
     broken_off : (c : ListingSink L O) (holds : World → Type 0) → AreOverOne a c → stage_of c ≡ stage.Live
-        → streams.TakesUpTo (PutsRows taken form) (PutsPart taken form) (setting_of p net seed) holds a c
-        → TakesAllBut (text_in form) (gathering_room a) holds p net seed (taken (outlet_under a)) (taken (outlet_under c))
+        → streams.TakesUpTo (PutsRows taken form) (PutsPart taken form) s holds a c
+        → TakesAllBut (text_in form) holds s (taken (outlet_under a)) (taken (outlet_under c))
     broken_off c holds one at h =
         let put = h.2 in
         let whole : text_in form h.0.trace ≡ put.2.0 ++ gathered_by c =
         sym (all_text c h.0.trace at put) ∙ sym (ap (λ (l : List ℕ). l ++ put.0) none) ∙ put.2.1 in
-        (h.0, h.1, h.3, (put.2.0, gathered_by c, whole, subst (λ n. length (gathered_by c) ≤ n) one.1 c.within, put.2.2.bytes))
+        (h.0, h.1, h.3, (put.2.0, gathered_by c, whole, subst (λ n. length (gathered_by c) ≤ n) (one.1 ∙ room) c.within, put.2.2.bytes))
 
     -- of the outlet itself, before and after
     pub seen : {T : Type 0} (c : ListingSink L O) (end : O) (r : Result T LabFault) → outlet_under c ≡ end
-        → TellsListing (text_in form) (gathering_room a) breaks p net seed (taken (outlet_under a)) (taken (outlet_under c)) r
-        → TellsListing (text_in form) (gathering_room a) breaks p net seed (taken old) (taken end) r
+        → TellsListing (text_in form) breaks s (taken (outlet_under a)) (taken (outlet_under c)) r
+        → TellsListing (text_in form) breaks s (taken old) (taken end) r
     seen c end r same h =
-        subst (λ (x : O). TellsListing (text_in form) (gathering_room a) breaks p net seed (taken x) (taken end) r) is
-        (subst (λ (x : O). TellsListing (text_in form) (gathering_room a) breaks p net seed (taken (outlet_under a)) (taken x) r) same h)
+        subst (λ (x : O). TellsListing (text_in form) breaks s (taken x) (taken end) r) is
+        (subst (λ (x : O). TellsListing (text_in form) breaks s (taken (outlet_under a)) (taken x) r) same h)
 
     -- after a refusal of the run
     pub refused_rows : (T U : Type 0) (c : ListingSink L O) (end : O) (f : LabFault) → outlet_under c ≡ end
-        → AreOverOne a c → HandsRows (PutsRows taken form) (PutsPart taken form) breaks (setting_of p net seed) a (Err f) c
+        → AreOverOne a c → HandsRows (PutsRows taken form) (PutsPart taken form) breaks s a (Err f) c
         → StandsAfter {T = T} (Err f) (stage_of c)
-        → TellsListing {T = U} (text_in form) (gathering_room a) breaks p net seed (taken old) (taken end) (Err f)
+        → TellsListing {T = U} (text_in form) breaks s (taken old) (taken end) (Err f)
     refused_rows T U c end f same one h at = seen {T = U} c end (Err f) same (by f h at)
       where
-        by : (f : LabFault) → HandsRows (PutsRows taken form) (PutsPart taken form) breaks (setting_of p net seed) a (Err f) c
+        by : (f : LabFault) → HandsRows (PutsRows taken form) (PutsPart taken form) breaks s a (Err f) c
             → StandsAfter {T = T} (Err f) (stage_of c)
-            → TellsListing {T = U} (text_in form) (gathering_room a) breaks p net seed (taken (outlet_under a)) (taken (outlet_under c))
+            → TellsListing {T = U} (text_in form) breaks s (taken (outlet_under a)) (taken (outlet_under c))
             (Err f)
-        by BadCut h at = subst (λ (s : ListingSink L O). Keeps (taken (outlet_under a)) (taken (outlet_under s))) (sym h)
+        by BadCut h at = subst (λ (x : ListingSink L O). Keeps (taken (outlet_under a)) (taken (outlet_under x))) (sym h)
             (keeps-itself (taken (outlet_under a)))
-        by BadWidth h at = subst (λ (s : ListingSink L O). Keeps (taken (outlet_under a)) (taken (outlet_under s))) (sym h)
+        by BadWidth h at = subst (λ (x : ListingSink L O). Keeps (taken (outlet_under a)) (taken (outlet_under x))) (sym h)
             (keeps-itself (taken (outlet_under a)))
         by ShareFull h at = broken_off c (breaks ShareFull) one at h
         by NoMemory h at = let f = fronted c h in (f.0, f.1)
@@ -151,10 +157,10 @@ module _ {L O : Type 0} (taken : O → Option (List ℕ)) (form : Form) (a : Lis
 
     -- where the last bytes were not taken
     pub unflushed_rows : (U : Type 0) (b c : ListingSink L O) (end : O) (w : World) (rows : List Row) (n : ℕ) → outlet_under c ≡ end
-        → IsReached (setting_of p net seed) w → rows ≡ w.trace → stage_of b ≡ stage.Live → PutsRows taken form a rows b
+        → IsReached s w → rows ≡ w.trace → stage_of b ≡ stage.Live → PutsRows taken form a rows b
         → PutsFront taken b [] c
         → stage_of c ≡ stage.Refused (sink.Stopped n)
-        → TellsListing {T = U} (text_in form) (gathering_room a) breaks p net seed (taken old) (taken end) (Err (WriteFault n))
+        → TellsListing {T = U} (text_in form) breaks s (taken old) (taken end) (Err (WriteFault n))
     unflushed_rows U b c end w rows n same reached all at put rest stopped =
         let f = front_more taken a b c put.0 [] put.2 rest in
         let whole : put.0 ++ [] ≡ text_in form w.trace = append-nil put.0 ∙ all_text b rows at put ∙ ap (text_in form) all in
@@ -163,8 +169,8 @@ module _ {L O : Type 0} (taken : O → Option (List ℕ)) (form : Form) (a : Lis
 
     -- after the whole run
     pub flushed_rows : (U : Type 0) (v : U) (b c : ListingSink L O) (end : O) (w : World) (rows : List Row) → outlet_under c ≡ end
-        → IsLast (setting_of p net seed) w → rows ≡ w.trace → stage_of b ≡ stage.Live → PutsRows taken form a rows b → gathered_by c ≡ []
-        → PutsAll taken b [] c → TellsListing {T = U} (text_in form) (gathering_room a) breaks p net seed (taken old) (taken end) (Ok v)
+        → IsLast s w → rows ≡ w.trace → stage_of b ≡ stage.Live → PutsRows taken form a rows b → gathered_by c ≡ []
+        → PutsAll taken b [] c → TellsListing {T = U} (text_in form) breaks s (taken old) (taken end) (Ok v)
     flushed_rows U v b c end w rows same last all at put empty rest =
         let r : Result U LabFault = Ok v in
         seen c end r same (

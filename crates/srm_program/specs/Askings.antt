@@ -1,9 +1,10 @@
 -- What is asked of a run, and what comes of it.
-use Rattle.std.specs.Prelude.{◌≡◌, ℕ, List, Result}
+use Rattle.std.specs.Prelude.{◌≡◌, ◌<◌, ◌-◌, ◌^◌, ℕ, List, Result}
 use Rattle.srm_net.specs.Network.{Network}
 use Rattle.srm_scenario.specs.Plain.{PlainScenario}
 use Rattle.srm_scenario.specs.declared.session.Session.{Session}
 use Rattle.srm_member.specs.Record.{Record}
+use Rattle.srm_cell.specs.Setting.{setting_of}
 use Rattle.srm_interfaces.specs.declared.crew.Crew as crew
 use Rattle.srm_interfaces.specs.declared.sink.RowSink as sink
 use Rattle.srm_report.specs.declared.outlet.Outlet as outlet
@@ -12,7 +13,7 @@ use Rattle.srm_report.specs.Listings.{Form, text_in}
 use Rattle.srm_engine.specs.Openings.{HoldOpeningRecords}
 use Rattle.srm_program.specs.declared.task.Task.{Task}
 use Rattle.srm_program.specs.declared.fault.LabFault.{LabFault}
-use Rattle.srm_program.specs.Reports.{failures_after_run, most_gathered, TellsListing, TellsTable}
+use Rattle.srm_program.specs.Reports.{failures_after_run, TellsListing, TellsTable}
 use Rattle.srm_program.specs.Runs.{MayBreakOff, StandsAfter, TellsRefusedFor, TellsRows, TellsRunFor}
 
 -- this holds of a task's scenario on its network, for each seed whose opening records these are
@@ -25,6 +26,12 @@ ForEachSeed task rs holds =
 pub record MayLead {C M : Type 0} (c : crew.Ghosts C M) (by : C) (of : Session) : Type 0 where
   pub ready : c.ready by
   pub serves : c.serves by of.scenario.now of.net.now
+
+-- the report of a session may be written: a crew may lead its runs, and one more failure of the outlet can be counted
+pub record MayReport {C M O : Type 0} (c : crew.Ghosts C M) (o : outlet.Ghosts O) (by : C) (of : Session) (to : O)
+    : Type 0 where
+  pub lead : MayLead c by of
+  pub count : o.failures to < 2 ^ 64 - 1
 
 -- what comes of a task, of members with these records, whose rows are handed to a sink: how it stands, and what it took
 pub record HandsOn {S : Type 0} (s : sink.Ghosts S) (task : Task) (rs : List Record) (old : S)
@@ -46,8 +53,8 @@ module _ {O T : Type 0} (o : outlet.Ghosts O) where
   pub record IsListed (form : Form) (task : Task) (rs : List Record) (old : O) (r : Result T LabFault) (new : O)
       : Type 0 where
     pub failures : o.failures new ≡ failures_after_run r (o.failures old)
-    pub table : ForEachSeed task rs (λ p net seed. TellsListing (text_in form) most_gathered
-        (MayBreakOff p net seed task.options) p net seed (o.taken old) (o.taken new) r)
+    pub table : ForEachSeed task rs (λ p net seed. TellsListing (text_in form)
+        (MayBreakOff p net seed task.options) (setting_of p net seed) (o.taken old) (o.taken new) r)
     pub refused : ForEachSeed task rs (λ p net seed. TellsRefusedFor p net seed task.options r)
 
   -- what comes of a report: how often its outlet failed, and what it took

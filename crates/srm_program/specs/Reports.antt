@@ -5,7 +5,7 @@ use Rattle.srm_net.specs.Network.{Network}
 use Rattle.srm_scenario.specs.Plain.{PlainScenario}
 use Rattle.srm_member.specs.declared.row.Row.{Row}
 use Rattle.srm_cell.specs.Crossings.{crossings}
-use Rattle.srm_cell.specs.Setting.{setting_of, traffic_of}
+use Rattle.srm_cell.specs.Setting.{Setting, setting_of, traffic_of}
 use Rattle.srm_model.specs.World.{World, IsReached, IsLast, RunMeetsFull}
 use Rattle.srm_report.specs.Links.{links_table}
 use Rattle.srm_report.specs.Losses.{losses_table}
@@ -70,51 +70,38 @@ TellsTable p net seed show old new (Err f) = Keeps old new
 abbrev pub most_gathered : ℕ
 most_gathered = 8192
 
--- an outlet took these bytes, a front of the table of a scenario's sequential run which lists its rows in this text: of
--- its rows up to some event
+-- an outlet took these bytes, a front of the table of the sequential run which lists its rows in this text: of its rows
+-- up to some event
 abbrev pub TakesFront :
-    (List Row → List ℕ) → PlainScenario → Network → ℕ → Option (List ℕ) → Option (List ℕ) → List ℕ → Type 0
-TakesFront text p net seed old new out =
-    (w : World) × IsReached (setting_of p net seed) w
-    × ((rest : List ℕ) × (text w.trace ≡ out ++ rest)) × Appends old new out
+    (List Row → List ℕ) → Setting → Option (List ℕ) → Option (List ℕ) → List ℕ → Type 0
+TakesFront text s old new out =
+    (w : World) × IsReached s w × ((rest : List ℕ) × (text w.trace ≡ out ++ rest)) × Appends old new out
 
--- an outlet took such a table of the rows up to a world of which this holds, but for its last bytes, no more than this
--- number
-abbrev pub TakesAllBut : (List Row → List ℕ) → ℕ → (World → Type 0) → PlainScenario → Network → ℕ
-    → Option (List ℕ) → Option (List ℕ) → Type 0
-TakesAllBut text most holds p net seed old new =
-    (w : World) × IsReached (setting_of p net seed) w × holds w
-    × ((out rest : List ℕ) × (text w.trace ≡ out ++ rest) × (length rest ≤ most) × Appends old new out)
+-- an outlet took such a table of the rows up to a world of which this holds, but for its last bytes, no more than are
+-- gathered
+abbrev pub TakesAllBut :
+    (List Row → List ℕ) → (World → Type 0) → Setting → Option (List ℕ) → Option (List ℕ) → Type 0
+TakesAllBut text holds s old new =
+    (w : World) × IsReached s w × holds w
+    × ((out rest : List ℕ) × (text w.trace ≡ out ++ rest) × (length rest ≤ most_gathered) × Appends old new out)
 
--- what an outlet took of a table of a scenario's sequential run which lists its rows in this text: all of it, or a
--- front of it, of as many bytes as a fault of the outlet tells, up to 2^64 - 1; and nothing where the cut or the width
--- was refused. Where the run broke off for what is counted, it took all up to a world in which that may be, but for the
--- last bytes; and CountFull says that the run meets a step for which the packet count is used up
-abbrev pub TellsListing : {T : Type 0} → (List Row → List ℕ) → ℕ → (LabFault → World → Type 0)
-    → PlainScenario → Network → ℕ → Option (List ℕ) → Option (List ℕ) → Result T LabFault → Type 0
-TellsListing text most breaks p net seed old new (Ok v) =
-    (w : World) × EndsIn p net seed w × Appends old new (text w.trace)
-TellsListing text most breaks p net seed old new (Err (WriteFault written)) =
-    (out : List ℕ) × TakesFront text p net seed old new out × GrewBy 0 (length out) written
-TellsListing text most breaks p net seed old new (Err CountFull) =
-    RunMeetsFull (setting_of p net seed) × TakesAllBut text most (breaks CountFull) p net seed old new
-TellsListing text most breaks p net seed old new (Err ShareFull) =
-    TakesAllBut text most (breaks ShareFull) p net seed old new
-TellsListing text most breaks p net seed old new (Err NoMemory) =
-    (out : List ℕ) × TakesFront text p net seed old new out
-TellsListing text most breaks p net seed old new (Err BadCut) = Keeps old new
-TellsListing text most breaks p net seed old new (Err BadWidth) = Keeps old new
-
--- what an outlet took of the report of a scenario's sequential run: of the trace and the table of timers after a
--- refusal a front, up to a world of which this holds where the run broke off for what is counted; and of another table
--- nothing but where the outlet failed
-abbrev pub TellsReport : {T : Type 0} → (LabFault → World → Type 0) → PlainScenario → Network → ℕ → Show
+-- what an outlet took of a table of the sequential run which lists its rows in this text: all of it, or a front of it,
+-- of as many bytes as a fault of the outlet tells, up to 2^64 - 1; and nothing where the cut or the width was refused.
+-- Where the run broke off for what is counted, it took all up to a world in which that may be, but for the last bytes;
+-- and CountFull says that the run meets a step for which the packet count is used up
+abbrev pub TellsListing : {T : Type 0} → (List Row → List ℕ) → (LabFault → World → Type 0) → Setting
     → Option (List ℕ) → Option (List ℕ) → Result T LabFault → Type 0
-TellsReport breaks p net seed Trace old new r =
-    TellsListing trace_of_rows most_gathered breaks p net seed old new r
-TellsReport breaks p net seed Members old new r = TellsTable p net seed Members old new r
-TellsReport breaks p net seed Losses old new r = TellsTable p net seed Losses old new r
-TellsReport breaks p net seed Operations old new r = TellsTable p net seed Operations old new r
-TellsReport breaks p net seed Links old new r = TellsTable p net seed Links old new r
-TellsReport breaks p net seed Timers old new r =
-    TellsListing timers_table most_gathered breaks p net seed old new r
+TellsListing text breaks s old new (Ok v) = (w : World) × IsLast s w × Appends old new (text w.trace)
+TellsListing text breaks s old new (Err (WriteFault written)) =
+    (out : List ℕ) × TakesFront text s old new out × GrewBy 0 (length out) written
+TellsListing text breaks s old new (Err CountFull) = RunMeetsFull s × TakesAllBut text (breaks CountFull) s old new
+TellsListing text breaks s old new (Err ShareFull) = TakesAllBut text (breaks ShareFull) s old new
+TellsListing text breaks s old new (Err NoMemory) = (out : List ℕ) × TakesFront text s old new out
+TellsListing text breaks s old new (Err BadCut) = Keeps old new
+TellsListing text breaks s old new (Err BadWidth) = Keeps old new
+
+-- this holds of the text of a table that lists rows, and that of every other table
+abbrev pub ByShow : Show → ((List Row → List ℕ) → Type 0) → Type 0 → Type 0
+ByShow Trace listed written = listed trace_of_rows
+ByShow Timers listed written = listed timers_table
+ByShow show listed written = written

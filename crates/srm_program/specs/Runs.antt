@@ -27,7 +27,7 @@ use Rattle.srm_program.specs.declared.fault.LabFault.TheVariants.{WriteFault}
 use Rattle.srm_options.specs.declared.options.Engine.{Engine}
 use Rattle.srm_options.specs.declared.options.Engine.TheVariants.{Step, Window}
 use Rattle.srm_options.specs.declared.options.Options.{Options}
-use Rattle.srm_program.specs.Reports.{most_gathered, TellsListing, TellsReport, failures_after_run}
+use Rattle.srm_program.specs.Reports.{ByShow, TellsListing, TellsTable, failures_after_run}
 pub use Rattle.srm_options.specs.Asked.{MayShareBag}
 
 -- the run may be cut into windows and jobs as is asked for
@@ -63,12 +63,21 @@ MayBreakOffBy engine s net o f w = ⊥
 abbrev pub MayBreakOff : PlainScenario → Network → ℕ → Options → LabFault → World → Type 0
 MayBreakOff p net seed o f w = MayBreakOffBy o.engine (setting_of p net seed) net o f w
 
--- what comes of a run: the report of the sequential run, for the seed and the table alone, whichever engine, crew,
--- number of workers, cut and width are asked for; or a refusal, which the engine may bring
+-- what an outlet took of the report of a run: that of the sequential run, for the seed and the table alone, whichever
+-- engine, crew, number of workers, cut and width are asked for. After a refusal it is of the trace and the table of
+-- timers a front, up to a world in which the engine may break off, and of another table nothing but where the outlet
+-- failed
+abbrev pub TellsReport : {T : Type 0} → PlainScenario → Network → ℕ → Options
+    → Option (List ℕ) → Option (List ℕ) → Result T LabFault → Type 0
+TellsReport p net seed o old new r =
+    ByShow o.show (λ text. TellsListing text (MayBreakOff p net seed o) (setting_of p net seed) old new r)
+    (TellsTable p net seed o.show old new r)
+
+-- what comes of a run: its report, or a refusal, which the engine may bring
 abbrev pub TellsRunFor : {T : Type 0} → PlainScenario → Network → ℕ → Options
     → Option (List ℕ) → Option (List ℕ) → Result T LabFault → Type 0
 TellsRunFor p net seed o old new r =
-    TellsReport (MayBreakOff p net seed o) p net seed o.show old new r × TellsRefusedFor p net seed o r
+    TellsReport p net seed o old new r × TellsRefusedFor p net seed o r
 
 -- ---- rows that are handed to a sink
 

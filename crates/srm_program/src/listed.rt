@@ -1,7 +1,7 @@
 //! Tables that list rows, written as the rows of a run come.
-ghost use Rattle.std.specs.Prelude.{◌≡◌, ◌<◌, ◌-◌, ◌^◌, Some, map};
+ghost use Rattle.std.specs.Prelude.{◌≡◌, Some, map};
 ghost use Rattle.srm_engine.specs.Starts.{AreOpening};
-ghost use Rattle.srm_program.specs.Askings.{IsListed, MayLead};
+ghost use Rattle.srm_program.specs.Askings.{IsListed, MayReport};
 
 use crate::asked::Asked;
 use crate::fault::LabFault;
@@ -42,8 +42,7 @@ fn write_table<M: Participant, C: Crew<M>, L: Listing, O: Outlet>(
     listing: L,
     outlet: &mut O,
 ) -> Result<(), LabFault>
-    requires crew { MayLead C.Crew crew.old asked.task.session }
-    requires count { O.failures outlet.old < 2 ^ 64 - 1 }
+    requires may { MayReport C.Crew O.Outlet crew.old asked.task.session outlet.old }
     ensures { IsListed O.Outlet L.form asked.entry.task (map M.plain asked.entry.members.items)
         outlet.old result outlet.new }
 {
@@ -69,8 +68,7 @@ fn write_waiting<M: Participant, C: Crew<M>, L: Listing, O: Outlet>(
     outlet: &mut O,
 ) -> Result<(), LabFault>
     requires waiting { (l : _) × (waiting.old ≡ Some l) × AreOpening task.now.session (map M.plain l.1.items) }
-    requires crew { MayLead C.Crew crew.old task.now.session }
-    requires count { O.failures outlet.old < 2 ^ 64 - 1 }
+    requires may { MayReport C.Crew O.Outlet crew.old task.now.session outlet.old }
     ensures { (l : _) → waiting.old ≡ Some l
         → IsListed O.Outlet L.form task.now (map M.plain l.1.items) outlet.old result outlet.new }
 {
@@ -101,8 +99,7 @@ fn write_beside<
     outlet: &mut O,
 ) -> Result<(), LabFault>
     requires opening { AreOpening task.now.session (map M.plain waiting.1.items) }
-    requires crew { MayLead C.Crew crew.old task.now.session }
-    requires count { O.failures outlet.old < 2 ^ 64 - 1 }
+    requires may { MayReport C.Crew O.Outlet crew.old task.now.session outlet.old }
     ensures { IsListed O.Outlet T.form task.now (map M.plain waiting.1.items) outlet.old result outlet.new }
 {
     let threads = usize::from(task.options.workers) - 1;
@@ -114,7 +111,7 @@ fn write_beside<
         &mut || serve_all(rt, alloc, threads, bench),
         &mut ||
             requires { (l : _) × (waiting ≡ Some l) × AreOpening task.now.session (map M.plain l.1.items)
-                × MayLead C.Crew crew.now task.now.session × (O.failures outlet.now < 2 ^ 64 - 1) }
+                × MayReport C.Crew O.Outlet crew.now task.now.session outlet.now }
             ensures { (l : _) → waiting.entry ≡ Some l
                 → IsListed O.Outlet T.form task.entry.now (map M.plain l.1.items) outlet.entry.now result outlet.exit.now }
         { write_waiting(own, task, &mut waiting, crew, outlet) },
@@ -141,8 +138,7 @@ fn write_by_team<
     outlet: &mut O,
 ) -> Result<(), LabFault>
     requires history { opened ≡ J.book }
-    requires crew { MayLead C.Crew crew.old asked.task.session }
-    requires count { O.failures outlet.old < 2 ^ 64 - 1 }
+    requires may { MayReport C.Crew O.Outlet crew.old asked.task.session outlet.old }
     ensures { IsListed O.Outlet L.form asked.entry.task (map M.plain asked.entry.members.items)
         outlet.old result outlet.new }
 {
@@ -176,8 +172,7 @@ pub(crate) fn write_listing<
     listing: L,
     outlet: &mut O,
 ) -> Result<(), LabFault>
-    requires crew { MayLead C.Crew crew.old asked.task.session }
-    requires count { O.failures outlet.old < 2 ^ 64 - 1 }
+    requires may { MayReport C.Crew O.Outlet crew.old asked.task.session outlet.old }
     ensures { IsListed O.Outlet L.form asked.entry.task (map M.plain asked.entry.members.items)
         outlet.old result outlet.new }
 {

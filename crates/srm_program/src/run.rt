@@ -3,7 +3,7 @@ ghost use Rattle.std.specs.Prelude.{◌≡◌, ◌<◌, ◌-◌, ◌^◌, ℕ, m
 ghost use Rattle.srm_scenario.specs.Plain.{network_of};
 ghost use Rattle.srm_engine.specs.Openings.{HoldOpeningRecords};
 ghost use Rattle.srm_engine.specs.Starts.{AreOpening};
-ghost use Rattle.srm_program.specs.Askings.{MayLead, Reports, Tabled};
+ghost use Rattle.srm_program.specs.Askings.{MayReport, Reports, Tabled};
 ghost use Rattle.srm_program.specs.Reports.{failures_after_run};
 ghost use Rattle.srm_program.specs.Runs.{MayShareBag, TellsRunFor};
 
@@ -103,8 +103,7 @@ pub(crate) fn report<R: Threads + Wait + Sync, M: Participant, C: Crew<M>, O: Ou
     outlet: &mut O,
 ) -> Result<(), LabFault>
     requires opening { AreOpening task.session (map M.plain members.items) }
-    requires crew { MayLead C.Crew crew.old task.session }
-    requires count { O.failures outlet.old < 2 ^ 64 - 1 }
+    requires may { MayReport C.Crew O.Outlet crew.old task.session outlet.old }
     ensures { Reports O.Outlet task.entry (map M.plain members.items) outlet.old result outlet.new }
 {
     let asked = Asked { task, members };
@@ -125,8 +124,7 @@ fn write_members<M: Participant, C: Crew<M>, O: Outlet>(
     crew: &mut C,
     outlet: &mut O,
 ) -> Result<(), LabFault>
-    requires crew { MayLead C.Crew crew.old asked.task.session }
-    requires count { O.failures outlet.old < 2 ^ 64 - 1 }
+    requires may { MayReport C.Crew O.Outlet crew.old asked.task.session outlet.old }
     ensures { Tabled O.Outlet Show.Members asked.entry.task (map M.plain asked.entry.members.items)
         outlet.old result outlet.new }
 {
@@ -145,8 +143,7 @@ fn write_losses<M: Participant, C: Crew<M>, O: Outlet>(
     crew: &mut C,
     outlet: &mut O,
 ) -> Result<(), LabFault>
-    requires crew { MayLead C.Crew crew.old asked.task.session }
-    requires count { O.failures outlet.old < 2 ^ 64 - 1 }
+    requires may { MayReport C.Crew O.Outlet crew.old asked.task.session outlet.old }
     ensures { Tabled O.Outlet Show.Losses asked.entry.task (map M.plain asked.entry.members.items)
         outlet.old result outlet.new }
 {
@@ -167,8 +164,7 @@ fn write_operations<M: Participant, C: Crew<M>, O: Outlet>(
     crew: &mut C,
     outlet: &mut O,
 ) -> Result<(), LabFault>
-    requires crew { MayLead C.Crew crew.old asked.task.session }
-    requires count { O.failures outlet.old < 2 ^ 64 - 1 }
+    requires may { MayReport C.Crew O.Outlet crew.old asked.task.session outlet.old }
     ensures { Tabled O.Outlet Show.Operations asked.entry.task (map M.plain asked.entry.members.items)
         outlet.old result outlet.new }
 {
@@ -189,8 +185,7 @@ fn write_links<M: Participant, C: Crew<M>, O: Outlet>(
     crew: &mut C,
     outlet: &mut O,
 ) -> Result<(), LabFault>
-    requires crew { MayLead C.Crew crew.old asked.task.session }
-    requires count { O.failures outlet.old < 2 ^ 64 - 1 }
+    requires may { MayReport C.Crew O.Outlet crew.old asked.task.session outlet.old }
     ensures { Tabled O.Outlet Show.Links asked.entry.task (map M.plain asked.entry.members.items)
         outlet.old result outlet.new }
 {

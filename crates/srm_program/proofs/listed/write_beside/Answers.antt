@@ -8,8 +8,7 @@ join_mut-answer-requires-after_bounds g c κs within = (
     c.args.waiting,
     refl,
     c.requires.opening,
-    c.requires.crew,
-    c.requires.count,
+    c.requires.may,
   ),
 )
 

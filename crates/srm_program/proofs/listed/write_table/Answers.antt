@@ -1,9 +1,8 @@
-use Rattle.std.proofs.Common.{rules, ◌≡◌, ℕ, List, Ok, Err, map, subst}
-use Rattle.srm_report.specs.Listings.{text_in}
+use Rattle.std.proofs.Common.{rules, ◌≡◌, ℕ, List, map}
+use Rattle.srm_cell.specs.Setting.{setting_of}
 use Rattle.srm_report.specs.ListingSinks.{outlet_under}
 use Rattle.srm_program.proofs.ListedTexts.{flushed_rows, refused_rows, unflushed_rows}
 use Rattle.srm_program.specs.Askings.{IsListed}
-use Rattle.srm_program.specs.Reports.{TellsListing}
 use Rattle.srm_program.specs.declared.fault.LabFault.TheVariants.{WriteFault}
 use Rattle.srm_program.specs.Runs.{MayBreakOff}
 use Rattle.srm_program.proofs.listed.write_table.Goals as goal
@@ -27,11 +26,9 @@ returns g c =
             failures = search rules;
             table = λ seed h.
                 let t = (w.in-Ok.ensures.rows seed h).0 in
-                subst (λ n. TellsListing {T = Unit {0}} (text_in g.L.Listing.form) n (breaks seed) p net seed
-                (g.O.Outlet.taken c.args.outlet.now) (g.O.Outlet.taken end) (Ok tt)) made.room
-                (flushed_rows g.O.Outlet.taken g.L.Listing.form c.gathering-sink.result made.stage made.gathered (breaks seed) p net seed
-                made.written c.args.outlet.now made.same (Unit {0}) tt c.hand_rows.new.sink w.flush.new.self end
-                t.2.world t.0 at t.2.last t.2.trace_is w.in-Ok.ensures.stands t.3 f.0 f.1);
+                flushed_rows g.O.Outlet.taken g.L.Listing.form c.gathering-sink.result made.stage made.gathered (breaks seed)
+                (setting_of p net seed) made.written made.room c.args.outlet.now made.same (Unit {0}) tt
+                c.hand_rows.new.sink w.flush.new.self end t.2.world t.0 at t.2.last t.2.trace_is w.in-Ok.ensures.stands t.3 f.0 f.1;
             refused = λ seed h. (w.in-Ok.ensures.rows seed h).1;
           }
       | in-Ok+in-Err-flush w ↦
@@ -41,11 +38,10 @@ returns g c =
             failures = search rules;
             table = λ seed h.
                 let t = (w.in-Ok.ensures.rows seed h).0 in
-                subst (λ n. TellsListing {T = Unit {0}} (text_in g.L.Listing.form) n (breaks seed) p net seed
-                (g.O.Outlet.taken c.args.outlet.now) (g.O.Outlet.taken end) (Err (WriteFault w.in-Err-flush.field-0.written))) made.room
-                (unflushed_rows g.O.Outlet.taken g.L.Listing.form c.gathering-sink.result made.stage made.gathered (breaks seed) p net seed
-                made.written c.args.outlet.now made.same (Unit {0}) c.hand_rows.new.sink w.flush.new.self end
-                t.2.world t.0 _ at t.2.last.reached t.2.trace_is w.in-Ok.ensures.stands t.3 f.0 f.1);
+                unflushed_rows g.O.Outlet.taken g.L.Listing.form c.gathering-sink.result made.stage made.gathered (breaks seed)
+                (setting_of p net seed) made.written made.room c.args.outlet.now made.same (Unit {0})
+                c.hand_rows.new.sink w.flush.new.self end t.2.world t.0 _ at t.2.last.reached t.2.trace_is
+                w.in-Ok.ensures.stands t.3 f.0 f.1;
             refused = λ seed h. (w.in-Ok.ensures.rows seed h).1;
           }
       | in-Err w ↦
@@ -54,11 +50,9 @@ returns g c =
             failures = search rules;
             table = λ seed h.
                 let t = (w.in-Err.ensures.rows seed h).0 in
-                subst (λ n. TellsListing {T = Unit {0}} (text_in g.L.Listing.form) n (breaks seed) p net seed
-                (g.O.Outlet.taken c.args.outlet.now) (g.O.Outlet.taken end) (Err w.in-Err.fault)) made.room
-                (refused_rows g.O.Outlet.taken g.L.Listing.form c.gathering-sink.result made.stage made.gathered (breaks seed) p net seed
-                made.written c.args.outlet.now made.same (List ℕ) (Unit {0}) c.hand_rows.new.sink end
-                w.in-Err.fault at w.in-Err.ensures.device t w.in-Err.ensures.stands);
+                refused_rows g.O.Outlet.taken g.L.Listing.form c.gathering-sink.result made.stage made.gathered (breaks seed)
+                (setting_of p net seed) made.written made.room c.args.outlet.now made.same (List ℕ) (Unit {0}) c.hand_rows.new.sink end
+                w.in-Err.fault at w.in-Err.ensures.device t w.in-Err.ensures.stands;
             refused = search rules;
           }
     ] in

@@ -11,7 +11,7 @@ returns-in-Ok-seeded_lines g c =
     let p = c.args.session.scenario.now in
     let net = c.args.session.net.now in
     let show = c.args.options.show in
-    let told = whole_told _ _ (MayBreakOff p net c.args.seed c.args.options) p net c.args.seed show
+    let told = whole_told (Unit {0}) tt (MayBreakOff p net c.args.seed c.args.options) p net c.args.seed show
     (Some c.new-outlet.result.writer.items) (Some c.run_members.new.outlet.writer.items) c.in-Ok.ensures.report.0 in
     let w = told.0 in
     let none : c.new-outlet.result.writer.items ≡ [] = ap (λ v. v.items) c.new-outlet.ensures.writer ∙ c.new.ensures.items in
