@@ -27,12 +27,11 @@ use std::thread::Threads;
 // The exit status where the command line is refused.
 const REFUSED_WORDS: u8 = 2;
 
-/// Does what the words ask for, of which the first is the program's name: it reads a scenario from the feed and writes the report of
+/// Does what the words ask for. The first word is the program's name. It reads a scenario from the feed and writes the report of
 /// its run to the outlet, or writes help there. For help and a refused command line nothing is read.
 ///
-/// It answers the exit status: 0 where all was written, 1 after a refusal, and 2 where the command line is refused. A refusal is told
-/// as one line on the outlet for errors, and explained after it where that is asked for and memory suffices. An outlet for errors
-/// that fails changes no status.
+/// A refusal is told as one line on the outlet for errors, and explained after it where that is asked for. The answer is the exit
+/// status: 0 where all was written, 1 after a refusal, and 2 where the command line is refused.
 pub fn program<R: Threads + Wait + Sync, F: Feed, O: Outlet, E: Outlet>(
     rt: &R,
     alloc: Global,
@@ -51,7 +50,38 @@ pub fn program<R: Threads + Wait + Sync, F: Feed, O: Outlet, E: Outlet>(
         (device (E.taken errors.old) (E.taken errors.new) (E.failures errors.old) (E.failures errors.new))
         result }
 {
-    let Request { asked, message } = request_of(rt, alloc, words);
+    answer(
+        rt,
+        alloc,
+        request_of(rt, alloc, words),
+        feed,
+        outlet,
+        errors,
+    )
+}
+
+/// Does what is asked for, and answers the exit status: 0 where all was written, 1 after a refusal, and 2 where the command line
+/// is refused. A refusal is told as one line on the outlet for errors, and explained after it where that is asked for and memory
+/// suffices. An outlet for errors that fails changes no status.
+pub fn answer<R: Threads + Wait + Sync, F: Feed, O: Outlet, E: Outlet>(
+    rt: &R,
+    alloc: Global,
+    request: Request,
+    feed: &mut F,
+    outlet: &mut O,
+    errors: &mut E,
+) -> u8
+    requires asked { IfOk request.asked MayBeAsked }
+    requires feed { F.failures feed.old < 2 ^ 64 - 1 }
+    requires outlet { O.failures outlet.old < 2 ^ 64 - 1 }
+    requires errors { E.failures errors.old < 2 ^ 64 - 1 }
+    ensures { AnswersRequest request
+        (device (F.remaining feed.old) (F.remaining feed.new) (F.failures feed.old) (F.failures feed.new))
+        (device (O.taken outlet.old) (O.taken outlet.new) (O.failures outlet.old) (O.failures outlet.new))
+        (device (E.taken errors.old) (E.taken errors.new) (E.failures errors.old) (E.failures errors.new))
+        result }
+{
+    let Request { asked, message } = request;
     let explains = asks_explanation(&asked);
     let Simulated { done, text } = carry_out(rt, alloc, asked, feed, outlet);
     match done {
