@@ -7,8 +7,8 @@ Runs PROGRAM on a star of 17 nodes with 16 members. The source's own link drops 
 ones tell the others of the loss, and the source leaves. All constants are 0, so that the others ask for what nobody can mend
 at every tick until the run ends, at tick 1,000, 4,000 or 16,000: some 400,000, 1,750,000 and 7,150,000 rows of one and the
 same scenario. Prints, for each table, engine and crew, the lines and the peak resident memory of each run, in KiB, and the
-greatest over the least. It asserts nothing. No table keeps rows: the memory of losses grows with the losses of the run alone,
-and that of the others does not grow.
+greatest over the least. It asserts nothing. No table keeps rows: the memory of losses and operations grows with the losses of the
+run alone, and that of the others does not grow.
 """
 import argparse
 import pathlib
