@@ -1,6 +1,12 @@
 """The exceptions of this package, and what their sentences have in common."""
 import difflib
-from collections.abc import Iterable
+import inspect
+from collections.abc import Callable, Iterable
+from functools import wraps
+from typing import Any, TypeVar
+
+Work = TypeVar("Work", bound=Callable[..., Any])
+Kind = TypeVar("Kind", bound=type)
 
 
 class ScenarioError(ValueError):
@@ -31,5 +37,40 @@ class RefusedError(RuntimeError):
 
 def perhaps(name: object, names: Iterable[str]) -> str:
     """The name that was probably meant, as the end of a sentence, or nothing where none is like it."""
-    found = difflib.get_close_matches(str(name), list(names), 1)
+    known = list(names)
+    same = [one for one in known if sorted(one) == sorted(str(name))]  # letters exchanged
+    found = same or difflib.get_close_matches(str(name), known, 1)
     return f" (did you mean {found[0]!r}?)" if found else ""
+
+
+def unknown(work: Callable[..., Any], words: Iterable[str]) -> str | None:
+    """What is told of the first of some keywords that a function does not take, or None where it takes them all."""
+    taken = inspect.signature(work).parameters
+    if any(one.kind is one.VAR_KEYWORD for one in taken.values()):
+        return None
+    names = [name for name in taken if name != "self"]
+    return next((f"there is no keyword {word!r}{perhaps(word, names)}: there are {', '.join(names)}" for word in words
+                 if word not in names), None)
+
+
+def spelled(work: Work) -> Work:
+    """The same function, which says in a sentence that it does not take a keyword, and which one was probably meant."""
+    @wraps(work)
+    def told(*given: Any, **words: Any) -> Any:
+        try:
+            return work(*given, **words)
+        except TypeError:
+            fault = unknown(work, words)
+            if fault is None:
+                raise
+        raise TypeError(f"{work.__qualname__.removesuffix('.__init__').rpartition('.')[2]}: {fault}")
+
+    return told  # type: ignore[return-value]
+
+
+def verbs_spelled(kind: Kind) -> Kind:
+    """The same class, each of whose verbs says so, and the making of which."""
+    for name, verb in list(vars(kind).items()):
+        if inspect.isfunction(verb) and (name == "__init__" or not name.startswith("_")):
+            setattr(kind, name, spelled(verb))
+    return kind

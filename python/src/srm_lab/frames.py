@@ -10,7 +10,7 @@ import numpy
 import pandas
 
 from . import timers
-from .errors import ScenarioError
+from .errors import ScenarioError, spelled
 from .parts import CONSTANTS
 from .scenario import Scenario
 from .tables import HEADER
@@ -110,6 +110,7 @@ def joined(frames: Iterable[Frames]) -> Frames:
     return {name: pandas.concat([one[name] for one in several], ignore_index=True) for name in several[0]}
 
 
+@spelled
 def save(frame: pandas.DataFrame, path: str | Path) -> Path:
     """Writes a table as CSV or Parquet, by the ending of its path, and beside it as JSON what it is of (`frame.attrs`).
 

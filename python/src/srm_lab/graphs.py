@@ -5,7 +5,7 @@ from dataclasses import dataclass
 from pathlib import Path
 from typing import Any
 
-from .errors import ScenarioError
+from .errors import ScenarioError, verbs_spelled
 from .limits import MOST_NODES
 from .link import Link
 from .tree import Tree
@@ -13,6 +13,7 @@ from .tree import Tree
 SPANNING = ("shortest", "minimum")
 
 
+@verbs_spelled
 @dataclass(frozen=True)
 class Delays:
     """Where the delays of a graph's edges stand, and what they are in ticks.

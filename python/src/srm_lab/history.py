@@ -2,6 +2,7 @@
 from collections.abc import Iterable
 
 from .clocks import Clocks
+from .errors import verbs_spelled
 from .follower import Follower, Packet
 from .loss import Loss
 from .scenario import Scenario
@@ -9,6 +10,7 @@ from .tables import Row
 from .timer import Timer
 
 
+@verbs_spelled
 class History:
     """All of a run, from its rows in order.
 

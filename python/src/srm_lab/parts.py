@@ -1,6 +1,7 @@
 """The elements of a scenario file: who takes part, what they do and when, and what is lost."""
 from dataclasses import dataclass
 
+from .errors import verbs_spelled
 from .limits import NEWEST
 from .loss_words import loss_word
 
@@ -10,6 +11,7 @@ CONSTANTS = ("c1", "c2", "d1", "d2")
 LIMITS = tuple(f"{name}_{end}" for end in ("least", "most") for name in CONSTANTS)
 
 
+@verbs_spelled
 @dataclass(frozen=True)
 class Member:
     """A member on a node. `stream` picks its random words; it joins at tick `join`, and stays where `leave` is None.

@@ -5,7 +5,7 @@ from pathlib import Path
 from typing import Any
 
 from . import tree as trees
-from .errors import ScenarioError
+from .errors import ScenarioError, spelled
 from .form import check_keys
 from .limits import NEWEST
 from .link import Link
@@ -18,6 +18,7 @@ from .tree import Tree
 from .writing import NAMES, ROUTES
 
 
+@spelled
 def read_scenario(text: str | bytes) -> Scenario:
     """The scenario in a text, which is refused where the program would refuse it: the first of its faults."""
     raw = text.encode() if isinstance(text, str) else text
@@ -31,6 +32,7 @@ def read_scenario(text: str | bytes) -> Scenario:
     return from_table(table, _comments(text))
 
 
+@spelled
 def load_scenario(path: str | Path) -> Scenario:
     """The scenario in a file."""
     try:

@@ -17,7 +17,7 @@ import pandas
 import tqdm
 
 from . import __version__
-from .errors import RefusedError, ScenarioError, perhaps
+from .errors import RefusedError, ScenarioError, perhaps, spelled, verbs_spelled
 from .frames import COLUMNS, Frames, Text, frame_of, joined, save
 from .limits import MOST_SEED, within
 from .scenario import Scenario
@@ -171,6 +171,7 @@ def _mapped(work: Callable[[Any], Any], chunks: Sequence[Any], several: int) -> 
             raise
 
 
+@verbs_spelled
 @dataclass(frozen=True)
 class Runs:
     """The tables of runs of one scenario, each a DataFrame whose first column is the seed."""
@@ -217,6 +218,7 @@ class Runs:
         return [save(table, Path(directory) / f"{name}.{ending}") for name, table in self.tables.items()]
 
 
+@spelled
 def run(given: Scenario, seeds: int | Iterable[int] = 1, tables: str | Iterable[str] = "losses",
         program: str | Path | None = None, cache: str | Path | None = CACHE, workers: int | None = None,
         progress: bool | None = None, options: Iterable[str] = ()) -> Runs:

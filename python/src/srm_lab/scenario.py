@@ -18,7 +18,7 @@ from pathlib import Path
 from typing import Any
 
 from . import graphs, losses, router_map, tree as trees, writing
-from .errors import ScenarioError, perhaps
+from .errors import ScenarioError, perhaps, spelled, verbs_spelled
 from .form import check_keys
 from .graphs import Delays
 from .limits import MOST_NUMBERS, MOST_TIME, NEWEST, VERSIONS, Limits, within
@@ -32,6 +32,7 @@ DELAY, DRAWS, EVERY = 1000, 100, 1
 Ticks = int | tuple[int, int]
 
 
+@verbs_spelled
 @dataclass(frozen=True)
 class Scenario:
     """What a run is given. Constants are in thousandths; members adapt each from its least to its greatest value.
@@ -461,30 +462,35 @@ def thousandths(text: str, members: int) -> int:
 
 # ---- scenarios on networks of a kind -------------------------------------------
 
+@spelled
 def chain(nodes: int, members: int | str = "all", source: int | str = "first", delay: int = DELAY,
           seed: int = 0) -> Scenario:
     """Nodes in a row. See `on` for the other words."""
     return on(trees.chain(nodes, delay), members, source, seed)
 
 
+@spelled
 def star(nodes: int, members: int | str = "all", source: int | str = "first", delay: int = DELAY,
          seed: int = 0) -> Scenario:
     """A hub, node 0, without a member, and a link from it to each other node. See `on` for the other words."""
     return on(trees.star(nodes, delay), members, source, seed)
 
 
+@spelled
 def regular_tree(nodes: int, degree: int = 4, members: int | str = "all", source: int | str = "first",
                  delay: int = DELAY, seed: int = 0) -> Scenario:
     """A tree whose inner nodes have this degree, as far as the nodes last. See `on` for the other words."""
     return on(trees.bounded_degree(nodes, degree, delay), members, source, seed)
 
 
+@spelled
 def random_tree(nodes: int, members: int | str = "all", source: int | str = "first", delay: int = DELAY,
                 seed: int = 0) -> Scenario:
     """A random labelled tree: each one of this size has the same chance. See `on` for the other words."""
     return on(trees.random_labelled(nodes, delay, random.Random(f"tree {seed}")), members, source, seed)
 
 
+@spelled
 def from_graph(graph: Any, delays: Delays | int = Delays(), spanning_tree: str | None = None,
                members: int | str = "all", source: int | str = "first", seed: int = 0) -> Scenario:
     """A networkx graph whose nodes keep their names; `delays` says where its delays stand, or is that of each link.
@@ -496,6 +502,7 @@ def from_graph(graph: Any, delays: Delays | int = Delays(), spanning_tree: str |
     return on(graphs.from_graph(graph, delays, spanning_tree, root), members, source, seed)
 
 
+@spelled
 def from_file(path: str | Path, delays: Delays | int = Delays(), spanning_tree: str | None = None,
               members: int | str = "all", source: int | str = "first", seed: int = 0) -> Scenario:
     """The graph in a GraphML or GML file, or a list of edges, as `from_graph` takes it."""
@@ -504,6 +511,7 @@ def from_file(path: str | Path, delays: Delays | int = Delays(), spanning_tree: 
     return on(graphs.from_file(path, delays, spanning_tree, root), members, source, seed)
 
 
+@spelled
 def from_router_map(graph: Any, delays: Delays | int = Delays(), members: int | str | Iterable[Any] = "all",
                     source: Any = "first", seed: int = 0) -> Scenario:
     """A session on a map of routers of any size: the tree of shortest ways from the source to the members.
@@ -535,6 +543,7 @@ def from_router_map(graph: Any, delays: Delays | int = Delays(), members: int | 
     return _session(tree, [tree.number(str(node)) for node in (root, *others)], seed)
 
 
+@spelled
 def on(tree: Tree, members: int | str = "all", source: int | str = "first", seed: int = 0) -> Scenario:
     """A session on a network: member 0, a sender, draws 100 times, a tick apart, and the others receive.
 
@@ -567,12 +576,14 @@ def place_members(tree: Tree, members: int | str, source: int | str, rng: random
     return [node, *others]
 
 
+@spelled
 def read(text: str | bytes) -> Scenario:
     """The scenario in a text, which is refused where the program would refuse it."""
     from .reading import read_scenario
     return read_scenario(text)
 
 
+@spelled
 def load(path: str | Path) -> Scenario:
     """The scenario in a file."""
     from .reading import load_scenario

@@ -8,7 +8,7 @@ import numpy
 import pandas
 from scipy import special
 
-from .errors import ScenarioError, perhaps
+from .errors import ScenarioError, perhaps, spelled
 
 if TYPE_CHECKING:
     from .runs import Runs
@@ -30,6 +30,7 @@ class Interval:
     high: float
 
 
+@spelled
 def interval(values: "pandas.Series | Sequence[float]", method: str = "t", level: float = 0.95) -> Interval:
     """The mean of values, one for each seed, with a confidence interval.
 
@@ -69,6 +70,7 @@ def error_of(data: numpy.ndarray) -> float:
     return float(data.std(ddof=1) / math.sqrt(len(data)))
 
 
+@spelled
 def difference(first: Sequence[float], second: Sequence[float], level: float = 0.95) -> Interval:
     """The mean of the second values less that of the first, with Welch's interval for two independent samples.
 
@@ -107,6 +109,7 @@ def table_of(given: "Runs | pandas.DataFrame", expression: str) -> pandas.DataFr
     return given.holding(expression)
 
 
+@spelled
 def summarise(given: "Runs | pandas.DataFrame", expression: str, by: str | Sequence[str] | None = None,
               statistic: Statistic | Sequence[Statistic] = "mean", method: str = "t",
               level: float = 0.95) -> pandas.DataFrame | pandas.Series:
@@ -173,6 +176,7 @@ class Paired:
     method: str
 
 
+@spelled
 def paired(first: "Runs | pandas.DataFrame", second: "Runs | pandas.DataFrame", expression: str, method: str = "t",
            level: float = 0.95) -> Paired:
     """The second setting less the first, of a column's mean on each seed, with an interval over the seeds.

@@ -8,7 +8,7 @@ from typing import Any, overload
 
 import pandas
 
-from .errors import ScenarioError, perhaps
+from .errors import ScenarioError, perhaps, spelled, unknown
 from .frames import COLUMNS, Frames
 from .parts import CONSTANTS, LIMITS
 from .runs import CACHE, Job, asked_of, origin, perform_all, seeds_of, workers_of
@@ -31,6 +31,7 @@ def sweep(parameters: Parameters, make: Maker = None, seeds: int | Iterable[int]
           progress: bool | None = None, options: Iterable[str] = ()) -> Frames: ...
 
 
+@spelled
 def sweep(parameters: Parameters, make: Maker = None, seeds: int | Iterable[int] = 1,
           tables: str | Iterable[str] = "losses", program: str | Path | None = None, cache: str | Path | None = CACHE,
           workers: int | None = None, progress: bool | None = None, options: Iterable[str] = ()) -> pandas.DataFrame | Frames:
@@ -148,8 +149,10 @@ def takes_seed(make: Callable[..., Scenario], names: Iterable[str]) -> bool:
     """Whether a function takes a seed besides these names, which it has to take."""
     signature = inspect.signature(make)
     is_seeded = any(name == "seed" or one.kind is one.VAR_KEYWORD for name, one in signature.parameters.items())
+    words = [*names, *(["seed"] if is_seeded else [])]
     try:
-        signature.bind(**dict.fromkeys([*names, *(["seed"] if is_seeded else [])]))
+        signature.bind(**dict.fromkeys(words))
     except TypeError as fault:
-        raise TypeError(f"the function that makes the scenario does not fit the parameters: {fault}") from None
+        told = unknown(make, words) or fault
+        raise TypeError(f"the function that makes the scenario does not fit the parameters: {told}") from None
     return is_seeded

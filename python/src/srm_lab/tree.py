@@ -7,7 +7,7 @@ from functools import cached_property
 from heapq import heappop, heappush
 from typing import Any
 
-from .errors import ScenarioError
+from .errors import ScenarioError, verbs_spelled
 from .limits import MOST_DELAY, MOST_NODES, VERSIONS, within
 from .link import Link
 
@@ -15,6 +15,7 @@ from .link import Link
 MOST_ROOTS = 4
 
 
+@verbs_spelled
 @dataclass(frozen=True)
 class Tree:
     """A tree of nodes 0 to `nodes - 1`, whose links are numbered from 0.
