@@ -15,7 +15,7 @@ from pathlib import Path
 
 ROOT = Path(__file__).resolve().parents[2]
 PYTHON = "/usr/bin/python3"
-MODULES = "python3-networkx python3-pandas python3-matplotlib python3-scipy python3-tqdm python3-yaml"
+MODULES = "python3-networkx python3-pandas python3-matplotlib python3-scipy python3-tomli-w python3-tqdm python3-yaml"
 NEEDS = {
     "the linter": "flake8",
     "the type checker": "mypy",

@@ -17,7 +17,6 @@ ROUTES = "routes of links: "
 # arrays of a network by parents, and how many of their numbers stand in a line
 ARRAYS = ("parent", "delays", "backs")
 IN_LINE = 20
-LONGEST = 100  # letters of an element's line
 
 
 def table_of(given: "Scenario") -> dict[str, Any]:
@@ -81,25 +80,16 @@ def text_of(given: "Scenario") -> str:
 
 
 def _toml(table: dict[str, Any]) -> str:
-    """A table as TOML: its numbers and words, arrays of numbers, and elements, a line each as long as all are short."""
-    lines = [f"{key} = {_literal(value)}" for key, value in table.items() if not isinstance(value, list)]
-    lines += [f"{name} = [{_numbers(table[name])}]" for name in ARRAYS if name in table]
-    apart: list[str] = []
-    for part in PARTS:
-        keys = [[f"{key} = {_literal(value)}" for key, value in element.items()] for element in table.get(part, ())]
-        rows = [f"    {{ {', '.join(one)} }}," for one in keys]
-        if any(len(row) > LONGEST or "\n" in row for row in rows):
-            apart += [line for one in keys for line in ("", f"[[{part}]]", *one)]
-        elif rows:
-            lines += [f"{part} = [", *rows, "]"]
-    return "".join(f"{line}\n" for line in (*lines, *apart))
+    """A table as TOML; long arrays of numbers stand between the other keys of the top table and the elements."""
+    import tomli_w  # here, so that scenarios can be read, and traces followed, with no package at all
 
-
-def _literal(value: int | str | list[int]) -> str:
-    """A number, a word of the format, or an array of numbers, one in a line."""
-    if isinstance(value, list):
-        return "".join(("[", *(f"\n    {one}," for one in value), "\n]" if value else "]"))
-    return f'"{value}"' if isinstance(value, str) else str(value)
+    arrays = {name: table[name] for name in ARRAYS if name in table}
+    if not arrays:
+        return str(tomli_w.dumps(table))
+    top = {key: value for key, value in table.items() if not isinstance(value, list)}
+    parts = {key: value for key, value in table.items() if key not in top and key not in arrays}
+    rows = (f"{name} = [{_numbers(numbers)}]\n" for name, numbers in arrays.items())
+    return f"{tomli_w.dumps(top)}{''.join(rows)}{tomli_w.dumps(parts)}"
 
 
 def _numbers(numbers: list[int]) -> str:
