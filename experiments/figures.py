@@ -17,6 +17,7 @@ matplotlib.use("Agg")
 matplotlib.rcParams["svg.hashsalt"] = "srm_lab"  # the same table gives the same bytes
 matplotlib.rcParams["svg.fonttype"] = "none"  # letters stay letters
 matplotlib.rcParams["font.size"] = 10
+matplotlib.rcParams["axes.titley"] = 1.0  # so that no drawing looks for where a title has to be
 
 import adaptive_figures as rounds  # noqa: E402
 import matplotlib.pyplot as plot  # noqa: E402

@@ -6,8 +6,8 @@ test-package: $(SRM_LAB) ## runs linter, type checker and tests of all Python, a
 
 check-experiments: test-package check-tutorial ## the same, and then each command of the tutorial and the study
 
-test-clean-root: $(SRM_LAB) ## installs wheel and Debian package in a root of Debian that has nothing else, and tests them there
-	cd python && SRM_LAB=$(abspath $(SRM_LAB)) $(PYTHON) -m pytest -q -rs -p no:cacheprovider -m clean_root
+test-clean-root: $(SRM_LAB) ## as root, in minutes: installs wheel and Debian package in a root of Debian alone, and tests them
+	cd python && SRM_LAB=$(abspath $(SRM_LAB)) $(PYTHON) -m pytest -q -rs --durations=0 -p no:cacheprovider -m clean_root
 
 # time and memory beside the plain program of bench/, which `make bench` builds too, and beside ns-2
 PLAIN := out/baseline

@@ -45,7 +45,7 @@ JOBS ?= $(shell nproc)
 CONFIG_FILE = $(firstword $(wildcard $(PWD)/$(CONFIG) $(abspath $(CONFIG)) $(abspath experiments/$(CONFIG))) $(CONFIG))
 # it runs in the folder of its configuration, in which that names files; only one sweep at a time into one folder of
 # results: the lock is the process's, so that a killed sweep leaves none behind
-SNAKEMAKE = cd $(dir $(CONFIG_FILE)) && export PYTHONPATH=$(abspath python/src) && \
+SNAKEMAKE = cd $(dir $(CONFIG_FILE)) && export PYTHONPATH=$(abspath python/src) SETUPTOOLS_USE_DISTUTILS=stdlib && \
 	results=$$($(PYTHON) $(abspath experiments/check_config.py) $(CONFIG_FILE)) && mkdir -p "$$results" && \
 	flock --verbose --nonblock --conflict-exit-code 3 "$$results/.lock" \
 	$(PYTHON) $(abspath experiments/snakemake_alone.py) --snakefile $(abspath experiments/Snakefile) --scheduler greedy \
@@ -60,6 +60,7 @@ experiments: $(SRM_LAB) ## makes the sweeps of experiments/config.yaml or CONFIG
 # the directory has to be one that all nodes share
 experiments-slurm: CORES ?= 4
 experiments-slurm: $(SRM_LAB) ## the same by Slurm: make experiments-slurm JOBS=2 CORES=2 SBATCH="--partition=short --time=30"
+	@command -v sbatch > /dev/null || { echo "there is no Slurm here: no sbatch is on the path" >&2; exit 1; }
 	$(SNAKEMAKE) --jobs $(JOBS) --cores $(CORES) --latency-wait 60 \
 		--cluster "sbatch --parsable --cpus-per-task={threads} --output=.snakemake/slurm-%j.log $(SBATCH)" $(REPORT)
 

@@ -11,10 +11,9 @@ import pytest
 
 ROOT = Path(__file__).resolve().parents[2]
 MIRROR = os.environ.get("MIRROR", "http://deb.debian.org/debian")
-# what these tests need besides, and of the package's tests those that need no more than the package
+# what these tests need besides, and of the package's tests those that need more than the package
 NEEDED = ("python3-pytest", "python3-yaml", "python3-venv")
-TESTS = ("command_line", "constants", "graphs", "page", "picture", "repetition", "router_map", "runs", "scenario",
-         "statistics", "sweep", "tables", "toml_text", "tree")
+OTHERS = ("clean_root", "make", "packaging", "packed", "page_browser", "workflow")
 pytestmark = pytest.mark.clean_root
 
 
@@ -44,7 +43,15 @@ def packed(program, tmp_path_factory):
 def root(packed, tmp_path_factory):
     """Runs a command in the root, with nothing of this system's environment."""
     place = tmp_path_factory.mktemp("root")
-    place.chmod(0o755)
+    call("mount", "-t", "tmpfs", "-o", "mode=755", "root", place)  # on a disk, packages wait for it longer than they take
+    try:
+        yield of_debian(place, packed)
+    finally:
+        call("umount", place)
+
+
+def of_debian(place, packed):
+    """Makes a root in a folder, with the packed files and the tests in it, and gives what runs a command there."""
     made = subprocess.run(["debootstrap", "--variant=minbase", "bookworm", place, MIRROR], capture_output=True, text=True,
                           check=False)
     if made.returncode:
@@ -62,8 +69,7 @@ def root(packed, tmp_path_factory):
         call("tar", "-x", "-C", place / "try", stdin=archive.stdout)
     shutil.rmtree(place / "try/python/src")
     run("apt-get", "install", "--quiet", "--yes", "--no-install-recommends", *NEEDED)
-    yield run
-    shutil.rmtree(place)
+    return run
 
 
 def install(root):
@@ -82,9 +88,9 @@ def check_commands(root, folder):
 
 def check_tests(root, python):
     """The package's tests, of what is installed."""
-    files = [f"tests/test_{name}.py" for name in TESTS]
+    others = [f"--ignore=tests/test_{name}.py" for name in OTHERS]
     told = root("env", "-C", "/try/python", f"SRM_LAB={Path(python).parent}/srm_lab", python, "-m", "pytest", "-q", "-p",
-                "no:cacheprovider", "-o", "pythonpath=../experiments", *files)
+                "no:cacheprovider", "-o", "pythonpath=../experiments", *others)
     assert " passed" in told and "failed" not in told
     assert root("env", "-C", "/", python, "-c", "import srm_lab; print(srm_lab.__file__)").startswith(
         "/usr/lib/python3/" if python.startswith("/usr") else "/try/environment/")

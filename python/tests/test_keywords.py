@@ -9,14 +9,15 @@ from srm_lab.parts import Member
 
 
 def works():
-    """The functions and classes that the package names, the verbs of these, and the functions that give a scenario."""
+    """The functions that the package names, how its classes are made, their verbs, and what gives a scenario."""
     named = [getattr(srm_lab, name) for name in srm_lab.__all__]
     kinds = [Member, *(one for one in named if inspect.isclass(one) and not issubclass(one, Exception))]
-    verbs = [verb for kind in kinds for name, verb in vars(kind).items()
-             if inspect.isfunction(verb) and (name == "__init__" or not name.startswith("_"))]
+    verbs = [verb for kind in (scenario.Scenario, srm_lab.Tree) for name, verb in vars(kind).items()
+             if inspect.isfunction(verb) and verb.__annotations__.get("return") == kind.__name__]
     makers = [one for one in vars(scenario).values() if inspect.isfunction(one) and
-              one.__annotations__.get("return") in ("Scenario", scenario.Scenario) and not one.__name__.startswith("_")]
-    return [*(one for one in named if inspect.isfunction(one)), *verbs, *makers]
+              one.__annotations__.get("return") is scenario.Scenario and not one.__name__.startswith("_")]
+    return [*(one for one in named if inspect.isfunction(one)), *(vars(kind)["__init__"] for kind in kinds), *verbs, *makers,
+            srm_lab.Runs.summary, srm_lab.Runs.save]
 
 
 def exchanged(name):

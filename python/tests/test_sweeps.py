@@ -6,6 +6,7 @@ import pandas
 import pytest
 
 from srm_lab import RefusedError, ScenarioError, paired, run, save, scenario, summarise, sweep
+from srm_lab.runs import chunks_of
 
 
 def chain(nodes, c2=0):
@@ -116,3 +117,12 @@ def test_refusal_of_the_program_tells_the_point(tmp_path):
         with pytest.raises(RefusedError, match="no-memory") as fault:
             sweep({"nodes": [3, 5]}, chain, program=path, cache=None, workers=workers)
         assert fault.value.__notes__ == ["refused at nodes = 3"]
+
+
+@pytest.mark.parametrize("count, several, sizes", [
+    (1, 1, [1]), (5, 2, [2, 1, 1, 1]), (20, 2, [5, 4, 3, 2, 2, 1, 1, 1, 1]), (40, 1, [16, 12, 6, 3, 2, 1])])
+def test_parts_of_a_sweep_get_shorter(count, several, sizes):
+    jobs = [(number, (0,)) for number in range(count)]
+    parts = list(chunks_of(jobs, several))
+    assert [job for part in parts for job in part] == jobs
+    assert [len(part) for part in parts] == sizes

@@ -147,3 +147,12 @@ def test_sweeps_with_different_results_have_different_locks():
         done = subprocess.run([sys.executable, "check_config.py", name], cwd=HERE, capture_output=True, text=True,
                               env={**os.environ, "PYTHONPATH": str(HERE.parent / "python/src")}, check=False)
         assert done.stdout == f"{results}\n", done.stderr
+
+
+def test_slurm_that_is_not_there_is_told_at_once(tmp_path):
+    for name in ("make", "sh"):
+        (tmp_path / name).symlink_to(str(shutil.which(name)))
+    done = subprocess.run(["make", f"--directory={HERE.parent}", "SRM_LAB=/bin/true", "experiments-slurm"], check=False,
+                          env={"PATH": str(tmp_path)}, capture_output=True, text=True)
+    assert done.returncode and "there is no Slurm here: no sbatch is on the path\n" in done.stderr
+    assert "snakemake" not in done.stdout

@@ -69,8 +69,8 @@ def spelled(work: Work) -> Work:
 
 
 def verbs_spelled(kind: Kind) -> Kind:
-    """The same class, each of whose verbs says so, and the making of which."""
+    """The same class, the making of which says so, and each verb that gives one."""
     for name, verb in list(vars(kind).items()):
-        if inspect.isfunction(verb) and (name == "__init__" or not name.startswith("_")):
+        if inspect.isfunction(verb) and (name == "__init__" or verb.__annotations__.get("return") == kind.__name__):
             setattr(kind, name, spelled(verb))
     return kind

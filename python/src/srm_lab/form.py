@@ -5,7 +5,7 @@ from functools import cache
 from typing import Any
 
 from .errors import ScenarioError, perhaps
-from .limits import VERSIONS, Limits
+from .limits import VERSIONS, Limits, are_within
 from .parts import CONSTANTS, LIMITS, ROLES
 from .repetition import DEFAULTS, copy_of, times_of, total
 
@@ -32,10 +32,6 @@ class Number:
         if isinstance(value, bool) or not isinstance(value, int):
             return f"is {value!r}, and has to be a whole number"
         return None if self.least <= value <= self.most else f"is {value}, and has to be {self.least} to {self.most}"
-
-    def pass_all(self, values: list[Any]) -> bool:
-        """Whether all of these pass."""
-        return {*map(type, values)} <= {int} and (not values or self.least <= min(values) and max(values) <= self.most)
 
 
 def word(*words: str) -> Check:
@@ -162,13 +158,15 @@ def faults(table: dict[str, Any], keys: dict[str, Key]) -> Iterator[tuple[str, s
 
 def are_faultless(elements: list[Any], keys: dict[str, Key]) -> bool:
     """Whether each element is a table without a fault and stands for itself alone; of many that is seen at once."""
-    if any(type(element) is not dict or not element.keys() <= keys.keys() - {"times"} for element in elements):
+    known = keys.keys() - {"times"}
+    if any(type(element) is not dict or not element.keys() <= known for element in elements):
         return False
     for key, one in keys.items():
         values = [element[key] for element in elements if key in element]
         if one.needed and len(values) < len(elements):
             return False
-        if not (one.check.pass_all(values) if isinstance(one.check, Number) else not any(map(one.check, values))):
+        number = one.check if isinstance(one.check, Number) else None
+        if not are_within(values, number.least, number.most) if number else any(map(one.check, values)):
             return False
     return True
 

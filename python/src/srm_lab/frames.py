@@ -33,6 +33,7 @@ WRITTEN: dict[str, tuple[str, ...]] = {
 ADDED = {"losses": ("ended", "node"), "links": ("a", "b"), "constants": ("node",)}
 COLUMNS = {name: (*columns, *ADDED.get(name, ())) for name, columns in WRITTEN.items()}
 Frames = dict[str, pandas.DataFrame]
+ENDS = numpy.array(["recovered", "left", "open"], dtype=object)  # each word once, however many rows have it
 
 
 @dataclass(frozen=True)
@@ -89,7 +90,7 @@ def _add_ends(frame: pandas.DataFrame, given: Sequence[Scenario], scenarios: num
     leaves = [[member.leave is not None and member.leave < one.end for member in one.members] for one in given]
     is_open, members = frame["recovered"].isna(), frame["member"]
     left = _looked_up(given, leaves, scenarios, members).to_numpy(bool)
-    frame["ended"] = numpy.select([~is_open, left], ["recovered", "left"], "open").astype(object)
+    frame["ended"] = ENDS[numpy.where(is_open, numpy.where(left, 1, 2), 0)]
     several = zip(scenarios[is_open], members[is_open], frame["source"][is_open])
     frame.loc[is_open, "round_trip"] = [given[place].round_trip(member, source) for place, member, source in several]
 

@@ -1,5 +1,7 @@
 """The ranges of the scenario format (docs/FORMATS.md), one row for each of its versions."""
+from collections.abc import Sequence
 from dataclasses import dataclass, replace
+from typing import Any
 
 from .errors import ScenarioError
 
@@ -46,6 +48,11 @@ MOST_TIME = NEWEST.time
 MOST_SEED = NEWEST.stream
 # operations that a sender can draw on one page
 MOST_NUMBERS = 4096
+
+
+def are_within(values: Sequence[Any], least: int, most: int) -> bool:
+    """Whether all of these are whole numbers from least to most."""
+    return {*map(type, values)} <= {int} and (not values or least <= min(values) and max(values) <= most)
 
 
 def within(what: str, value: object, least: int, most: int) -> int:

@@ -19,13 +19,14 @@ def check_rules(given: "Scenario") -> None:
 
 def _members(given: "Scenario") -> None:
     taken: dict[int, int] = {}
+    hub = given.tree.hub
     for place, member in enumerate(given.members):
         def fault(key: str, told: str, place: int = place) -> ScenarioError:
             return ScenarioError(f"member {place}: `{key}` {told}", "member", place, key)
 
         if member.node >= given.tree.nodes:
             raise fault("node", f"is {member.node}, and the network has {given.tree.nodes} nodes")
-        if member.node == given.tree.hub:
+        if member.node == hub:
             raise fault("node", f"is {member.node}, the hub of the star, on which no member may be placed")
         if member.node in taken:
             raise fault("node", f"is {member.node}, on which member {taken[member.node]} is: a node has one member")

@@ -132,8 +132,7 @@ def perform_all(make: Callable[[int], Scenario], jobs: Sequence[Job], asked: Ask
         return digests, {name: frame_of(name, [one[name] for one in texts]) for name in asked.tables}
 
     digests, parts, made = [], [], 0
-    size = max(1, min(MOST_IN_CHUNK, len(jobs) // (4 * several)))
-    chunks = [jobs[place:place + size] for place in range(0, len(jobs), size)]
+    chunks = list(chunks_of(jobs, several))
     with bar:
         for chunk, (found, frames) in zip(chunks, _mapped(work, chunks, several)):
             digests += found
@@ -141,6 +140,15 @@ def perform_all(make: Callable[[int], Scenario], jobs: Sequence[Job], asked: Ask
             made += sum(len(seeds) for _, seeds in chunk)
             move(bar, 0, made)
     return joined(parts), digests
+
+
+def chunks_of(jobs: Sequence[Job], several: int) -> Iterator[Sequence[Job]]:
+    """Jobs in ever shorter parts, so that so many workers end at about the same time."""
+    place = 0
+    while place < len(jobs):
+        size = min(MOST_IN_CHUNK, -(-(len(jobs) - place) // (2 * several)))
+        yield jobs[place:place + size]
+        place += size
 
 
 def move(bar: tqdm.tqdm, before: int, made: int) -> None:
@@ -204,6 +212,7 @@ class Runs:
         raise faults[0] if len(faults) == 1 else ScenarioError(
             f"no table of these runs has the columns of {expression!r}: they are {', '.join(self.tables)}")
 
+    @spelled
     def summary(self, expression: str, by: str | Sequence[str] | None = None, table: str | None = None,
                 statistic: Statistic | Sequence[Statistic] = "mean", method: str = "t",
                 level: float = 0.95) -> pandas.DataFrame | pandas.Series:
@@ -211,6 +220,7 @@ class Runs:
         frame = self.holding(expression) if table is None else self.table(table)
         return summarise(frame, expression, by, statistic, method, level)
 
+    @spelled
     def save(self, directory: str | Path, ending: str = "csv") -> list[Path]:
         """Writes each table to a file, as `csv` or `parquet`, with what it is of beside it; see `save`."""
         if ending not in ("csv", "parquet"):

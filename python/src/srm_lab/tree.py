@@ -8,7 +8,7 @@ from heapq import heappop, heappush
 from typing import Any
 
 from .errors import ScenarioError, verbs_spelled
-from .limits import MOST_DELAY, MOST_NODES, VERSIONS, within
+from .limits import MOST_DELAY, MOST_NODES, VERSIONS, are_within, within
 from .link import Link
 
 # roots whose distances a tree keeps
@@ -35,11 +35,11 @@ class Tree:
         within("the number of nodes", self.nodes, 1, MOST_NODES)
         if len(self.links) != self.nodes - 1:
             raise ScenarioError(f"{self.nodes} nodes and {len(self.links)} links are no tree")
-        for place, link in enumerate(self.links):
-            within(f"an end of link {place}", link.a, 0, self.nodes - 1)
-            within(f"an end of link {place}", link.b, 0, self.nodes - 1)
-            within(f"the delay of link {place}", link.delay, 1, MOST_DELAY)
-            within(f"the delay back of link {place}", link.back, 1, MOST_DELAY)
+        ranges = (("an end", 0, self.nodes - 1), ("an end", 0, self.nodes - 1), ("the delay", 1, MOST_DELAY),
+                  ("the delay back", 1, MOST_DELAY))
+        for (what, least, most), values in zip(ranges, zip(*self.links)):
+            for place, value in enumerate(() if are_within(values, least, most) else values):
+                within(f"{what} of link {place}", value, least, most)
         if len(self.parents(0)) != self.nodes:
             raise ScenarioError("the links join only some of the nodes, so they are no tree")
 
@@ -83,7 +83,8 @@ class Tree:
 
     def hosts(self) -> list[int]:
         """The nodes that may host a member, in rising order."""
-        return [node for node in range(self.nodes) if node != self.hub]
+        hub = self.hub
+        return [node for node in range(self.nodes) if node != hub]
 
     @cached_property
     def _near(self) -> list[list[tuple[int, int]]]:

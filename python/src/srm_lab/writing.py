@@ -39,8 +39,8 @@ def keys_of(given: "Scenario", wanted: Collection[str] = PARTS) -> dict[str, Any
     top |= given.tree.shorthand or {"nodes": given.tree.nodes}
     parts: dict[str, Callable[[], list[dict[str, Any]]]] = {
         "link": lambda: [] if given.tree.shorthand else [
-            {"a": link.a, "b": link.b, "delay": link.delay, **({} if link.is_even else {"back": link.back})}
-            for link in given.tree.links],
+            {"a": a, "b": b, "delay": delay, **({} if back == delay else {"back": back})}
+            for a, b, delay, back in given.tree.links],
         "member": lambda: [_member(dict(vars(member))) for member in given.members],
         "draw": lambda: [dict(vars(draw)) for draw in given.draws],
         "session": lambda: [dict(vars(session)) for session in given.sessions],
