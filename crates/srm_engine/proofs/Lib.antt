@@ -23,3 +23,4 @@ mod KeptLemmas
 mod Leaving
 mod WatchedLemmas
 mod WatchWindows
+mod KeptTurns

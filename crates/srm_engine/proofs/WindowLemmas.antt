@@ -309,10 +309,11 @@ module _ {M : Type 0} (f : M → Record) (e : WindowEngine M) (is : IsUnderWay f
           → begin < n
       later begin n at early is_next = grind (arith, one_more)
 
-      -- what keeps each member's rows so far, and takes in those of its cell, keeps them after the window
-      pub kept_after : {K : Type 0} (keeps : K → List Row → Type 0) (old new : List K) → KeepMembers keeps 0 old w.trace
-          → KeepEach keeps old (lists_of ds) new → KeepMembers keeps 0 new (w.trace ++ rows)
-      kept_after keeps old new h each = kept_goes_on keeps s w till fit reached within safe ran.results ran.alone rows merge_is old new h
+      -- what keeps each member's rows of some, and takes in those of its cell, keeps them after the window
+      pub kept_after : {K : Type 0} (keeps : K → List Row → Type 0) (before : List Row) (old new : List K) → KeepMembers keeps 0 old before
+          → KeepEach keeps old (lists_of ds) new → KeepMembers keeps 0 new (before ++ rows)
+      kept_after keeps before old new h each =
+          kept_goes_on keeps s w till fit reached within safe ran.results ran.alone rows merge_is before old new h
           (subst (λ l. KeepEach keeps old l new) ran.rows each)
 
       pub counted_after : (seat : SeatView) → HasGrown (counted_in (crossings s.traffic (rows_of ds))) e.seat seat

@@ -1,17 +1,28 @@
 -- What is seen of the engine in windows that keeps what a watch keeps, and what its calls tell.
-use Rattle.std.specs.Prelude.{◌≡◌, ℕ, List, [], ◌∷◌, ◌++◌, Result, MatchResult}
+use Rattle.std.specs.Prelude.{◌≡◌, ℕ, List, [], ◌∷◌, ◌++◌, IsSorted, Result, Ok, Err, MatchResult}
 use Rattle.srm_member.specs.declared.row.Row.{Row}
 use Rattle.srm_member.specs.Record.{Record}
 use Rattle.srm_cell.specs.Jobs as cell
-use Rattle.srm_model.specs.World.{World, IsLast}
+use Rattle.srm_model.specs.World.{World, IsLast, row_cmp}
 use Rattle.srm_model.specs.WindowRuns.{jobs_of}
 use Rattle.srm_model.specs.WindowChains.{window_jobs}
 use Rattle.srm_engine.specs.declared.watch_engine.WatchEngine.{WatchEngine}
+use Rattle.srm_engine.specs.declared.halt.Halt.{Halt}
+use Rattle.srm_engine.specs.declared.halt.Halt.TheVariants as halt
 use Rattle.srm_engine.specs.declared.window_fault.WindowFault.{WindowFault}
+use Rattle.srm_engine.specs.declared.window_fault.WindowFault.TheVariants.{NoMemory}
 use Rattle.srm_engine.specs.Groups.{all_in, sizes}
 use Rattle.srm_interfaces.specs.Watches.{KeepMembers}
 use Rattle.srm_engine.specs.WindowEngines.{ComesTo, IsUnderWay, OpensAt, setting_by, rule_by}
 use Rattle.srm_engine.specs.Windowed.{MayCome, MayRefuseWindow}
+
+-- what is told where a sink is handed what is kept of these rows: it took them, or no more than a front; or memory was
+-- refused before, and it is as it was
+abbrev pub HandsKept : {A S : Type 0} → (S → List Row → S → Type 0) → (S → List Row → S → Type 0) → List Row → S
+    → Result A (Halt WindowFault) → S → Type 0
+HandsKept took part rows old (Ok v) new = took old rows new
+HandsKept took part rows old (Err (halt.Run e)) new = (e ≡ NoMemory) × (new ≡ old)
+HandsKept took part rows old (Err (halt.Sink e)) new = part old rows new
 
 module _ {M K : Type 0} where
   -- all that is kept, group after group
@@ -29,13 +40,14 @@ module _ {M K : Type 0} where
 
   module _ {C : Type 0} (handed : C → List (List cell.PlainJob) → C → Type 0) (f : M → Record)
       (keeps : K → List Row → Type 0) where
-    -- what one window tells: one window more, for which the crew was handed its jobs, and whose rows are kept with
-    -- those before; or why it is refused
+    -- what one window tells: one window more, for which the crew was handed its jobs, and whose rows, in order of their
+    -- keys, are kept with those before, of whichever rows; or why it is refused
     abbrev pub TellsWatched : WatchEngine M K → C → Result (WatchEngine M K) WindowFault → C → Type 0
     TellsWatched e old r new =
         (seed : ℕ) (begins : List World) (w : World) → ComesTo f seed e.engine begins w
         → MatchResult r (λ v. ((u : World) × ComesTo f seed v.engine (begins ++ w ∷ []) u
-        × (KeepsRows keeps e w.trace → KeepsRows keeps v u.trace))
+        × ((rows : List Row) × (u.trace ≡ w.trace ++ rows) × IsSorted row_cmp rows
+        × ((before : List Row) → KeepsRows keeps e before → KeepsRows keeps v (before ++ rows))))
         × handed old (jobs_of e.engine.groups.cut (rule_by e.engine seed w) w ∷ []) new)
         (MayRefuseWindow (setting_by e.engine seed) (rule_by e.engine seed w) e.engine.groups.cut w)
 

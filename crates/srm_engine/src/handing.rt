@@ -1,16 +1,22 @@
-//! Rows, handed to a sink: those of a window, and none, by which a run begins.
-ghost use Rattle.std.specs.Prelude.{◌≡◌, ◌<◌, ◌+◌, ◌-◌, ◌^◌, [], All, IsSorted, MatchResult};
+//! Rows, handed to a sink: those of a window, or what is kept of them, and none, by which a run begins.
+ghost use Rattle.std.specs.Prelude.{◌≡◌, ◌<◌, ◌+◌, ◌-◌, ◌^◌, [], List, All, IsSorted, MatchResult};
+ghost use Rattle.srm_member.specs.declared.row.Row.{Row as OneRow};
 ghost use Rattle.srm_cell.specs.Crossings.{joined};
 ghost use Rattle.srm_model.specs.World.{row_cmp};
 ghost use Rattle.srm_model.specs.WindowRuns.{StandAlike};
 ghost use Rattle.srm_interfaces.specs.declared.sink.Stage.{Stage as AStage};
 ghost use Rattle.srm_interfaces.specs.Sinks.{IsOpen, stage_after, stops_in};
+ghost use Rattle.srm_interfaces.specs.InTurn.{KeepInTurn};
+ghost use Rattle.srm_engine.specs.Groups.{all_in};
 ghost use Rattle.srm_engine.specs.Streams.{sink_in};
 ghost use Rattle.srm_engine.specs.WindowEngines.{HandsLists, lists_in};
+ghost use Rattle.srm_engine.specs.WatchEngines.{HandsKept};
 
 use crate::halt::Halt;
 use crate::merge::merge;
+use crate::watched_groups::in_one;
 use crate::window_fault::WindowFault;
+use srm_interfaces::kept_sink::KeptSink;
 use srm_interfaces::sink::{RowSink, SinkFault, Stage};
 use srm_member::row::Row;
 use std::alloc::Global;
@@ -74,4 +80,27 @@ fn hand_each<S: RowSink>(alloc: Global, sink: &mut S, lists: Vec<Vec<Row>>) -> R
         }
     }
     Ok(())
+}
+
+/// Hands a sink what is kept of the rows of a window, of the members of each group.
+pub(crate) fn hand_kept<K: Drop, S: KeptSink<K>>(
+    alloc: Global,
+    sink: &mut S,
+    kept: Vec<Vec<K>>,
+) -> Result<(), Halt<WindowFault>>
+    requires live { S.stage sink.old ≡ Stage.Live }
+    requires failures { S.failures sink.old < 2 ^ 64 - 1 }
+    ensures device { S.same sink.old sink.new }
+    ensures stage { S.stage sink.new ≡ stage_after (sink_in result) }
+    ensures failures { S.failures sink.new ≡ S.failures sink.old + stops_in (sink_in result) }
+    ensures rows { (rows : List OneRow) → KeepInTurn S.keeps (all_in kept.items) rows
+        → HandsKept S.took S.part rows sink.old result sink.new }
+{
+    let Ok(all) = in_one(alloc, kept) else {
+        return Err(Halt::Run(WindowFault::NoMemory));
+    };
+    match sink.kept(alloc, all.as_slice()) {
+        Ok(()) => Ok(()),
+        Err(fault) => Err(Halt::Sink(fault)),
+    }
 }

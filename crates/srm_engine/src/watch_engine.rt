@@ -1,16 +1,25 @@
 //! The engine in windows that keeps no rows, but what a watch keeps of them.
-ghost use Rattle.std.specs.Prelude.{◌≡◌, ◌<◌, [], ℕ, IfOk};
+ghost use Rattle.std.specs.Prelude.{◌≡◌, ◌<◌, ◌+◌, ◌-◌, ◌^◌, [], ℕ, List, IfOk};
+ghost use Rattle.srm_member.specs.declared.row.Row.{Row as OneRow};
+ghost use Rattle.srm_interfaces.specs.declared.sink.Stage.{Stage as AStage};
+ghost use Rattle.srm_interfaces.specs.Sinks.{IsOpen, stage_after, stops_in};
+ghost use Rattle.srm_interfaces.specs.InTurn.{KeepInTurn};
+ghost use Rattle.srm_engine.specs.Streams.{sink_in};
 ghost use Rattle.srm_engine.specs.Starts.{BeginsWith};
 ghost use Rattle.srm_engine.specs.Ends.{MayCut};
-ghost use Rattle.srm_engine.specs.WindowEngines.{frame_of, OpensAt, BeginsNext};
-ghost use Rattle.srm_engine.specs.WatchEngines.{IsWatching, KeepsRows, TellsWatched, TellsAllWatched};
+ghost use Rattle.srm_engine.specs.WindowEngines.{frame_of, IsUnderWay, OpensAt, BeginsNext, TellsWindows};
+ghost use Rattle.srm_engine.specs.WatchEngines.{IsWatching, KeepsRows, HandsKept, TellsWatched, TellsAllWatched, kept_by};
 
 use crate::cutting::Cutting;
 use crate::groups::Groups;
+use crate::halt::Halt;
+use crate::handing::{hand_kept, hand_none};
 use crate::start::Start;
 use crate::watched_groups::{none_of_each, taken_apart, watched_jobs};
 use crate::window_engine::WindowEngine;
 use crate::window_fault::WindowFault;
+use srm_interfaces::kept_sink::KeptSink;
+use srm_interfaces::sink::Stage;
 use srm_interfaces::watch::Watch;
 use srm_interfaces::watch_crew::WatchCrew;
 use srm_member::participant::Participant;
@@ -121,5 +130,82 @@ impl<'a, M: Participant, K: Drop> WatchEngine<'a, M, K> {
             ran = next;
         }
         Ok(ran)
+    }
+
+    // Hands a sink what is kept, which is of the rows of a window. What is kept then is of no row.
+    fn handed_on<W: Watch<K>, S: KeptSink<K>>(
+        self,
+        alloc: Global,
+        watch: &W,
+        sink: &mut S,
+    ) -> Result<WatchEngine<'a, M, K>, Halt<WindowFault>>
+        requires stands { IsWatching M.plain self }
+        requires live { S.stage sink.old ≡ AStage.Live }
+        requires failures { S.failures sink.old < 2 ^ 64 - 1 }
+        ensures engine { IfOk result (λ e. e.engine ≡ self.entry.engine) }
+        ensures stands { IfOk result (λ e. IsWatching M.plain e) }
+        ensures none { IfOk result (λ e. KeepsRows (W.keeps watch.now) e []) }
+        ensures device { S.same sink.old sink.new }
+        ensures stage { S.stage sink.new ≡ stage_after (sink_in result) }
+        ensures failures { S.failures sink.new ≡ S.failures sink.old + stops_in (sink_in result) }
+        ensures rows { (rows : List OneRow) → KeepInTurn S.keeps (kept_by self.entry) rows
+            → HandsKept S.took S.part rows sink.old result sink.new }
+    {
+        let WatchEngine { engine, kept } = self;
+        let Ok(none) = none_of_each(alloc, watch, engine.groups.groups.as_slice()) else {
+            return Err(Halt::Run(WindowFault::NoMemory));
+        };
+        match hand_kept(alloc, sink, kept) {
+            Ok(()) => Ok(WatchEngine { engine, kept: none }),
+            Err(halt) => Err(halt),
+        }
+    }
+
+    /// Windows, one after the other, until nothing is pending before the end of the run. A sink is handed first no row, and then
+    /// what is kept of the rows of each window as it ends: each begins with what is kept of none.
+    pub(crate) fn stream<W: Watch<K> + Copy, C: WatchCrew<M, K, W>, S: KeptSink<K>>(
+        self,
+        alloc: Global,
+        crew: &mut C,
+        watch: W,
+        sink: &mut S,
+    ) -> Result<WindowEngine<'a, M>, Halt<WindowFault>>
+        requires ready { C.ready crew.old }
+        requires serves { C.serves crew.old self.engine.session.scenario.now self.engine.session.net.now }
+        requires stands { IsWatching M.plain self }
+        requires none { KeepsRows (W.keeps watch) self [] }
+        requires keeps { (k : K) (rows : List OneRow) → W.keeps watch k rows → S.keeps k rows }
+        requires open { IsOpen (S.stage sink.old) }
+        requires failures { S.failures sink.old < 2 ^ 64 - 1 }
+        ensures ready { C.ready crew.new }
+        ensures serves { C.serves crew.new self.entry.engine.session.scenario.now self.entry.engine.session.net.now }
+        ensures stands { IfOk result (λ e. IsUnderWay M.plain e) }
+        ensures frame { IfOk result (λ e. frame_of e ≡ frame_of self.entry.engine) }
+        ensures device { S.same sink.old sink.new }
+        ensures stage { S.stage sink.new ≡ stage_after (sink_in result) }
+        ensures failures { S.failures sink.new ≡ S.failures sink.old + stops_in (sink_in result) }
+        ensures windows { TellsWindows C.handed S.took S.part M.plain self.entry.engine crew.old
+            sink.old result sink.new crew.new }
+    {
+        if let Err(fault) = hand_none(alloc, sink) {
+            return Err(Halt::Sink(fault));
+        }
+        let until = self.engine.session.scenario.until();
+        let mut ran = self;
+        let mut begin = ran.engine.begin();
+        while begin < until {
+            let ended = match ran.window(alloc, crew, watch, begin) {
+                Ok(ended) => ended,
+                Err(fault) => return Err(Halt::Run(fault)),
+            };
+            let next = match ended.handed_on(alloc, &watch, sink) {
+                Ok(next) => next,
+                Err(halt) => return Err(halt),
+            };
+            begin = next.engine.begin();
+            ran = next;
+        }
+        let WatchEngine { engine, .. } = ran;
+        Ok(engine)
     }
 }

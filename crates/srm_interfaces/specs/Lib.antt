@@ -3,3 +3,4 @@ pub mod Crews
 pub mod Hearers
 pub mod Sinks
 pub mod Watches
+pub mod InTurn

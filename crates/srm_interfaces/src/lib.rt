@@ -3,6 +3,7 @@
 
 pub mod crew;
 pub mod fault;
+pub mod kept_sink;
 pub mod sink;
 pub mod watch;
 pub mod watch_crew;

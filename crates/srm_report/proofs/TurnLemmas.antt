@@ -21,6 +21,7 @@ use Rattle.srm_member.specs.ByMember.{rows_of_member, AreAlike}
 use Rattle.srm_member.proofs.ByMemberLemmas.{alike_first, alike_none}
 use Rattle.srm_cell.specs.Crossings.{joined}
 use Rattle.srm_interfaces.specs.Watches.{KeepMembers}
+use Rattle.srm_interfaces.specs.InTurn.{HasTurn}
 use Rattle.srm_model.specs.Laws.{by_member}
 use Rattle.srm_model.specs.World.{row_cmp}
 use Rattle.srm_model.proofs.Merge.{same, no_same, after_all, one_self, count-sum_by}
@@ -28,7 +29,7 @@ use Rattle.srm_model.proofs.StandAlike.{listed_alike}
 use Rattle.srm_model.proofs.SortedRows.{sorted_rises, rows_rise}
 use Rattle.srm_net.proofs.Basics.{one_if}
 use Rattle.srm_report.specs.Listings.{Form, lines_in}
-use Rattle.srm_report.specs.KeptLines.{turn_at, turn_of, turns_from, lines_of, HasTurn, AreLinesOf}
+use Rattle.srm_report.specs.KeptLines.{turn_at, turn_of, turns_from, lines_of, AreLinesOf}
 
 -- ---- a list has one order
 
@@ -149,10 +150,9 @@ lists_are f rows m [] h = refl
 lists_are f rows m (l ∷ lists) h = λ i. h.0 i ∷ lists_are f rows (suc m) lists h.1 i
 
 -- sorted, the turns of all members' lines are those of rows whose keys rise
-pub sorted_turns : (f : Form) (rows : List Row) (lists : List (List (ℕ × List ℕ))) (turns sorted : List ℕ) → AreLinesOf f rows lists
-    → IsSorted row_cmp rows → turns ≡ turns_from 0 lists → IsPermutation turns sorted → IsSorted nat_cmp sorted
+pub sorted_turns : (f : Form) (rows : List Row) (lists : List (List (ℕ × List ℕ))) (turns sorted : List ℕ) → AreLinesOf f rows lists → turns ≡ turns_from 0 lists → IsPermutation turns sorted → IsSorted nat_cmp sorted
     → sorted ≡ map turn_of rows
-sorted_turns f rows lists turns sorted are rise is perm in_order =
+sorted_turns f rows lists turns sorted are is perm in_order =
     let n = length lists in
     let listed : turns ≡ map turn_of (joined (by_member 0 n rows)) =
     is ∙ ap (turns_from 0) (lists_are f rows 0 lists are.are) ∙ all_turns f n 0 rows in
@@ -163,7 +163,7 @@ sorted_turns f rows lists turns sorted are rise is perm in_order =
     (by_member 0 n rows)) rows alike)))
     (subst (λ l. IsPermutation l sorted) listed perm) in
     one_sorted nat_cmp nat_cmp_total number_ties sorted (map turn_of rows) in_order
-    (turns_rise n are.few rows are.turns (rows_rise rows rise)) moved
+    (turns_rise n are.few rows are.turns (rows_rise rows are.in_order)) moved
 
 -- ---- the next turn
 

@@ -1,8 +1,8 @@
 -- Lines of rows, kept member by member.
 use Rattle.std.specs.Prelude.{ℕ, zero, suc, ◌+◌, ◌*◌, ◌^◌, ◌<◌, List, [], ◌∷◌, ◌++◌, ◌≡◌, ◌≤◌, ◌-◌, take, drop}
-use Rattle.std.specs.Prelude.{map, length, All, nat_lt, cond}
+use Rattle.std.specs.Prelude.{map, nat_lt, cond}
 use Rattle.srm_member.specs.declared.row.Row.{Row}
-use Rattle.srm_interfaces.specs.Watches.{KeepMembers}
+use Rattle.srm_interfaces.specs.InTurn.{KeepInTurn}
 use Rattle.srm_report.specs.Listings.{Form}
 use Rattle.srm_report.specs.declared.lines.LineEnd.{LineEnd}
 
@@ -41,13 +41,6 @@ abbrev pub turns_from : ℕ → List (List (ℕ × List ℕ)) → List ℕ
 turns_from m [] = []
 turns_from m (l ∷ ls) = map (λ (x : ℕ × List ℕ). turn_at m x.0) l ++ turns_from (suc m) ls
 
--- the row has a turn among so many members
-pub record HasTurn (members : ℕ) (r : Row) : Type 0 where
-  pub member : r.key.member < members
-  pub time : r.key.time < 2 ^ 48
-
--- these are the lines of all members, of these rows: member m's are those of its rows
-pub record AreLinesOf (f : Form) (rows : List Row) (lists : List (List (ℕ × List ℕ))) : Type 0 where
-  pub few : length lists ≤ 2 ^ 16
-  pub turns : All (HasTurn (length lists)) rows
-  pub are : KeepMembers (λ l own. l ≡ lines_of f own) 0 lists rows
+-- these are the lines of all members, of these rows, which stand in order: member m's are those of its rows
+abbrev pub AreLinesOf : Form → List Row → List (List (ℕ × List ℕ)) → Type 0
+AreLinesOf f rows lists = KeepInTurn (λ l own. l ≡ lines_of f own) lists rows

@@ -1,7 +1,6 @@
 //! The lines of all members, put in order.
-ghost use Rattle.std.specs.Prelude.{◌≡◌, ◌++◌, ◌<◌, ◌≤◌, ◌^◌, List, map, length, IsSorted, IfOk, OnOk};
+ghost use Rattle.std.specs.Prelude.{◌≡◌, ◌++◌, ◌<◌, ◌≤◌, ◌^◌, List, map, length, IfOk, OnOk};
 ghost use Rattle.srm_member.specs.declared.row.Row.{Row as R};
-ghost use Rattle.srm_model.specs.World.{row_cmp};
 ghost use Rattle.srm_report.specs.Listings.{Form, lines_in};
 ghost use Rattle.srm_report.specs.KeptLines.{AreLinesOf, turn_of, turn_at, turns_from};
 
@@ -14,7 +13,7 @@ use std::alloc::{AllocError, Global};
 /// # Errors
 /// [`AllocError`].
 pub fn put_in_order(alloc: Global, lists: &[Lines]) -> Result<Vec<u8>, AllocError>
-    ensures { (f : Form) (rows : List R) → AreLinesOf f rows lists.now → IsSorted row_cmp rows
+    ensures { (f : Form) (rows : List R) → AreLinesOf f rows lists.now
         → IfOk result (λ text. text.items ≡ lines_in f rows) }
 {
     let mut turns = turns(alloc, lists)?;

@@ -27,11 +27,8 @@ impl<L: Listing> Watch<Lines> for KeepLines<L> {
 
     fn add(&self, kept: &mut Lines, rows: &[Row]) -> Result<(), AllocError> {
         let mut lines = replace(kept, Lines::new(self.alloc));
-        let mut line = Vec::new(self.alloc);
         for row in rows {
-            line.clear();
-            L::put_line(&mut line, row)?;
-            lines = lines.put(row.key.time, line.as_slice())?;
+            lines = lines.put::<L>(row)?;
         }
         *kept = lines;
         Ok(())

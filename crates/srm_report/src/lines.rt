@@ -3,6 +3,8 @@ ghost use Rattle.std.specs.Prelude.{◌≡◌, ◌<◌, ◌≤◌, ◌++◌, ◌
 ghost use Rattle.std.proofs.Math.ListN.{get_or};
 ghost use Rattle.srm_report.specs.KeptLines.{start_at};
 
+use crate::listing::Listing;
+use srm_member::row::Row;
 use std::alloc::{AllocError, Global};
 use std::marker::Model;
 
@@ -52,17 +54,19 @@ impl Lines {
         }
     }
 
-    /// The lines, and behind them one more.
+    /// The lines, and behind them those of a row in a table.
     ///
     /// # Errors
     /// [`AllocError`]: the lines are gone.
-    pub fn put(self, time: u64, line: &[u8]) -> Result<Lines, AllocError>
-        ensures { IfOk result (λ lines. lines ≡ self ++ (time, line.now) ∷ []) }
+    pub fn put<L: Listing>(self, row: &Row) -> Result<Lines, AllocError>
+        ensures { IfOk result (λ lines. lines ≡ self ++ (row.now.key.time, L.form.line row.now) ∷ []) }
     {
         let Lines { mut ends, mut text } = self;
-        text.extend_from_slice(line)?;
-        let end = text.len();
-        ends.push(LineEnd { time, end })?;
+        L::put_line(&mut text, row)?;
+        ends.push(LineEnd {
+            time: row.key.time,
+            end: text.len(),
+        })?;
         Ok(Lines { ends, text })
     }
 

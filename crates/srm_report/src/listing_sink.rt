@@ -1,7 +1,6 @@
 //! A table that lists rows, written as they come.
-ghost use Rattle.std.specs.Prelude.{◌≡◌, ◌<◌, ◌+◌, ◌-◌, ◌^◌, ◌≤◌, ◌==◌, ◌||◌, List, [], false, is_ok, not, if◌then◌else◌, length, IfOk, IsSorted};
+ghost use Rattle.std.specs.Prelude.{◌≡◌, ◌<◌, ◌+◌, ◌-◌, ◌^◌, ◌≤◌, ◌==◌, ◌||◌, List, [], false, is_ok, not, if◌then◌else◌, length, IfOk};
 ghost use Rattle.srm_member.specs.declared.row.Row.{Row as R};
-ghost use Rattle.srm_model.specs.World.{row_cmp};
 ghost use Rattle.srm_report.specs.KeptLines.{AreLinesOf};
 ghost use Rattle.srm_report.specs.Standings.{text_next, after_answer, TakesText};
 ghost use Rattle.srm_report.specs.Pieces.{joined_pieces};
@@ -15,6 +14,7 @@ use crate::outlet::{OutFault, Outlet};
 use crate::standing::Standing;
 use crate::text::Text;
 use crate::writing::{WriteFault, write_out};
+use srm_interfaces::kept_sink::KeptSink;
 use srm_interfaces::sink::{RowSink, SinkFault};
 use srm_member::row::Row;
 use std::alloc::Global;
@@ -63,7 +63,7 @@ fn text_of_lines<L: Listing>(
     standing: Standing,
     kept: &[Lines],
 ) -> Result<Vec<u8>, ReportFault>
-    ensures { (rows : List R) → AreLinesOf L.form rows kept.now → IsSorted row_cmp rows
+    ensures { (rows : List R) → AreLinesOf L.form rows kept.now
         → IfOk result (λ text. text.items ≡ text_next L.form standing rows) }
 {
     let lines = put_in_order(alloc, kept)?;
@@ -168,28 +168,6 @@ impl<'a, L: Listing, O: Outlet> ListingSink<'a, L, O> {
         }
     }
 
-    /// Writes the lines of the rows that come next after those before, as `rows` does, where these are the lines of all members, in
-    /// order of the members: each in the order of its rows. Whatever the rows are, their keys rise.
-    ///
-    /// # Errors
-    /// As of `rows`.
-    pub fn lines(&mut self, alloc: Global, kept: &[Lines]) -> Result<(), SinkFault>
-        requires open { IsOpen (stage_of self.old) }
-        requires failures { O.failures (outlet_under self.old) < 2 ^ 64 - 1 }
-        ensures same { AreOverOne self.old self.new }
-        ensures stage { stage_of self.new ≡ stage_after result }
-        ensures failures { O.failures (outlet_under self.new) ≡ O.failures (outlet_under self.old) + stops_in result }
-        ensures rows { (rows : List R) → AreLinesOf L.form rows kept.now → IsSorted row_cmp rows
-            → MatchResult result (λ _. PutsRows O.taken L.form self.old rows self.new)
-            (λ _. PutsPart O.taken L.form self.old rows self.new) }
-        ensures left { LeavesOutlet self.old result self.new }
-    {
-        let answer = self.put_lines(alloc, kept);
-        self.has_begun = true;
-        self.standing = standing_after(&answer);
-        answer
-    }
-
     /// Writes what is gathered.
     ///
     /// # Errors
@@ -261,7 +239,7 @@ impl<'a, L: Listing, O: Outlet> ListingSink<'a, L, O> {
         ensures outlet { AreOverOne self.old self.new }
         ensures standing { StandsAsBefore self.old self.new }
         ensures failures { O.failures (outlet_under self.new) ≡ O.failures (outlet_under self.old) + stops_in result }
-        ensures text { (rows : List R) → AreLinesOf L.form rows kept.now → IsSorted row_cmp rows
+        ensures text { (rows : List R) → AreLinesOf L.form rows kept.now
             → PutsText O.taken self.old (text_next L.form (standing_of self.old) rows) result self.new }
         ensures told { stage_at (after_answer result) (written_by self.new) ≡ stage_after result }
         ensures left { LeavesOutlet self.old result self.new }
@@ -401,6 +379,34 @@ impl<'a, L: Listing, O: Outlet> RowSink for ListingSink<'a, L, O> {
         let has_rows = !rows.is_empty();
         let answer = self.put_rows(alloc, rows);
         self.has_begun = self.has_begun || has_rows;
+        self.standing = standing_after(&answer);
+        answer
+    }
+}
+
+impl<'a, L: Listing, O: Outlet> KeptSink<Lines> for ListingSink<'a, L, O> {
+    ghost use Rattle.std.specs.Prelude.{MatchResult};
+    ghost use Rattle.srm_interfaces.specs.InTurn.{KeepInTurn};
+    ghost use Rattle.srm_interfaces.specs.Sinks.{IsOpen, stage_after, stops_in};
+    ghost use Rattle.srm_report.specs.KeptLines.{lines_of};
+    ghost use Rattle.srm_report.specs.ListingSinks.{stage_of, outlet_under, AreOverOne, LeavesOutlet, PutsRows, PutsPart};
+
+    ghost keeps = { λ k rows. k ≡ lines_of L.form rows };
+
+    /// Writes the lines of the rows that come next after those before, as `rows` does, of the lines of each member.
+    fn kept(&mut self, alloc: Global, kept: &[Lines]) -> Result<(), SinkFault>
+        requires open { IsOpen (stage_of self.old) }
+        requires failures { O.failures (outlet_under self.old) < 2 ^ 64 - 1 }
+        ensures same { AreOverOne self.old self.new }
+        ensures stage { stage_of self.new ≡ stage_after result }
+        ensures failures { O.failures (outlet_under self.new) ≡ O.failures (outlet_under self.old) + stops_in result }
+        ensures rows { (rows : List R) → AreLinesOf L.form rows kept.now
+            → MatchResult result (λ _. PutsRows O.taken L.form self.old rows self.new)
+            (λ _. PutsPart O.taken L.form self.old rows self.new) }
+        ensures left { LeavesOutlet self.old result self.new }
+    {
+        let answer = self.put_lines(alloc, kept);
+        self.has_begun = true;
         self.standing = standing_after(&answer);
         answer
     }

@@ -1,4 +1,4 @@
-use Rattle.std.proofs.Common.{◌≡◌, ◌∙◌, ◌++◌, ◌∷◌, [], sym, ap, subst, arith, length}
+use Rattle.std.proofs.Common.{◌≡◌, ◌∙◌, ◌++◌, ◌∷◌, [], refl, sym, ap, subst, arith, length}
 use Rattle.std.proofs.lemmas.List.{length-map}
 use Rattle.std.specs.List.{range_with_len}
 use Rattle.std.specs.Global.{Vec}
@@ -144,10 +144,15 @@ returns-clause-window g c = λ seed begins w comes.
               (in_order ∙ heard_as f e k seed begins w comes till at ds ran rows merge.all) heard;
           counted = counted_after f e k seed begins w comes till at ds ran rows (merge.all, merge.in_order) c.in-Ok.done.1 done.2;
         },
-        λ so_far.
-            subst (λ l. KeepMembers keeps 0 (all_in l) (w.trace ++ rows)) (sym c.in_ok-groups.ensures.kept)
-            (kept_after f e k seed begins w comes till at ds ran rows (merge.all, merge.in_order) keeps (kept_by c.args.self) _
-            so_far left.kept),
+        (
+          rows,
+          refl,
+          merge.in_order,
+          λ before so_far.
+              subst (λ l. KeepMembers keeps 0 (all_in l) (before ++ rows)) (sym c.in_ok-groups.ensures.kept)
+              (kept_after f e k seed begins w comes till at ds ran rows (merge.all, merge.in_order) keeps before (kept_by c.args.self) _
+              so_far left.kept),
+        ),
       ),
       subst (λ n. g.C.WatchCrew.handed c.args.crew.now (jobs_of cut n w ∷ []) c.heard_from.new.crew)
           (end_is f e k seed begins w comes till at)

@@ -81,7 +81,7 @@ loop-begin-preserved g c = record {
         i.0 ++ i.1 ∷ [],
         told.0.0,
         told.0.1,
-        told.0.2 i.3,
+        subst (KeepsRows (g.W.Watch.keeps c.args.watch) c.in-Ok.next) (sym told.0.2.1) (told.0.2.3 i.1.trace i.3),
         subst (λ (k : Session × ℕ × Ends). g.C.WatchCrew.handed c.args.crew.now
             (window_jobs (ends_rule (setting_on k.0 seed) k.2) k.1 (i.0 ++ i.1 ∷ [])) c.window.new.crew) (sym c.in-Ok.ensures.frame)
             calls,

@@ -1,4 +1,4 @@
-use Rattle.std.proofs.Common.{◌≡◌, ◌∙◌, ◌<◌, ◌++◌, ap, append-nil, sym, length, take, arith}
+use Rattle.std.proofs.Common.{◌≡◌, ◌∙◌, ◌<◌, ◌++◌, refl, ap, append-nil, sym, length, take, arith}
 use Rattle.std.proofs.Math.Seq.{take-length}
 use Rattle.srm_report.specs.KeptLines.{lines_of}
 use Rattle.srm_report.proofs.ListingLemmas.{kept-more}
@@ -10,11 +10,8 @@ loop-row-init g c before was = c.replace-lines.ensures.value ∙ was ∙ ap (lin
 pub loop-row-preserved : goal.loop-row-preserved
 loop-row-preserved g c before was =
     let lt : c.loop-row.row-index < length c.args.rows.now = c.loop-row-test.true in
-    let none = c.clear.ensures.items in
     kept-more g.L.Listing.form before c.args.rows.now c.loop-row.row-index c.row-item.result _ _ _ lt c.row-item.is
-    (c.loop-row.invariant before was)
-    (c.as_slice.ensures.value ∙ c.in_ok-put_line.ensures ∙ ap (λ l. l ++ g.L.Listing.form.line c.row-item.result) none)
-    c.in_ok-lines.ensures
+    (c.loop-row.invariant before was) refl c.in_ok-lines.ensures
 
 pub returns : goal.returns
 returns g c before was =

@@ -1,5 +1,0 @@
-use Rattle.srm_engine.proofs.KeptLemmas.{kept_of_window as the_law}
-use Rattle.srm_engine.proofs.kept_laws.kept_of_window.Goals as goal
-
-pub returns : goal.returns
-returns g c = the_law (g.W.Watch.keeps c.args.watch.now)

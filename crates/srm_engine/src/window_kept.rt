@@ -1,0 +1,75 @@
+//! The run in windows whose rows stay where they were made, and what is kept of them is handed on.
+ghost use Rattle.std.specs.Prelude.{◌≡◌, ◌<◌, ◌+◌, ◌-◌, ◌^◌, List};
+ghost use Rattle.srm_member.specs.declared.row.Row.{Row as OneRow};
+ghost use Rattle.srm_engine.specs.Starts.{InRunsOf};
+ghost use Rattle.srm_interfaces.specs.Sinks.{IsOpen};
+ghost use Rattle.srm_engine.specs.Streams.{StandsAs, stopped_in};
+ghost use Rattle.srm_engine.specs.WindowStreams.{IsLeft, TellsStreamAsked, CallsInWindows, RefusedInWindows};
+ghost use Rattle.srm_engine.specs.RowRuns.{TellsTotals, MayLackWindow, TellsUndone};
+
+use crate::cutting::Cutting;
+use crate::start::Start;
+use crate::stream_fault::StreamFault;
+use crate::watch_engine::WatchEngine;
+use crate::width::Windows;
+use srm_interfaces::kept_sink::KeptSink;
+use srm_interfaces::watch::Watch;
+use srm_interfaces::watch_crew::WatchCrew;
+use srm_ledger::totals::Totals;
+use srm_member::participant::Participant;
+use std::alloc::Global;
+use std::marker::Copy;
+
+/// The run of a scenario in windows of time, as [`window_rows`](crate::window_rows::window_rows), but no row leaves the worker that
+/// made it: the sink is handed, as each window ends, what the watch keeps of each member's rows of that window, in order of the
+/// members' numbers. What it took is the trace of the sequential run all the same.
+///
+/// # Errors
+/// As of [`window_rows`](crate::window_rows::window_rows), and `NoMemory` also where memory was refused to the watch.
+pub fn window_kept<
+    M: Participant,
+    K: Drop,
+    W: Watch<K> + Copy,
+    C: WatchCrew<M, K, W>,
+    S: KeptSink<K>,
+>(
+    alloc: Global,
+    start: Start<M>,
+    crew: &mut C,
+    asked: Windows,
+    watch: W,
+    sink: &mut S,
+) -> Result<Totals, StreamFault>
+    requires ready { C.ready crew.old }
+    requires serves { C.serves crew.old start.session.scenario.now start.session.net.now }
+    requires keeps { (k : K) (rows : List OneRow) → W.keeps watch k rows → S.keeps k rows }
+    requires open { IsOpen (S.stage sink.old) }
+    requires failures { S.failures sink.old < 2 ^ 64 - 1 }
+    ensures ready { C.ready crew.new }
+    ensures serves { C.serves crew.new start.entry.session.scenario.now start.entry.session.net.now }
+    ensures device { S.same sink.old sink.new }
+    ensures stands { StandsAs result (S.stage sink.new) }
+    ensures failures { S.failures sink.new ≡ S.failures sink.old + stopped_in result }
+    ensures asked { TellsStreamAsked start.entry.session.net.now asked result }
+    ensures left { IsLeft sink.old result sink.new }
+    ensures totals { InRunsOf start.entry (λ s. TellsTotals S.took S.part s sink.old result sink.new) }
+    ensures windows { InRunsOf start.entry (λ s. CallsInWindows C.handed s start.entry.session.net.now asked
+        crew.old result crew.new) }
+    ensures refused { InRunsOf start.entry (λ s. RefusedInWindows S.took S.part s start.entry.session.net.now asked
+        sink.old result sink.new) }
+    ensures undone { InRunsOf start.entry (λ s. TellsUndone S.stage S.took S.part
+        (MayLackWindow s start.entry.session.net.now asked) s sink.old result sink.new) }
+{
+    let cutting = match Cutting::of(start.session, asked) {
+        Ok(cutting) => cutting,
+        Err(fault) => return Err(fault.into()),
+    };
+    let engine = match WatchEngine::open(alloc, start, cutting, &watch) {
+        Ok(opened) => opened,
+        Err(error) => return Err(error.into()),
+    };
+    match engine.stream(alloc, crew, watch, sink) {
+        Ok(ran) => Ok(ran.into_totals()),
+        Err(halt) => Err(halt.into()),
+    }
+}
