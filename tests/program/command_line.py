@@ -385,12 +385,11 @@ class Crews(CommandLineCase):
                 if (crew, words) != ("team", NO_WORDS):
                     self.assertEqual(self.threads([*WINDOW, *LINKS, "--crew", crew, *words]), more)
 
-    def test_a_team_has_as_many_threads_again_for_the_text_of_rows(self) -> None:
-        for table, workers in itertools.product(("trace", "timers"), (1, 2, 7, 64)):
-            words = [*WINDOW, "--show", table, "--workers", str(workers), "--crew"]
+    def test_a_team_has_no_more_threads_for_one_table_than_for_another(self) -> None:
+        for table, workers in itertools.product(("trace", "members", "losses", "operations", "links", "timers"), (1, 2, 7, 64)):
+            words = [*WINDOW, "--show", table, "--workers", str(workers), "--crew", "team"]
             with self.subTest(words=words):
-                self.assertEqual(self.threads([*words, "team"]), 2 * (workers - 1))
-                self.assertEqual(self.threads([*words, "bag"]), workers - 1)
+                self.assertEqual(self.threads(words), workers - 1)
 
     def test_a_team_has_a_worker_for_each_processor(self) -> None:
         processors = os.sched_getaffinity(0)
@@ -403,27 +402,23 @@ class Crews(CommandLineCase):
 
     def test_a_team_starts_its_threads_once(self) -> None:
         words = [*WINDOW, "--crew", "team", "--workers", "3"]
-        self.assertEqual(self.threads([*words, *LINKS], chain(20, 1)), 2)
-        self.assertEqual(self.threads(words, chain(20, 1)), 4)
+        for table in (NO_WORDS, LINKS):
+            with self.subTest(table=table):
+                self.assertEqual(self.threads([*words, *table], chain(20, 1)), 2)
 
     def test_each_worker_of_a_team_works(self) -> None:
         """By the processor time of each thread, of which one that is handed nothing takes none."""
-        words = [*WINDOW, *LINKS, "--crew", "team", "--workers", "3"]
-        self.assertTrue(self.are_busy(words, star(1023, 625), 3))
-
-    def test_each_worker_of_a_team_makes_text(self) -> None:
-        """Besides those that work for the members, and the thread that leads."""
-        words = [*WINDOW, "--crew", "team", "--workers", "3"]
-        self.assertTrue(self.are_busy(words, star(1023, 625), 5))
+        for table in (NO_WORDS, LINKS):
+            with self.subTest(table=table):
+                self.assertTrue(self.are_busy([*WINDOW, *table, "--crew", "team", "--workers", "3"], star(1023, 625), 3))
 
     def test_the_threads_that_there_are_do_the_work_of_those_that_are_refused(self) -> None:
         """By the bytes, which are those of one event after the other, whichever thread is the first that is refused."""
         text = star(1023, 20)
-        tables = ((NO_WORDS, 6), (LINKS, 3))
-        for (table, of_team), crew in itertools.product(tables, ("team", "bag", "pool")):
+        for table, crew in itertools.product((NO_WORDS, LINKS), ("team", "bag", "pool")):
             wanted = End(0, self.program.written(table, text), b"")
             words = [*WINDOW, *table, "--crew", crew, "--workers", "4"]
-            for first in range(1, (of_team if crew == "team" else 3) + 1):
+            for first in range(1, 4):
                 with self.subTest(words=words, first=first):
                     self.assertEqual(self.program.run(words, text, env=library("refuse_threads").refusing(first)), wanted)
 

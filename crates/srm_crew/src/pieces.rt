@@ -27,6 +27,15 @@ pub(crate) fn due_in_all<T: HasDue>(jobs: &[T]) -> usize {
     due
 }
 
+/// How many cells there are in the groups.
+pub(crate) fn cells_in<M: Participant>(groups: &[Vec<Cell<M>>]) -> usize {
+    let mut cells: usize = 0;
+    for group in groups {
+        cells = cells.saturating_add(group.len());
+    }
+    cells
+}
+
 /// How many rows a call gave; none where it was refused.
 pub(crate) fn rows_given<M: Participant>(advanced: &Result<Vec<Done<M>>, CellFault>) -> usize {
     let Ok(all) = advanced else {

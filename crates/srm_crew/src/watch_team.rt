@@ -15,7 +15,8 @@ use crate::add::settle_watched;
 use crate::hearing::hear_groups;
 use crate::piece::Piece;
 use crate::pieces::{
-    advanced_of, due_in_all, even_pieces, heard_of, pieces_of, put_together, to_advance, to_hear,
+    advanced_of, cells_in, due_in_all, even_pieces, heard_of, pieces_of, put_together, to_advance,
+    to_hear,
 };
 use crate::team_crew::work_in_team;
 use crate::watching::{Watching, advance_watched};
@@ -39,7 +40,7 @@ use std::sync::Wait;
 
 /// Advances watched jobs on the threads of a team, which stay for the next call. It serves runs of one scenario, which it keeps
 /// with its network. What a call hands to the team is in no more pieces than it has room for. As it is written, the thread that
-/// calls does all the work where something is due in few cells: to wake the others would take longer.
+/// calls does all the work where something is due in few cells, or little is heard: to wake the others would take longer.
 #[derive(Drop)]
 pub struct WatchTeam<'a, R: Wait, M: Participant, K: Drop, W: Watch<K> + Copy, J: Naming> {
     rt: R,
@@ -47,6 +48,9 @@ pub struct WatchTeam<'a, R: Wait, M: Participant, K: Drop, W: Watch<K> + Copy, J
     work: Watching<'a, W>,
     few: usize,
 }
+
+// From so many hearings on, of a packet by a cell each, the team shares them.
+const ENOUGH: usize = 8_192;
 
 // Advances each job, in pieces that a team works on.
 fn advance_in_team<'a, R: Wait, M: Participant, K: Drop, W: Watch<K> + Copy, J: Naming>(
@@ -118,7 +122,8 @@ impl<'a, R: Wait, M: Participant, K: Drop, W: Watch<K> + Copy, J: Naming> WatchT
     J,
 > {
     /// A crew that has this team, and does this work. As it is written, the thread that calls does it where something is due in
-    /// fewer than `few` cells, or where the team has room for no item. It does not allocate.
+    /// fewer than `few` cells, where all cells together hear fewer than 8,192 packets, or where the team has room for no item. It
+    /// does not allocate.
     ///
     /// A call of it is refused with `NoMemory` also where its team is `Worn` or `Left`, and never for `TooMany`.
     pub fn new(
@@ -220,6 +225,9 @@ impl<'a, R: Wait, M: Participant, K: Drop, W: Watch<K> + Copy, J: Naming> WatchC
         ensures handed { (self.new.work ≡ self.old.work) × (self.new.team.room ≡ self.old.team.room)
             × (self.new.few ≡ self.old.few) }
     {
+        if sent.len().saturating_mul(cells_in(groups.as_slice())) < ENOUGH {
+            return hear_groups(alloc, scenario, net, sent.as_slice(), groups);
+        }
         let work = Watching {
             alloc: self.work.alloc,
             scenario: self.work.scenario,

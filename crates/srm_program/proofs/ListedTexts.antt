@@ -1,13 +1,15 @@
 -- What an outlet took of a table of rows that was written through a sink.
 use Rattle.std.proofs.Common.{◌≡◌, ◌∙◌, ℕ, List, [], ◌++◌, ◌+◌, ◌-◌, ◌^◌, ◌≤◌, min, length, Option, Result, Ok, Err, refl, sym, ap, subst}
-use Rattle.std.proofs.Common.{append-nil}
+use Rattle.std.proofs.Common.{append-nil, ◌<◌, IfOk}
 use Rattle.std.specs.Io.KnownBytes.{Appends, Keeps}
 use Rattle.srm_net.specs.Network.{Network}
 use Rattle.srm_scenario.specs.Plain.{PlainScenario}
 use Rattle.srm_member.specs.declared.row.Row.{Row}
 use Rattle.srm_cell.specs.Setting.{Setting, setting_of}
 use Rattle.srm_interfaces.specs.declared.sink.SinkFault.TheVariants as sink
+use Rattle.srm_interfaces.specs.declared.sink.Stage.{Stage}
 use Rattle.srm_interfaces.specs.declared.sink.Stage.TheVariants as stage
+use Rattle.srm_interfaces.specs.Sinks.{IsOpen}
 use Rattle.srm_model.specs.World.{World, IsReached, IsLast}
 use Rattle.srm_engine.specs.Streams as streams
 use Rattle.srm_report.specs.declared.standing.Standing.{Standing}
@@ -22,7 +24,7 @@ use Rattle.srm_report.specs.ListingSinks.{AreOverOne, PutsAll, PutsFront, PutsRo
 use Rattle.srm_report.specs.SinkLaws.{all_more, front_more}
 use Rattle.srm_program.specs.declared.fault.LabFault.{LabFault}
 use Rattle.srm_program.specs.declared.fault.LabFault.TheVariants.{BadCut, BadWidth, ShareFull, NoMemory, CountFull, WriteFault}
-use Rattle.srm_program.specs.Reports.{most_gathered, ByShow, TakesAllBut, TakesFront, TellsListing, TellsTable}
+use Rattle.srm_program.specs.Reports.{failures_after_run, most_gathered, ByShow, TakesAllBut, TakesFront, TellsListing, TellsTable}
 use Rattle.srm_program.specs.Runs.{MayBreakOff, StandsAfter, HandsRows, TellsRefusedFor, TellsRunFor}
 use Rattle.srm_options.specs.declared.options.Options.{Options}
 use Rattle.srm_options.specs.declared.options.Show.TheVariants.{Trace, Timers}
@@ -179,3 +181,14 @@ module _ {L O : Type 0} (taken : O → Option (List ℕ)) (form : Form) (a : Lis
           subst (λ (l : List Row). Appends (taken (outlet_under a)) (taken (outlet_under c)) (text_in form l)) all
               (all_taken b c rows at put empty rest),
         )
+
+-- ---- a sink that took all rows of a run
+
+pub stands_open : {T : Type 0} (r : Result T LabFault) (at : Stage) → StandsAfter r at → IfOk r (λ _. IsOpen at)
+stands_open (Ok v) at h = subst IsOpen (sym h) tt
+stands_open (Err f) at h = tt
+
+pub counts_on : {T : Type 0} (r : Result T LabFault) (old new : ℕ) → new ≡ failures_after_run r old → old < 2 ^ 64 - 1
+    → IfOk r (λ _. new < 2 ^ 64 - 1)
+counts_on (Ok v) old new e h = subst (λ n. n < 2 ^ 64 - 1) (sym e) h
+counts_on (Err f) old new e h = tt

@@ -1,20 +1,26 @@
 -- What is asked of a run, and what comes of it.
-use Rattle.std.specs.Prelude.{◌≡◌, ◌<◌, ◌-◌, ◌^◌, ℕ, List, Result}
+use Rattle.std.specs.Prelude.{◌≡◌, ◌<◌, ◌-◌, ◌^◌, ℕ, List, [], Result}
+use Rattle.std.specs.Global.{Vec}
 use Rattle.srm_net.specs.Network.{Network}
 use Rattle.srm_scenario.specs.Plain.{PlainScenario}
 use Rattle.srm_scenario.specs.declared.session.Session.{Session}
 use Rattle.srm_member.specs.Record.{Record}
+use Rattle.srm_member.specs.declared.row.Row.{Row}
 use Rattle.srm_cell.specs.Setting.{setting_of}
 use Rattle.srm_interfaces.specs.declared.crew.Crew as crew
 use Rattle.srm_interfaces.specs.declared.sink.RowSink as sink
 use Rattle.srm_report.specs.declared.outlet.Outlet as outlet
 use Rattle.srm_options.specs.declared.options.Show.{Show}
+use Rattle.srm_options.specs.declared.options.Engine.TheVariants.{Window}
 use Rattle.srm_report.specs.Listings.{Form, text_in}
+use Rattle.srm_report.specs.declared.listing_sink.ListingSink.{ListingSink}
+use Rattle.srm_report.specs.ListingSinks.{stage_of, gathered_by, gathering_room, written_by}
+use Rattle.srm_interfaces.specs.declared.sink.Stage.TheVariants.{Fresh}
 use Rattle.srm_engine.specs.Openings.{HoldOpeningRecords}
 use Rattle.srm_program.specs.declared.task.Task.{Task}
 use Rattle.srm_program.specs.declared.fault.LabFault.{LabFault}
-use Rattle.srm_program.specs.Reports.{failures_after_run, TellsListing, TellsTable}
-use Rattle.srm_program.specs.Runs.{MayBreakOff, StandsAfter, TellsRefusedFor, TellsRows, TellsRunFor}
+use Rattle.srm_program.specs.Reports.{failures_after_run, most_gathered, TellsListing, TellsTable}
+use Rattle.srm_program.specs.Runs.{KeepsRows, MayBreakOff, StandsAfter, TellsRefusedFor, TellsRows, TellsRunFor}
 
 -- this holds of a task's scenario on its network, for each seed whose opening records these are
 abbrev pub ForEachSeed : Task → List Record → (PlainScenario → Network → ℕ → Type 0) → Type 0
@@ -22,15 +28,23 @@ ForEachSeed task rs holds =
     (seed : ℕ) → HoldOpeningRecords task.session.scenario.now task.session.net.now seed rs
     → holds task.session.scenario.now task.session.net.now seed
 
--- a crew may lead the runs of a session
-pub record MayLead {C M : Type 0} (c : crew.Ghosts C M) (by : C) (of : Session) : Type 0 where
-  pub ready : c.ready by
-  pub serves : c.serves by of.scenario.now of.net.now
+-- a crew may lead the runs of a session, where this says that it may be called and what it serves
+pub record MayLead {C : Type 0} (ready : C → Type 0) (serves : C → PlainScenario → Network → Type 0) (by : C)
+    (of : Session) : Type 0 where
+  pub called : ready by
+  pub served : serves by of.scenario.now of.net.now
 
 -- the report of a session may be written: a crew may lead its runs, and one more failure of the outlet can be counted
 pub record MayReport {C M O : Type 0} (c : crew.Ghosts C M) (o : outlet.Ghosts O) (by : C) (of : Session) (to : O)
     : Type 0 where
-  pub lead : MayLead c by of
+  pub lead : MayLead c.ready c.serves by of
+  pub count : o.failures to < 2 ^ 64 - 1
+
+-- a table may be made of what a watch keeps: it is asked for, of a run in windows, and one more failure of the outlet
+-- can be counted
+pub record MayTabulate {O : Type 0} (o : outlet.Ghosts O) (table : Show) (task : Task) (to : O) : Type 0 where
+  pub engine : task.options.engine ≡ Window
+  pub shown : task.options.show ≡ table
   pub count : o.failures to < 2 ^ 64 - 1
 
 -- what comes of a task, of members with these records, whose rows are handed to a sink: how it stands, and what it took
@@ -40,6 +54,20 @@ pub record HandsOn {S : Type 0} (s : sink.Ghosts S) (task : Task) (rs : List Rec
   pub stands : StandsAfter r (s.stage new)
   pub failures : s.failures new ≡ failures_after_run r (s.failures old)
   pub rows : ForEachSeed task rs (λ p net seed. TellsRows s.took s.part p net seed task.options old r new)
+
+-- what comes of a task, of members with these records, of whose rows a watch keeps something: what is kept of each
+-- member and the totals, or the refusal
+pub record IsKept {K : Type 0} (keeps : K → List Row → Type 0) (task : Task) (rs : List Record)
+    (r : Result (Vec K × List ℕ) LabFault) : Type 0 where
+  pub kept : ForEachSeed task rs (λ p net seed. KeepsRows keeps (setting_of p net seed) r)
+  pub refused : ForEachSeed task rs (λ p net seed. TellsRefusedFor p net seed task.options r)
+
+-- a sink was handed nothing yet, and gathers as much as one of the program's does
+pub record IsFresh {L O : Type 0} (s : ListingSink L O) : Type 0 where
+  pub stage : stage_of s ≡ Fresh
+  pub gathered : gathered_by s ≡ []
+  pub room : gathering_room s ≡ most_gathered
+  pub written : written_by s ≡ 0
 
 module _ {O T : Type 0} (o : outlet.Ghosts O) where
   -- what comes of a table that is written at the end: how often its outlet failed, what it took, and the refusals

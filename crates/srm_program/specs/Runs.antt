@@ -1,11 +1,13 @@
 -- What a run is asked for, and what comes of it.
 use Rattle.std.specs.Prelude.{◌≡◌, ℕ, List, Option, Result, Ok, Err}
+use Rattle.std.specs.Global.{Vec}
 use Rattle.srm_net.specs.Network.{Network}
 use Rattle.srm_scenario.specs.Plain.{PlainScenario, network_of}
 use Rattle.srm_cell.specs.Setting.{Setting, setting_of}
 use Rattle.srm_member.specs.declared.row.Row.{Row}
 use Rattle.srm_member.specs.Record.{Record}
 use Rattle.srm_member.specs.declared.exit.Exit.{Exit}
+use Rattle.srm_engine.specs.declared.fault.RunFault.{RunFault}
 use Rattle.srm_engine.specs.declared.fault.RunFault.TheVariants as fault
 use Rattle.srm_engine.specs.declared.stream_fault.StreamFault.{StreamFault}
 use Rattle.srm_engine.specs.declared.stream_fault.StreamFault.TheVariants as stream
@@ -20,6 +22,7 @@ use Rattle.srm_model.specs.WindowChains.{AreWindows}
 use Rattle.srm_model.specs.WindowRuns.{jobs_of}
 use Rattle.srm_engine.specs.Outcomes.{HoldOpeningRecords}
 use Rattle.srm_engine.specs.Windowed.{IsCut, MayBeWide, MayCome, PassesShare, rule_of}
+use Rattle.srm_engine.specs.WindowWatches.{TellsKept}
 use Rattle.srm_report.specs.Listings.{Form, text_in}
 use Rattle.srm_program.specs.declared.fault.LabFault.{LabFault}
 use Rattle.srm_program.specs.declared.fault.LabFault.TheVariants.{BadCut, BadWidth, ShareFull, NoMemory, CountFull}
@@ -79,15 +82,30 @@ abbrev pub TellsRunFor : {T : Type 0} → PlainScenario → Network → ℕ → 
 TellsRunFor p net seed o old new r =
     TellsReport p net seed o old new r × TellsRefusedFor p net seed o r
 
--- ---- rows that are handed to a sink
+-- ---- rows of which a watch keeps something
 
 -- what a refusal of an engine is to the program
+abbrev pub fault_of_run : RunFault → LabFault
+fault_of_run fault.BadCut = BadCut
+fault_of_run fault.BadWidth = BadWidth
+fault_of_run fault.ShareFull = ShareFull
+fault_of_run fault.NoMemory = NoMemory
+fault_of_run fault.CountFull = CountFull
+
+-- what an engine tells that keeps of rows what a watch keeps: of each member what is kept of its rows of the sequential
+-- run, with that run's totals; or the refusal, of which CountFull says that the run meets a step for which the packet
+-- count is used up, and none is of an outlet
+abbrev pub KeepsRows : {K : Type 0} → (K → List Row → Type 0) → Setting → Result (Vec K × List ℕ) LabFault → Type 0
+KeepsRows keeps s (Ok v) = TellsKept keeps s (Ok v)
+KeepsRows keeps s (Err CountFull) = RunMeetsFull s
+KeepsRows keeps s (Err (WriteFault written)) = ⊥
+KeepsRows keeps s (Err f) = Unit {0}
+
+-- ---- rows that are handed to a sink
+
+-- what a refusal of an engine that hands rows to a sink is to the program
 abbrev pub fault_of_stream : StreamFault → LabFault
-fault_of_stream (stream.Run fault.BadCut) = BadCut
-fault_of_stream (stream.Run fault.BadWidth) = BadWidth
-fault_of_stream (stream.Run fault.ShareFull) = ShareFull
-fault_of_stream (stream.Run fault.NoMemory) = NoMemory
-fault_of_stream (stream.Run fault.CountFull) = CountFull
+fault_of_stream (stream.Run e) = fault_of_run e
 fault_of_stream (stream.Stopped n) = WriteFault n
 
 -- a sink stands as this answer says: it took all that it was handed, also where the run broke off for what is counted;

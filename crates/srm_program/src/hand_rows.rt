@@ -1,23 +1,29 @@
-//! The rows of a run, handed to a sink by the engine that is asked for.
-ghost use Rattle.std.specs.Prelude.{◌≡◌, ◌<◌, ◌-◌, ◌^◌, map};
+//! The rows of a run, or what a watch keeps of them, handed to a sink by the engine that is asked for.
+ghost use Rattle.std.specs.Prelude.{◌≡◌, ◌<◌, ◌-◌, ◌^◌, List, map};
+ghost use Rattle.srm_member.specs.declared.row.Row.{Row as OneRow};
 ghost use Rattle.srm_interfaces.specs.Sinks.{IsOpen};
 ghost use Rattle.srm_program.specs.Askings.{HandsOn, MayLead};
 ghost use Rattle.srm_program.specs.Runs.{fault_of_stream};
 
 use crate::asked::Asked;
 use crate::fault::LabFault;
+use crate::keep_rows::fault_of;
 use crate::options::{Engine, Options};
-use srm_engine::fault::RunFault;
 use srm_engine::start::Start;
 use srm_engine::step_rows::step_rows;
 use srm_engine::stream_fault::StreamFault;
 use srm_engine::width::Windows;
+use srm_engine::window_kept::window_kept;
 use srm_engine::window_rows::window_rows;
 use srm_interfaces::crew::Crew;
+use srm_interfaces::kept_sink::KeptSink;
 use srm_interfaces::sink::RowSink;
+use srm_interfaces::watch::Watch;
+use srm_interfaces::watch_crew::WatchCrew;
 use srm_ledger::totals::Totals;
 use srm_member::participant::Participant;
 use std::alloc::Global;
+use std::marker::Copy;
 
 // The run by the engine that is asked for, its rows handed to a sink. In windows of time this crew leads it.
 pub(crate) fn hand_rows<M: Participant, C: Crew<M>, S: RowSink>(
@@ -26,7 +32,7 @@ pub(crate) fn hand_rows<M: Participant, C: Crew<M>, S: RowSink>(
     crew: &mut C,
     sink: &mut S,
 ) -> Result<Totals, LabFault>
-    requires crew { MayLead C.Crew crew.old asked.task.session }
+    requires crew { MayLead C.ready C.serves crew.old asked.task.session }
     requires open { IsOpen (S.stage sink.old) }
     requires failures { S.failures sink.old < 2 ^ 64 - 1 }
     ensures { HandsOn S.RowSink asked.entry.task (map M.plain asked.entry.members.items) sink.old result sink.new }
@@ -49,18 +55,39 @@ pub(crate) fn hand_rows<M: Participant, C: Crew<M>, S: RowSink>(
     }
 }
 
-// What a refusal of an engine is to the program.
+// The run in windows of time, what this watch keeps of its rows handed to a sink. This crew leads it.
+pub(crate) fn hand_kept<
+    M: Participant,
+    K: Drop,
+    W: Watch<K> + Copy,
+    C: WatchCrew<M, K, W>,
+    S: KeptSink<K>,
+>(alloc: Global, asked: Asked<M>, crew: &mut C, watch: W, sink: &mut S) -> Result<Totals, LabFault>
+    requires windows { asked.task.options.engine ≡ Engine.Window }
+    requires crew { MayLead C.ready C.serves crew.old asked.task.session }
+    requires keeps { (k : K) (rows : List OneRow) → W.keeps watch k rows → S.keeps k rows }
+    requires open { IsOpen (S.stage sink.old) }
+    requires failures { S.failures sink.old < 2 ^ 64 - 1 }
+    ensures { HandsOn S.RowSink asked.entry.task (map M.plain asked.entry.members.items) sink.old result sink.new }
+{
+    let Asked { task, members } = asked;
+    let Options { cut, width, .. } = task.options;
+    let start = Start {
+        session: task.session,
+        members,
+    };
+    match window_kept(alloc, start, crew, Windows { cut, width }, watch, sink) {
+        Ok(totals) => Ok(totals),
+        Err(fault) => Err(lab_fault(fault)),
+    }
+}
+
+// What a refusal of an engine that hands rows to a sink is to the program.
 fn lab_fault(fault: StreamFault) -> LabFault
     ensures { result ≡ fault_of_stream fault }
 {
     match fault {
-        StreamFault::Run { fault } => match fault {
-            RunFault::BadCut => LabFault::BadCut,
-            RunFault::BadWidth => LabFault::BadWidth,
-            RunFault::ShareFull => LabFault::ShareFull,
-            RunFault::NoMemory => LabFault::NoMemory,
-            RunFault::CountFull => LabFault::CountFull,
-        },
+        StreamFault::Run { fault } => fault_of(fault),
         StreamFault::Stopped { written } => LabFault::WriteFault { written },
     }
 }

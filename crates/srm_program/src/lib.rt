@@ -2,10 +2,12 @@
 #![tactic(auto)]
 
 mod asked;
+mod by_watch;
 mod explained;
 pub mod fault;
 mod hand_rows;
-mod in_team;
+mod keep_rows;
+mod kept_tables;
 pub mod line;
 mod listed;
 mod made;
@@ -17,6 +19,7 @@ mod report;
 pub mod run;
 pub mod session;
 mod task;
+mod watched_table;
 
 pub use srm_command_line::{command_line, request};
 pub use srm_options::options;

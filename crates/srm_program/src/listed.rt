@@ -1,41 +1,59 @@
 //! Tables that list rows, written as the rows of a run come.
-ghost use Rattle.std.specs.Prelude.{◌≡◌, Some, map};
-ghost use Rattle.srm_engine.specs.Starts.{AreOpening};
-ghost use Rattle.srm_program.specs.Askings.{IsListed, MayReport};
+ghost use Rattle.std.specs.Prelude.{◌≡◌, ◌<◌, ◌-◌, ◌^◌, List, IfOk, map};
+ghost use Rattle.srm_member.specs.Record.{Record};
+ghost use Rattle.srm_interfaces.specs.Sinks.{IsOpen};
+ghost use Rattle.srm_options.specs.declared.options.Engine.TheVariants.{Window};
+ghost use Rattle.srm_report.specs.declared.listing_sink.ListingSink.{ListingSink as ASink};
+ghost use Rattle.srm_report.specs.ListingSinks.{stage_of, outlet_under, AreOverOne};
+ghost use Rattle.srm_program.specs.declared.task.Task.{Task as ATask};
+ghost use Rattle.srm_program.specs.Askings.{HandsOn, IsFresh, IsListed, MayLead, MayReport};
 
 use crate::asked::Asked;
 use crate::fault::LabFault;
-use crate::hand_rows::hand_rows;
-use crate::in_team::PIECES;
-use crate::options::{CrewKind, Engine};
-use crate::task::Task;
+use crate::hand_rows::{hand_kept, hand_rows};
+use crate::watched_table::WatchedTable;
 use srm_interfaces::crew::Crew;
+use srm_interfaces::sink::RowSink;
+use srm_interfaces::watch_crew::WatchCrew;
+use srm_ledger::totals::Totals;
 use srm_member::participant::Participant;
-use srm_member::row::Row;
-use srm_report::fault::ReportFault;
-use srm_report::lining::Lining;
+use srm_report::keep_lines::KeepLines;
+use srm_report::lines::Lines;
 use srm_report::listing::Listing;
 use srm_report::listing_sink::ListingSink;
 use srm_report::outlet::Outlet;
-use srm_report::team_listing::TeamListing;
+use srm_report::timers::TimersListing;
+use srm_report::trace::TraceListing;
 use srm_report::writing::WriteFault;
-use srm_team::bench::{Bench, serve_all};
-use srm_team::naming::Naming;
-use srm_team::opened::Opened;
-use srm_team::team::open_team;
 use std::alloc::Global;
-use std::marker::{Brand, Copy, Send, Sync};
-use std::sync::Wait;
-use std::thread::{Threads, join_mut};
+use std::marker::Copy;
 
 // How many bytes of a table that lists rows are gathered before they are written.
 const GATHERED: usize = 8_192;
 
-// How many rows a window has at least whose text the workers make.
-const MANY_ROWS: usize = 200;
+// Writes what a sink gathered, once all rows of a run were handed to it.
+fn flushed<'a, L: Listing, O: Outlet>(
+    sink: &mut ListingSink<'a, L, O>,
+    handed: Result<Totals, LabFault>,
+) -> Result<(), LabFault>
+    requires open { IfOk handed (λ _. IsOpen (stage_of sink.old)) }
+    requires failures { IfOk handed (λ _. O.failures (outlet_under sink.old) < 2 ^ 64 - 1) }
+    ensures outlet { AreOverOne sink.old sink.new }
+    ensures listed { (task : ATask) (rs : List Record) (first : ASink L O) → IsFresh first
+        → HandsOn ⟦<ListingSink<'a, L, O> as RowSink>⟧ task rs first handed sink.old
+        → IsListed O.Outlet L.form task rs (outlet_under first) result (outlet_under sink.new) }
+{
+    match handed {
+        Ok(_) => match sink.flush() {
+            Ok(()) => Ok(()),
+            Err(WriteFault { written }) => Err(LabFault::WriteFault { written }),
+        },
+        Err(fault) => Err(fault),
+    }
+}
 
-// Writes a table as its rows come, through a sink of its own, and then what the sink gathered.
-fn write_table<M: Participant, C: Crew<M>, L: Listing, O: Outlet>(
+/// Writes a table that lists rows, as the rows of the run come, through a sink of its own.
+pub(crate) fn write_listing<M: Participant, C: Crew<M>, L: Listing, O: Outlet>(
     alloc: Global,
     asked: Asked<M>,
     crew: &mut C,
@@ -47,146 +65,65 @@ fn write_table<M: Participant, C: Crew<M>, L: Listing, O: Outlet>(
         outlet.old result outlet.new }
 {
     let mut sink = ListingSink::gathering(alloc, listing, outlet, GATHERED);
-    let answer = match hand_rows(alloc, asked, crew, &mut sink) {
-        Ok(_) => match sink.flush() {
-            Ok(()) => Ok(()),
-            Err(WriteFault { written }) => Err(LabFault::WriteFault { written }),
-        },
-        Err(fault) => Err(fault),
-    };
+    let handed = hand_rows(alloc, asked, crew, &mut sink);
+    let answer = flushed(&mut sink, handed);
     // By its contract, the outlet is then as the sink left it.
     let _outlet = sink.into_outlet();
     answer
 }
 
-// The same of a table and members that wait.
-fn write_waiting<M: Participant, C: Crew<M>, L: Listing, O: Outlet>(
+// The same of the lines that are kept of a run in windows of time.
+fn write_lines<M: Participant, L: Listing + Copy, C: WatchCrew<M, Lines, KeepLines<L>>, O: Outlet>(
     alloc: Global,
-    task: &Task,
-    waiting: &mut Option<(L, Vec<M>)>,
+    asked: Asked<M>,
     crew: &mut C,
+    watch: KeepLines<L>,
     outlet: &mut O,
 ) -> Result<(), LabFault>
-    requires waiting { (l : _) × (waiting.old ≡ Some l) × AreOpening task.now.session (map M.plain l.1.items) }
-    requires may { MayReport C.Crew O.Outlet crew.old task.now.session outlet.old }
-    ensures { (l : _) → waiting.old ≡ Some l
-        → IsListed O.Outlet L.form task.now (map M.plain l.1.items) outlet.old result outlet.new }
+    requires windows { asked.task.options.engine ≡ Window }
+    requires lead { MayLead C.ready C.serves crew.old asked.task.session }
+    requires count { O.failures outlet.old < 2 ^ 64 - 1 }
+    ensures { IsListed O.Outlet L.form asked.entry.task (map M.plain asked.entry.members.items)
+        outlet.old result outlet.new }
 {
-    let (listing, members) = waiting.take().unwrap();
-    let asked = Asked {
-        task: *task,
-        members,
-    };
-    write_table(alloc, asked, crew, listing, outlet)
-}
-
-// The same beside so many threads, of which there may be none. They serve at the bench until the table is written.
-fn write_beside<
-    J: Naming + Send + Sync,
-    R: Threads + Wait + Sync,
-    M: Participant,
-    C: Crew<M>,
-    L: Listing + Copy + Send + Sync,
-    T: Listing,
-    O: Outlet,
->(
-    rt: &R,
-    alloc: Global,
-    bench: &Bench<Lining<L>, Vec<Row>, Result<Vec<u8>, ReportFault>, J>,
-    task: &Task,
-    waiting: (T, Vec<M>),
-    crew: &mut C,
-    outlet: &mut O,
-) -> Result<(), LabFault>
-    requires opening { AreOpening task.now.session (map M.plain waiting.1.items) }
-    requires may { MayReport C.Crew O.Outlet crew.old task.now.session outlet.old }
-    ensures { IsListed O.Outlet T.form task.now (map M.plain waiting.1.items) outlet.old result outlet.new }
-{
-    let threads = usize::from(task.options.workers) - 1;
-    let mut waiting = Some(waiting);
-    // The first closure borrows `alloc`.
-    let own = alloc;
-    let ((), answer) = join_mut(
-        rt,
-        &mut || serve_all(rt, alloc, threads, bench),
-        &mut ||
-            requires { (l : _) × (waiting ≡ Some l) × AreOpening task.now.session (map M.plain l.1.items)
-                × MayReport C.Crew O.Outlet crew.now task.now.session outlet.now }
-            ensures { (l : _) → waiting.entry ≡ Some l
-                → IsListed O.Outlet T.form task.entry.now (map M.plain l.1.items) outlet.entry.now result outlet.exit.now }
-        { write_waiting(own, task, &mut waiting, crew, outlet) },
-    );
+    let mut sink = ListingSink::gathering(alloc, watch.listing, outlet, GATHERED);
+    let handed = hand_kept(alloc, asked, crew, watch, &mut sink);
+    let answer = flushed(&mut sink, handed);
+    // By its contract, the outlet is then as the sink left it.
+    let _outlet = sink.into_outlet();
     answer
 }
 
-// Writes a table whose text a team makes that has this history. Where memory for the team is refused, the thread that leads the run
-// makes the text.
-fn write_by_team<
-    J: Naming + Send + Sync,
-    R: Threads + Wait + Sync,
-    M: Participant,
-    C: Crew<M>,
-    L: Listing + Copy + Send + Sync,
-    O: Outlet,
->(
-    rt: &R,
-    alloc: Global,
-    opened: Opened<Lining<L>, Vec<Row>>,
-    asked: Asked<M>,
-    crew: &mut C,
-    listing: L,
-    outlet: &mut O,
-) -> Result<(), LabFault>
-    requires history { opened ≡ J.book }
-    requires may { MayReport C.Crew O.Outlet crew.old asked.task.session outlet.old }
-    ensures { IsListed O.Outlet L.form asked.entry.task (map M.plain asked.entry.members.items)
-        outlet.old result outlet.new }
-{
-    match open_team::<Lining<L>, Vec<Row>, Result<Vec<u8>, ReportFault>, J>(
-        alloc,
-        opened,
-        PIECES * usize::from(asked.task.options.workers),
-    ) {
-        Ok((team, bench)) => {
-            let listing = TeamListing::new(rt, team, listing, MANY_ROWS);
-            let Asked { task, members } = asked;
-            write_beside(rt, alloc, &bench, &task, (listing, members), crew, outlet)
-        }
-        Err(_) => write_table(alloc, asked, crew, listing, outlet),
+/// The trace, of the lines of each member.
+impl WatchedTable<Lines> for KeepLines<TraceListing> {
+    ghost use Rattle.srm_options.specs.declared.options.Show.TheVariants.{Trace};
+
+    ghost show = { Trace };
+
+    fn write<M: Participant, C: WatchCrew<M, Lines, KeepLines<TraceListing>>, O: Outlet>(
+        self,
+        alloc: Global,
+        asked: Asked<M>,
+        crew: &mut C,
+        outlet: &mut O,
+    ) -> Result<(), LabFault> {
+        write_lines(alloc, asked, crew, self, outlet)
     }
 }
 
-/// Writes a table that lists rows, as the rows of the run come. Where a team of several workers runs the scenario, as many make the
-/// text of windows with many rows.
-pub(crate) fn write_listing<
-    R: Threads + Wait + Sync,
-    M: Participant,
-    C: Crew<M>,
-    L: Listing + Copy + Send + Sync,
-    O: Outlet,
->(
-    rt: &R,
-    alloc: Global,
-    asked: Asked<M>,
-    crew: &mut C,
-    listing: L,
-    outlet: &mut O,
-) -> Result<(), LabFault>
-    requires may { MayReport C.Crew O.Outlet crew.old asked.task.session outlet.old }
-    ensures { IsListed O.Outlet L.form asked.entry.task (map M.plain asked.entry.members.items)
-        outlet.old result outlet.new }
-{
-    let o = asked.task.options;
-    if o.engine == Engine::Window && o.crew == CrewKind::Team && o.workers > 1 {
-        return write_by_team::<Brand, R, M, C, L, O>(
-            rt,
-            alloc,
-            Opened::new(),
-            asked,
-            crew,
-            listing,
-            outlet,
-        );
+/// The table of timers, of the lines of each member.
+impl WatchedTable<Lines> for KeepLines<TimersListing> {
+    ghost use Rattle.srm_options.specs.declared.options.Show.TheVariants.{Timers};
+
+    ghost show = { Timers };
+
+    fn write<M: Participant, C: WatchCrew<M, Lines, KeepLines<TimersListing>>, O: Outlet>(
+        self,
+        alloc: Global,
+        asked: Asked<M>,
+        crew: &mut C,
+        outlet: &mut O,
+    ) -> Result<(), LabFault> {
+        write_lines(alloc, asked, crew, self, outlet)
     }
-    write_table(alloc, asked, crew, listing, outlet)
 }

@@ -8,9 +8,9 @@ ghost use Rattle.srm_program.specs.Reports.{failures_after_run};
 ghost use Rattle.srm_program.specs.Runs.{MayShareBag, TellsRunFor};
 
 use crate::asked::Asked;
+use crate::by_watch::by_watch;
 use crate::fault::LabFault;
 use crate::hand_rows::hand_rows;
-use crate::in_team::in_team;
 use crate::listed::write_listing;
 use crate::options::{CrewKind, Engine, Options, Show};
 use crate::report::write_text;
@@ -23,6 +23,11 @@ use srm_interfaces::crew::Crew;
 use srm_member::member::Member;
 use srm_member::participant::Participant;
 use srm_net::net::Net;
+use srm_report::count_rows::CountRows;
+use srm_report::find_losses::FindLosses;
+use srm_report::find_operations::FindOperations;
+use srm_report::keep_lines::KeepLines;
+use srm_report::keep_nothing::KeepNothing;
 use srm_report::links::links_text;
 use srm_report::losses_sink::LossesSink;
 use srm_report::members_sink::MembersSink;
@@ -78,24 +83,45 @@ pub fn run<R: Threads + Wait + Sync, O: Outlet>(
 {
     let session = Session { scenario, net };
     let task = Task { session, options };
-    if options.engine == Engine::Step {
-        return report(rt, alloc, task, members, &mut PlainCrew::new(), outlet);
+    match options.engine {
+        Engine::Step => return report(alloc, task, members, &mut PlainCrew::new(), outlet),
+        Engine::Window => {}
     }
     match options.crew {
-        CrewKind::Plain => report(rt, alloc, task, members, &mut PlainCrew::new(), outlet),
-        CrewKind::Pool => report(rt, alloc, task, members, &mut PoolCrew::new(rt), outlet),
+        CrewKind::Plain => report(alloc, task, members, &mut PlainCrew::new(), outlet),
+        CrewKind::Pool => report(alloc, task, members, &mut PoolCrew::new(rt), outlet),
         CrewKind::Bag => {
             let mut crew = BagCrew::new(rt, OpenGate, options.workers);
-            report(rt, alloc, task, members, &mut crew, outlet)
+            report(alloc, task, members, &mut crew, outlet)
         }
-        CrewKind::Team => in_team(rt, alloc, task, members, outlet),
+        CrewKind::Team => match options.show {
+            Show::Members => by_watch(rt, alloc, task, members, CountRows, outlet),
+            Show::Losses => by_watch(rt, alloc, task, members, FindLosses { alloc }, outlet),
+            Show::Operations => {
+                by_watch(rt, alloc, task, members, FindOperations { alloc }, outlet)
+            }
+            Show::Links => by_watch(rt, alloc, task, members, KeepNothing, outlet),
+            Show::Trace => {
+                let watch = KeepLines {
+                    alloc,
+                    listing: TraceListing,
+                };
+                by_watch(rt, alloc, task, members, watch, outlet)
+            }
+            Show::Timers => {
+                let watch = KeepLines {
+                    alloc,
+                    listing: TimersListing,
+                };
+                by_watch(rt, alloc, task, members, watch, outlet)
+            }
+        },
     }
 }
 
 /// The report of a task, with this crew. Its members are of any type, since no struct that keeps what is known of them can be of
 /// boxes.
-pub(crate) fn report<R: Threads + Wait + Sync, M: Participant, C: Crew<M>, O: Outlet>(
-    rt: &R,
+pub(crate) fn report<M: Participant, C: Crew<M>, O: Outlet>(
     alloc: Global,
     task: Task,
     members: Vec<M>,
@@ -108,12 +134,12 @@ pub(crate) fn report<R: Threads + Wait + Sync, M: Participant, C: Crew<M>, O: Ou
 {
     let asked = Asked { task, members };
     match task.options.show {
-        Show::Trace => write_listing(rt, alloc, asked, crew, TraceListing, outlet),
+        Show::Trace => write_listing(alloc, asked, crew, TraceListing, outlet),
         Show::Members => write_members(alloc, asked, crew, outlet),
         Show::Losses => write_losses(alloc, asked, crew, outlet),
         Show::Operations => write_operations(alloc, asked, crew, outlet),
         Show::Links => write_links(alloc, asked, crew, outlet),
-        Show::Timers => write_listing(rt, alloc, asked, crew, TimersListing, outlet),
+        Show::Timers => write_listing(alloc, asked, crew, TimersListing, outlet),
     }
 }
 

@@ -29,7 +29,7 @@ use Rattle.srm_report.specs.MembersSinks.{CountsRows}
 use Rattle.srm_report.specs.OperationsSinks.{FindsOperations}
 use Rattle.srm_report.specs.Rows.{is_name, row_time}
 use Rattle.srm_report.proofs.CourseLemmas.{loss_total, losses_apart}
-use Rattle.srm_report.proofs.SendingLemmas.{left_alike, sent_alike}
+use Rattle.srm_report.proofs.SendingLemmas.{left_alike, tell_sent_alike}
 
 -- ---- losses in turn
 
@@ -167,7 +167,7 @@ operations_alike a b xs ys alike found before after o was =
     let t = found before after (turn_alike (before ++ xs ++ after) (before ++ ys ++ after) (alike_within before xs ys after alike) o) was in
     let more = alike_after before xs ys alike in record {
       lost = tell_alike (before ++ xs) (before ++ ys) b.losses more t.lost;
-      asked = λ n. t.asked n ∙ sent_alike n (before ++ xs) (before ++ ys) more;
+      asked = tell_sent_alike (before ++ xs) (before ++ ys) b.sent more t.asked;
       gone = λ m. t.gone m ∙ left_alike m (before ++ xs) (before ++ ys) more;
     }
 

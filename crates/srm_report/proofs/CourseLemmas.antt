@@ -1,14 +1,14 @@
 -- What became of losses, row by row.
-use Rattle.std.proofs.Common.{◌≡◌, ◌∙◌, ℕ, zero, suc, ◌<◌, ◌≢◌, ◌⊎◌, inl, inr, Bool, true, false, cond, T, ◌&&◌, ◌||◌, List, [], ◌∷◌, ◌++◌}
-use Rattle.std.proofs.Common.{length, map, Option, Some, None, is_some, refl, ap, sym, subst, append-nil, append_assoc, ◌==◌, eqb-true}
-use Rattle.std.proofs.Common.{eq-eqb, true≢false, arith, Equal, get_or}
+use Rattle.std.proofs.Common.{◌≡◌, ◌∙◌, ℕ, zero, suc, ◌≢◌, ◌⊎◌, inl, inr, Bool, true, false, cond, ◌&&◌, ◌||◌, List, [], ◌∷◌, ◌++◌}
+use Rattle.std.proofs.Common.{map, Option, Some, None, is_some, refl, ap, sym, subst, append-nil, append_assoc, ◌==◌, eqb-true}
+use Rattle.std.proofs.Common.{eq-eqb, true≢false, arith, Equal}
 use Rattle.std.specs.List.{Contains, list_any}
 use Rattle.std.specs.List as lists
 use Rattle.std.specs.Option.{option_map, option_map_or, option_or}
 use Rattle.std.specs.Ordering.{eq_by_cmp, is_eq}
 use Rattle.std.specs.Cmp.{IsTotalOrder, on_total}
 use Rattle.std.specs.Cmp.Lexicographic.{nat_list_cmp_total}
-use Rattle.std.specs.FinMap.Entries.{put, find, find-put, is_some-find, is_sorted, is_sorted-put}
+use Rattle.std.specs.FinMap.Entries.{put, find, find-put, is_some-find, is_sorted-put}
 use Rattle.std.proofs.lemmas.List.Folds.{find-append}
 use Rattle.std.proofs.lemmas.Grind.{flat_map-append}
 use Rattle.std.proofs.lemmas.List.{map-append}
@@ -17,7 +17,6 @@ use Rattle.std.proofs.lemmas.Map.Views.{Contains-from_any}
 use Rattle.std.proofs.lemmas.Bool.{and_from, and_right, or_right, false_from_ne_true}
 use Rattle.srm_net.specs.declared.packet.Name.{Name}
 use Rattle.srm_net.specs.Orders.{place, ordered}
-use Rattle.srm_net.proofs.Basics.{T_first, T_second}
 use Rattle.srm_member.specs.declared.told.Told.{Told}
 use Rattle.srm_member.specs.declared.told.Told.TheVariants.{Fixed}
 use Rattle.srm_member.specs.declared.row.Row.{Row}
@@ -29,7 +28,7 @@ use Rattle.srm_report.specs.declared.loss.Loss.{Loss}
 use Rattle.srm_report.specs.Courses.{TellLosses, after_fix, fixed_at, course_of, losing, name_fixed}
 use Rattle.srm_report.specs.Losses.{loss_cmp, numbers_of_loss, losses_in, detects, fixes, detected_at, recovered_at}
 use Rattle.srm_report.specs.Rows.{is_name, row_time}
-use Rattle.srm_report.proofs.EntryLemmas.{any_ordered, below_none, keys_put, keys_same, ordered_push}
+use Rattle.srm_report.proofs.EntryLemmas.{any_ordered, keys_put, keys_same, ordered_push}
 use Rattle.std.proofs.lemmas.List.Folds.{list_any-append}
 
 -- ---- losses that tie are the same
@@ -75,22 +74,6 @@ in_named : (n : Name) (ns : List Name) → Contains ns n → list_any (is_name n
 in_named n [] c = absurd (let l = c.1 in omega arith)
 in_named n (x ∷ xs) (zero, l, e) = ap (λ b. b || list_any (is_name n) xs) (ap (is_name n) e ∙ name_is n)
 in_named n (x ∷ xs) (suc i, l, e) = or_right (is_name n x) (list_any (is_name n) xs) (in_named n xs (i, omega arith, e))
-
--- ---- entries
-
--- each entry is found
-pub found : (es : List (Loss × Course)) → T (is_sorted loss_cmp es) → (i : ℕ) (d : Loss × Course) → i < length es
-    → find loss_cmp (get_or es i d).0 es ≡ Some (get_or es i d).1
-found [] s i d l = absurd (omega arith)
-found (e ∷ es) s zero d l = ap (λ b. cond b (Some e.1) (find loss_cmp e.0 es)) (loss_is e.0)
-found (e ∷ es) s (suc i) d l = elim (losses_apart (get_or es i d).0 e.0) [
-  | inl same ↦
-      let rest : find loss_cmp (get_or es i d).0 es ≡ Some (get_or es i d).1 = found es (T_second _ _ s) i d (omega arith) in
-      let none : find loss_cmp e.0 es ≡ None = below_none loss_cmp loss_total e.0 es (T_first _ _ s) in
-      let n : None ≡ Some (get_or es i d).1 = sym none ∙ ap (λ k. find loss_cmp k es) (sym same) ∙ rest in
-      cc
-  | inr ne ↦ ap (λ b. cond b (Some e.1) (find loss_cmp (get_or es i d).0 es)) ne ∙ found es (T_second _ _ s) i d (omega arith)
-]
 
 -- ---- one row more
 

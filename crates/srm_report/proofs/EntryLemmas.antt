@@ -1,10 +1,12 @@
 -- Entries of finite maps in the order of their keys, and lists in that order.
-use Rattle.std.proofs.Common.{◌≡◌, ◌∙◌, Bool, true, false, cond, T, ◌&&◌, ◌||◌, List, [], ◌∷◌, ◌++◌, map, Some, None}
+use Rattle.std.proofs.Common.{◌≡◌, ◌∙◌, ℕ, zero, suc, ◌<◌, Bool, true, false, cond, T, ◌&&◌, ◌||◌, List, [], ◌∷◌, ◌++◌, length, map, take}
+use Rattle.std.proofs.Common.{get_or, arith, Some, None}
 use Rattle.std.proofs.Common.{refl, ap, sym, subst, true≢false, Ordering, Less, Equal, Greater, is_lt}
 use Rattle.std.specs.List.{list_any}
 use Rattle.std.specs.Ordering.{eq_by_cmp, is_eq, ordering_reverse}
 use Rattle.std.specs.Cmp.{IsTotalOrder}
 use Rattle.std.specs.FinMap.Entries.{put, find, is_sorted, below_all, by_order}
+use Rattle.std.proofs.lemmas.Cmp.{tied_itself}
 use Rattle.srm_net.specs.Orders.{place, ordered}
 use Rattle.srm_net.proofs.Basics.{T_first, T_second, T_less, or_turn}
 use Rattle.srm_member.proofs.OrderLemmas.{place-comm}
@@ -68,6 +70,30 @@ module _ {K V : Type 0} (cmp : K → K → Ordering) (total : IsTotalOrder cmp) 
         | Greater ↦ λ q. ap (λ ks. e.0 ∷ ks) (keys_same k c es (T_second _ _ s) old
             (sym (ap (λ o. cond (is_eq o) (Some e.1) (find cmp k es)) q) ∙ h))
       ] refl
+
+  -- each entry is found, and not before its place
+
+  below_at : (x : K) (es : List (K × V)) → T (below_all cmp x es) → (i : ℕ) (d : K × V) → i < length es
+      → eq_by_cmp cmp (get_or es i d).0 x ≡ false
+  below_at x [] h i d l = absurd (omega arith)
+  below_at x (e ∷ es) h zero d l = ap is_eq (total.antisymm e.0 x ∙ ap ordering_reverse (T_less _ (T_first _ _ h)))
+  below_at x (e ∷ es) h (suc i) d l = below_at x es (T_second _ _ h) i d (omega arith)
+
+  pub found : (es : List (K × V)) → T (is_sorted cmp es) → (i : ℕ) (d : K × V) → i < length es
+      → find cmp (get_or es i d).0 es ≡ Some (get_or es i d).1
+  found [] s i d l = absurd (omega arith)
+  found (e ∷ es) s zero d l = ap (λ o. cond (is_eq o) (Some e.1) (find cmp e.0 es)) (tied_itself total e.0)
+  found (e ∷ es) s (suc i) d l =
+      ap (λ b. cond b (Some e.1) (find cmp (get_or es i d).0 es)) (below_at e.0 es (T_first _ _ s) i d (omega arith))
+      ∙ found es (T_second _ _ s) i d (omega arith)
+
+  pub not_before : (es : List (K × V)) → T (is_sorted cmp es) → (i : ℕ) (d : K × V) → i < length es
+      → find cmp (get_or es i d).0 (take i es) ≡ None
+  not_before [] s i d l = absurd (omega arith)
+  not_before (e ∷ es) s zero d l = refl
+  not_before (e ∷ es) s (suc i) d l =
+      ap (λ b. cond b (Some e.1) (find cmp (get_or es i d).0 (take i es))) (below_at e.0 es (T_first _ _ s) i d (omega arith))
+      ∙ not_before es (T_second _ _ s) i d (omega arith)
 
 -- ---- order
 

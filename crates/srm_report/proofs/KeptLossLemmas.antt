@@ -27,9 +27,7 @@ use Rattle.srm_model.specs.Laws.{by_member}
 use Rattle.srm_model.proofs.StandAlike.{listed_alike}
 use Rattle.srm_report.specs.declared.course.Course.{Course}
 use Rattle.srm_report.specs.declared.loss.Loss.{Loss}
-use Rattle.srm_report.specs.declared.losses_sink.LossesSink.{LossesSink}
 use Rattle.srm_report.specs.Courses.{LoseInTurn, TellLosses, course_of}
-use Rattle.srm_report.specs.KeptLosses.{KeepsLosses}
 use Rattle.srm_report.specs.Losses.{loss_cmp, losses_in}
 use Rattle.srm_report.proofs.ByMemberLemmas.{course_at, orderly_loses, tell_alike}
 use Rattle.srm_report.proofs.CourseLemmas.{loss_total}
@@ -65,7 +63,7 @@ none_at j r rows true e (inl l) h = absurd (let same = eqb-true _ _ e in omega a
 none_at j r rows true e (inr l) h = absurd (let same = eqb-true _ _ e in omega arith)
 none_at j r rows false e l h = h
 
-none_own : (j : ℕ) (rows : List Row) → AllIn (λ (r : Row). r.key.member < j ⊎ j < r.key.member) rows → rows_of_member j rows ≡ []
+pub none_own : (j : ℕ) (rows : List Row) → AllIn (λ (r : Row). r.key.member < j ⊎ j < r.key.member) rows → rows_of_member j rows ≡ []
 none_own j [] h = refl
 none_own j (r ∷ rows) h = none_at j r rows (r.key.member == j) refl h.0 (none_own j rows h.1)
 
@@ -223,32 +221,41 @@ module _ (i : ℕ) (xs ys : List Row) (own : AllIn (λ (r : Row). r.key.member �
 
 -- ---- all members
 
--- the entries of all, one after the other
-abbrev pub entries_of : List LossesSink → List (Loss × Course)
-entries_of ks = flat_map (λ (k : LossesSink). k.losses) ks
+pub all_few : (rows : List Row) (members n : ℕ) → IsOrderly members rows → members ≤ n → AllIn (λ (r : Row). r.key.member < n) rows
+all_few rows members n o le =
+    AllIn-weaker (IsAmong members) (λ (r : Row). r.key.member < n) (λ r a. (let lt = a.member in omega arith)) rows
+    (AllIn-at_places (IsAmong members) rows o.among)
 
-kept_tell : (rows : List Row) → LoseInTurn rows → (i : ℕ) (ks : List LossesSink) → KeepMembers (λ k own. KeepsLosses own k) i ks rows
-    → TellLosses (joined (by_member i (length ks) rows)) (entries_of ks)
-kept_tell rows o i [] h = record { sorted = tt; losses = refl; courses = λ k. refl }
-kept_tell rows o i (k ∷ ks) h =
-    let own = rows_of_member i rows in
-    tell_more i own (joined (by_member (suc i) (length ks) rows)) (own_rows i rows) (rows_from (length ks) (suc i) rows)
-    k.losses (entries_of ks) (h.0 [] (subst LoseInTurn (sym (append-nil own)) (own_in_turn i rows o))) (kept_tell rows o (suc i) ks h.1)
+module _ {K : Type 0} (losses : K → List (Loss × Course)) where
+  -- the losses that are kept are those of these rows
+  abbrev pub Lost : K → List Row → Type 0
+  Lost k own = (after : List Row) → LoseInTurn (own ++ after) → TellLosses own (losses k)
 
-pub kept_losses : (rows : List Row) (members : ℕ) → IsOrderly members rows → (ks : List LossesSink) → members ≤ length ks
-    → KeepMembers (λ k own. KeepsLosses own k) 0 ks rows → (i : ℕ) → i ≡ length ks
-    → (es : List (Loss × Course)) → es ≡ entries_of (take i ks) → TellLosses rows es
-kept_losses rows members o ks all h i whole es is =
-    let few = AllIn-weaker (IsAmong members) (λ (r : Row). r.key.member < length ks) (λ r a. (let lt = a.member in omega arith)) rows
-    (AllIn-at_places (IsAmong members) rows o.among) in
-    subst (TellLosses rows) (sym (is ∙ ap entries_of (ap (λ n. take n ks) whole ∙ take-length ks)))
-    (tell_alike (joined (by_member 0 (length ks) rows)) rows (entries_of ks) (listed_alike (length ks) rows few)
-    (kept_tell rows (orderly_loses members rows o) 0 ks h))
+  -- the entries of all, one after the other
+  abbrev pub entries_of : List K → List (Loss × Course)
+  entries_of ks = flat_map losses ks
 
--- the entries of one member more
-pub entries_more : (ks : List LossesSink) (i : ℕ) (k : LossesSink) → i < length ks → k ≡ get_or ks i k
-    → entries_of (take (i + 1) ks) ≡ entries_of (take i ks) ++ k.losses
-entries_more ks i k lt here =
-    ap entries_of (take_more ks i k lt ∙ ap (λ q. take i ks ++ q ∷ []) (sym here))
-    ∙ flat_map-append (λ (q : LossesSink). q.losses) (take i ks) (k ∷ [])
-    ∙ ap (λ l. entries_of (take i ks) ++ l) (append-nil k.losses)
+  kept_tell : (rows : List Row) → LoseInTurn rows → (i : ℕ) (ks : List K) → KeepMembers Lost i ks rows
+      → TellLosses (joined (by_member i (length ks) rows)) (entries_of ks)
+  kept_tell rows o i [] h = record { sorted = tt; losses = refl; courses = λ k. refl }
+  kept_tell rows o i (k ∷ ks) h =
+      let own = rows_of_member i rows in
+      tell_more i own (joined (by_member (suc i) (length ks) rows)) (own_rows i rows) (rows_from (length ks) (suc i) rows)
+      (losses k) (entries_of ks) (h.0 [] (subst LoseInTurn (sym (append-nil own)) (own_in_turn i rows o))) (kept_tell rows o (suc i) ks h.1)
+
+  pub kept_losses : (rows : List Row) (members : ℕ) → IsOrderly members rows → (ks : List K) → members ≤ length ks
+      → KeepMembers Lost 0 ks rows → (i : ℕ) → i ≡ length ks
+      → (es : List (Loss × Course)) → es ≡ entries_of (take i ks) → TellLosses rows es
+  kept_losses rows members o ks all h i whole es is =
+      subst (TellLosses rows) (sym (is ∙ ap entries_of (ap (λ n. take n ks) whole ∙ take-length ks)))
+      (tell_alike (joined (by_member 0 (length ks) rows)) rows (entries_of ks)
+      (listed_alike (length ks) rows (all_few rows members (length ks) o all))
+      (kept_tell rows (orderly_loses members rows o) 0 ks h))
+
+  -- the entries of one member more
+  pub entries_more : (ks : List K) (i : ℕ) (k : K) → i < length ks → k ≡ get_or ks i k
+      → entries_of (take (i + 1) ks) ≡ entries_of (take i ks) ++ losses k
+  entries_more ks i k lt here =
+      ap entries_of (take_more ks i k lt ∙ ap (λ q. take i ks ++ q ∷ []) (sym here))
+      ∙ flat_map-append losses (take i ks) (k ∷ [])
+      ∙ ap (λ l. entries_of (take i ks) ++ l) (append-nil (losses k))

@@ -6,6 +6,8 @@ pub mod CourseLemmas
 pub mod EntryLemmas
 mod CutLemmas
 mod KeptLossLemmas
+mod KeptOperationLemmas
+mod KeptSendings
 pub mod LineLemmas
 pub mod LinkLemmas
 pub mod ListingLemmas
@@ -14,7 +16,7 @@ pub mod MemberLemmas
 mod FirstRows
 pub mod OperationLemmas
 mod OperationSums
-pub mod PieceLemmas
+pub mod TextLemmas
 pub mod SeedLemmas
 pub mod SendingLemmas
 pub mod SinkLemmas

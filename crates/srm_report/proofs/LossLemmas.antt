@@ -20,7 +20,8 @@ use Rattle.srm_report.specs.Courses.{TellLosses, LoseInTurn, course_of, losing, 
 use Rattle.srm_report.specs.Losses.{loss_cmp, detects, detected_at, recovered_at, loss_columns, loss_fields, loss_row, losses_table}
 use Rattle.srm_report.specs.Rows.{row_time}
 use Rattle.srm_report.specs.Tables.{table_lines}
-use Rattle.srm_report.proofs.CourseLemmas.{found, named_in, first_true, second_true, told_is, one_more}
+use Rattle.srm_report.proofs.CourseLemmas.{loss_total, named_in, first_true, second_true, told_is, one_more}
+use Rattle.srm_report.proofs.EntryLemmas.{found}
 use Rattle.srm_report.proofs.ByMemberLemmas.{lost_in_turn, fixed_in_turn}
 use Rattle.srm_report.proofs.TableLemmas.{table_more}
 use Rattle.srm_model.proofs.TraceRows.{contained_split}
@@ -104,7 +105,7 @@ module _ (rows : List Row) (members : ℕ) (orderly : IsOrderly members rows) (e
   module _ (i : ℕ) (k : Loss) (c : Course) (lt : i < length es) (here : (k, c) ≡ get_or es i (k, c)) where
     entry : course_of rows k ≡ Some c
     entry = sym (tell.courses k) ∙ subst (λ (x : Loss × Course). find loss_cmp x.0 es ≡ Some x.1) (sym here)
-        (found es tell.sorted i (k, c) lt)
+        (found loss_cmp loss_total es tell.sorted i (k, c) lt)
 
     is_row : (net : Network) → loss_fields net k (Some c.detected) c.recovered ≡ loss_row net rows k
     is_row net = let t = told rows k c entry in λ i. loss_fields net k (sym t.0 i) (sym t.1 i)

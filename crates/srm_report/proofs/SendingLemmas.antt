@@ -3,7 +3,7 @@ use Rattle.std.proofs.Common.{◌≡◌, ◌∙◌, ℕ, ◌+◌, Bool, true, fa
 use Rattle.std.proofs.Common.{refl, ap, sym, subst, append-nil, arith, ◌⊎◌, inl, inr, Result, Ok, Err, OnOk}
 use Rattle.std.specs.List.{count_by, fold}
 use Rattle.std.specs.Option.{unwrap_or}
-use Rattle.std.specs.FinMap.Entries.{put, find, find-put}
+use Rattle.std.specs.FinMap.Entries.{put, find, find-put, is_sorted-put}
 use Rattle.std.proofs.lemmas.List.Sums.{sum_by-append, sum_by-cons}
 use Rattle.srm_net.specs.declared.packet.Name.{Name}
 use Rattle.srm_net.specs.Names.{name_cmp}
@@ -36,7 +36,7 @@ sooner_swap (Some a) None (Some c) = refl
 sooner_swap (Some a) (Some b) None = refl
 sooner_swap (Some a) (Some b) (Some c) = ap Some (omega arith)
 
-sooner_out : (a t : Option ℕ) (ts : List (Option ℕ)) → fold sooner (sooner a t) ts ≡ sooner (fold sooner a ts) t
+pub sooner_out : (a t : Option ℕ) (ts : List (Option ℕ)) → fold sooner (sooner a t) ts ≡ sooner (fold sooner a ts) t
 sooner_out a t [] = refl
 sooner_out a t (u ∷ ts) = ap (λ s. fold sooner s ts) (sooner_swap a t u) ∙ sooner_out (sooner a u) t ts
 
@@ -84,30 +84,38 @@ grown rows r m =
     ∙ ap (λ l. after (sends_for is_ask m r) (sends_for is_answer m r) r.key.time (sending_of l m)) (append-nil rows)
 
 -- the same in rows that are alike
-pub sent_alike : (n : Name) (xs ys : List Row) → AreAlike xs ys → sending_of xs n ≡ sending_of ys n
+sent_alike : (n : Name) (xs ys : List Row) → AreAlike xs ys → sending_of xs n ≡ sending_of ys n
 sent_alike n = same_of_alike (λ rows. sending_of rows n) (λ r. after (sends_for is_ask n r) (sends_for is_answer n r) r.key.time)
     (sent_within n)
+
+pub tell_sent_alike : (xs ys : List Row) (es : List (Name × Sending)) → AreAlike xs ys → TellSent xs es → TellSent ys es
+tell_sent_alike xs ys es alike t = record { sorted = t.sorted; sent = λ n. t.sent n ∙ sent_alike n xs ys alike }
 
 -- ---- a row more
 
 -- the row sends nothing for any name
 pub sent_none : (rows : List Row) (r : Row) (es : List (Name × Sending)) → TellSent rows es
     → ((m : Name) → (sends_for is_ask m r ≡ false) × (sends_for is_answer m r ≡ false)) → TellSent (rows ++ r ∷ []) es
-sent_none rows r es was none m =
-    was m ∙ sym (grown rows r m ∙ (λ i. after ((none m).0 i) ((none m).1 i) r.key.time (sending_of rows m)))
+sent_none rows r es was none = record {
+  sorted = was.sorted;
+  sent = λ m. was.sent m ∙ sym (grown rows r m ∙ (λ i. after ((none m).0 i) ((none m).1 i) r.key.time (sending_of rows m)));
+}
 
 module _ (rows : List Row) (r : Row) (es : List (Name × Sending)) (was : TellSent rows es) (n : Name) (v : Sending) where
   -- the row sends for this name alone
   sent_one : (a b : Bool) → ((m : Name) → sends_for is_ask m r ≡ (a && is_name m n)) → ((m : Name)
       → sends_for is_answer m r ≡ (b && is_name m n))
       → v ≡ after a b r.key.time (sending_in es n) → TellSent (rows ++ r ∷ []) (put name_cmp n v es)
-  sent_one a b asks answers is m = by (is_name m n) refl
+  sent_one a b asks answers is = record {
+    sorted = is_sorted-put name_cmp name_total n v es was.sorted;
+    sent = λ m. by m (is_name m n) refl;
+  }
     where
-      put_find : find name_cmp m (put name_cmp n v es) ≡ cond (is_name m n) (Some v) (find name_cmp m es)
-      put_find = find-put name_cmp name_total m n v es
+      put_find : (m : Name) → find name_cmp m (put name_cmp n v es) ≡ cond (is_name m n) (Some v) (find name_cmp m es)
+      put_find m = find-put name_cmp name_total m n v es
 
-      told : sending_of (rows ++ r ∷ []) m ≡ after (a && is_name m n) (b && is_name m n) r.key.time (sending_of rows m)
-      told = grown rows r m ∙ (λ i. after (asks m i) (answers m i) r.key.time (sending_of rows m))
+      told : (m : Name) → sending_of (rows ++ r ∷ []) m ≡ after (a && is_name m n) (b && is_name m n) r.key.time (sending_of rows m)
+      told m = grown rows r m ∙ (λ i. after (asks m i) (answers m i) r.key.time (sending_of rows m))
 
       both : (c : Bool) → (c && true) ≡ c
       both true = refl
@@ -117,16 +125,16 @@ module _ (rows : List Row) (r : Row) (es : List (Name × Sending)) (was : TellSe
       neither true = refl
       neither false = refl
 
-      by : (t : Bool) → is_name m n ≡ t → sending_in (put name_cmp n v es) m ≡ sending_of (rows ++ r ∷ []) m
-      by true e =
+      by : (m : Name) (t : Bool) → is_name m n ≡ t → sending_in (put name_cmp n v es) m ≡ sending_of (rows ++ r ∷ []) m
+      by m true e =
           let same : m ≡ n = same_names m n e in
-          ap (λ o. unwrap_or o (sending_of [] m)) (put_find ∙ ap (λ t. cond t (Some v) (find name_cmp m es)) e)
-          ∙ is ∙ ap (λ k. after a b r.key.time (sending_in es k)) (sym same) ∙ ap (after a b r.key.time) (was m)
-          ∙ sym (told ∙ (λ i. after ((ap (λ t. a && t) e ∙ both a) i) ((ap (λ t. b && t) e ∙ both b) i) r.key.time (sending_of rows m)))
-      by false e =
-          ap (λ o. unwrap_or o (sending_of [] m)) (put_find ∙ ap (λ t. cond t (Some v) (find name_cmp m es)) e)
-          ∙ was m
-          ∙ sym (told ∙ (λ i. after ((ap (λ t. a && t) e ∙ neither a) i) ((ap (λ t. b && t) e
+          ap (λ o. unwrap_or o (sending_of [] m)) (put_find m ∙ ap (λ t. cond t (Some v) (find name_cmp m es)) e)
+          ∙ is ∙ ap (λ k. after a b r.key.time (sending_in es k)) (sym same) ∙ ap (after a b r.key.time) (was.sent m)
+          ∙ sym (told m ∙ (λ i. after ((ap (λ t. a && t) e ∙ both a) i) ((ap (λ t. b && t) e ∙ both b) i) r.key.time (sending_of rows m)))
+      by m false e =
+          ap (λ o. unwrap_or o (sending_of [] m)) (put_find m ∙ ap (λ t. cond t (Some v) (find name_cmp m es)) e)
+          ∙ was.sent m
+          ∙ sym (told m ∙ (λ i. after ((ap (λ t. a && t) e ∙ neither a) i) ((ap (λ t. b && t) e
           ∙ neither b) i) r.key.time (sending_of rows m)))
 
 -- a request was sent

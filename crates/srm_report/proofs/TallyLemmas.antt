@@ -24,15 +24,15 @@ use Rattle.srm_report.specs.declared.recovery.Recovery.{Recovery}
 use Rattle.srm_report.specs.declared.sending.Sending.{Sending}
 use Rattle.srm_report.specs.declared.tally.Tally.{Tally}
 use Rattle.srm_report.specs.Courses.{TellLosses}
-use Rattle.srm_report.specs.Losses.{detected_at, recovered_at}
+use Rattle.srm_report.specs.Losses.{detected_at, loss_cmp, recovered_at}
 use Rattle.srm_report.specs.Operations.{all_losses, each_once, has_left, is_left, is_open, is_recovered, last_told, later, losses_of, named}
 use Rattle.srm_report.specs.Operations.{operation_columns, operation_fields, operations_table, recovery_by, recovery_of, sooner, tally_of}
 use Rattle.srm_report.specs.Rows.{is_name}
 use Rattle.srm_report.specs.Sendings.{TellLeft, TellSent, sending_in}
 use Rattle.srm_report.specs.Tables.{table_lines}
 use Rattle.srm_report.specs.Tallies.{AreTallies, tallied, tally_in}
-use Rattle.srm_report.proofs.CourseLemmas.{found}
-use Rattle.srm_report.proofs.EntryLemmas.{any_ordered, keys_put, keys_same, ordered_push}
+use Rattle.srm_report.proofs.CourseLemmas.{loss_total}
+use Rattle.srm_report.proofs.EntryLemmas.{any_ordered, found, keys_put, keys_same, ordered_push}
 use Rattle.srm_report.proofs.LossLemmas.{next_among, told}
 
 -- ---- one loss more
@@ -137,7 +137,7 @@ module _ (rows : List Row) (left : List Bool) (gone : TellLeft rows left) (es : 
       let e = get_or es i d in
       let one : keys (take (i + 1) es) ≡ keys (take i es) ++ e.0 ∷ [] =
       ap keys (take_more es i d lt) ∙ map-append (λ (x : Loss × Course). x.0) (take i es) (e ∷ []) in
-      let facts = told rows e.0 e.1 (sym (tell.courses e.0) ∙ found es tell.sorted i d lt) in
+      let facts = told rows e.0 e.1 (sym (tell.courses e.0) ∙ found loss_cmp loss_total es tell.sorted i d lt) in
       subst (λ ks. AreTallies rows ks new) (sym one) (subst (AreTallies rows (keys (take i es) ++ e.0 ∷ [])) (sym grown)
       (tallies_grown rows left gone (keys (take i es)) e.0 e.1 all after facts.0 facts.1 is was))
 
@@ -212,4 +212,4 @@ pub table_is : (net : Network) (rows : List Row) (ts : List (Name × Tally)) (se
     ≡ operations_table net rows
 unfolding operations_table
 table_is net rows ts sent tell asked i =
-    table_lines operation_columns (map (λ n. operation_fields net n (tell.counts n i) (asked n i)) (tell.names i))
+    table_lines operation_columns (map (λ n. operation_fields net n (tell.counts n i) (asked.sent n i)) (tell.names i))

@@ -150,7 +150,8 @@ lists_are f rows m [] h = refl
 lists_are f rows m (l ∷ lists) h = λ i. h.0 i ∷ lists_are f rows (suc m) lists h.1 i
 
 -- sorted, the turns of all members' lines are those of rows whose keys rise
-pub sorted_turns : (f : Form) (rows : List Row) (lists : List (List (ℕ × List ℕ))) (turns sorted : List ℕ) → AreLinesOf f rows lists → turns ≡ turns_from 0 lists → IsPermutation turns sorted → IsSorted nat_cmp sorted
+pub sorted_turns : (f : Form) (rows : List Row) (lists : List (List (ℕ × List ℕ))) (turns sorted : List ℕ)
+    → AreLinesOf f rows lists → turns ≡ turns_from 0 lists → IsPermutation turns sorted → IsSorted nat_cmp sorted
     → sorted ≡ map turn_of rows
 sorted_turns f rows lists turns sorted are is perm in_order =
     let n = length lists in

@@ -3,6 +3,7 @@ pub mod Courses
 pub mod Devices
 pub mod KeptLines
 pub mod KeptLosses
+pub mod KeptOperations
 pub mod Lines
 pub mod Links
 pub mod ListingSinks
@@ -16,14 +17,12 @@ pub mod NoRows
 pub mod OperationLaws
 pub mod Operations
 pub mod OperationsSinks
-pub mod Pieces
 pub mod Rows
 pub mod Seeds
 pub mod Sendings
 pub mod Standings
 pub mod Tables
 pub mod Tallies
-pub mod Texts
 pub mod Timers
 pub mod Trace
 pub mod SinkLaws

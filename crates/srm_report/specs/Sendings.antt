@@ -1,7 +1,7 @@
 -- Requests and repairs that are counted as the rows come, and members that leave.
-use Rattle.std.specs.Prelude.{◌≡◌, ℕ, ◌+◌, Bool, false, List, [], Some, get_or}
+use Rattle.std.specs.Prelude.{◌≡◌, ℕ, ◌+◌, Bool, false, T, List, [], Some, get_or}
 use Rattle.std.specs.Option.{unwrap_or}
-use Rattle.std.specs.FinMap.Entries.{find}
+use Rattle.std.specs.FinMap.Entries.{find, is_sorted}
 use Rattle.srm_net.specs.declared.packet.Name.{Name}
 use Rattle.srm_net.specs.Names.{name_cmp}
 use Rattle.srm_member.specs.declared.row.Row.{Row}
@@ -12,9 +12,10 @@ use Rattle.srm_report.specs.Operations.{has_left, sending_of, sooner}
 abbrev pub sending_in : List (Name × Sending) → Name → Sending
 sending_in es n = unwrap_or (find name_cmp n es) (sending_of [] n)
 
--- the entries tell what was sent for each name, as these rows do
-abbrev pub TellSent : List Row → List (Name × Sending) → Type 0
-TellSent rows es = (n : Name) → sending_in es n ≡ sending_of rows n
+-- the entries tell what was sent for each name, as these rows do, the names rising
+pub record TellSent (rows : List Row) (es : List (Name × Sending)) : Type 0 where
+  pub sorted : T (is_sorted name_cmp es)
+  pub sent : (n : Name) → sending_in es n ≡ sending_of rows n
 
 -- the list tells of each member whether it left, as these rows do
 abbrev pub TellLeft : List Row → List Bool → Type 0
@@ -26,3 +27,11 @@ requested at s = record s { asked = sooner s.asked (Some at); requests = s.reque
 
 abbrev pub repaired : Sending → Sending
 repaired s = record s { repairs = s.repairs + 1 }
+
+-- what was sent in some rows and what was sent in others, together
+abbrev pub together : Sending → Sending → Sending
+together a b = record {
+  asked = sooner a.asked b.asked;
+  requests = a.requests + b.requests;
+  repairs = a.repairs + b.repairs;
+}

@@ -1,10 +1,8 @@
 //! Tables that list rows.
 ghost use Rattle.std.specs.Prelude.{◌≡◌, ◌++◌, IfOk, OnOk};
 ghost use Rattle.srm_report.specs.Listings.{Form, lines_in, text_in};
-ghost use Rattle.srm_report.specs.Texts.{bytes_of};
 
 use crate::fault::ReportFault;
-use crate::text::Text;
 use srm_member::row::Row;
 use std::alloc::{AllocError, Global};
 
@@ -33,17 +31,4 @@ pub trait Listing: Drop {
     /// [`AllocError`].
     fn put_line(text: &mut Vec<u8>, row: &Row) -> Result<(), AllocError>
         ensures { OnOk result (text.new.items ≡ text.old.items ++ form.line row.now) };
-
-    /// The lines of rows that are then gone. The thread that calls makes the text, unless the table has others for that.
-    ///
-    /// # Errors
-    /// `NoMemory`.
-    fn lines_of(&mut self, alloc: Global, rows: Vec<Row>) -> Result<Text, ReportFault>
-        ensures { IfOk result (λ text. bytes_of text ≡ lines_in form rows.items) }
-    {
-        match Self::lines(alloc, rows.as_slice()) {
-            Ok(text) => Ok(Text::Whole(text)),
-            Err(fault) => Err(fault),
-        }
-    }
 }

@@ -3,8 +3,6 @@ ghost use Rattle.std.specs.Prelude.{◌≡◌, ◌<◌, ◌+◌, ◌-◌, ◌^�
 ghost use Rattle.srm_member.specs.declared.row.Row.{Row as R};
 ghost use Rattle.srm_report.specs.KeptLines.{AreLinesOf};
 ghost use Rattle.srm_report.specs.Standings.{text_next, after_answer, TakesText};
-ghost use Rattle.srm_report.specs.Pieces.{joined_pieces};
-ghost use Rattle.srm_report.specs.Texts.{bytes_of};
 
 use crate::fault::ReportFault;
 use crate::in_turn::put_in_order;
@@ -12,7 +10,6 @@ use crate::lines::Lines;
 use crate::listing::Listing;
 use crate::outlet::{OutFault, Outlet};
 use crate::standing::Standing;
-use crate::text::Text;
 use crate::writing::{WriteFault, write_out};
 use srm_interfaces::kept_sink::KeptSink;
 use srm_interfaces::sink::{RowSink, SinkFault};
@@ -42,18 +39,14 @@ pub struct ListingSink<'a, L, O> {
 // The text of the rows that a sink takes next.
 fn text_of<L: Listing>(
     alloc: Global,
-    listing: &mut L,
     standing: Standing,
-    rows: Vec<Row>,
-) -> Result<Text, ReportFault>
-    ensures { IfOk result (λ text. bytes_of text ≡ text_next L.form standing rows.items) }
+    rows: &[Row],
+) -> Result<Vec<u8>, ReportFault>
+    ensures { IfOk result (λ text. text.items ≡ text_next L.form standing rows.now) }
 {
     match standing {
-        Standing::Fresh => match L::text(alloc, rows.as_slice()) {
-            Ok(text) => Ok(Text::Whole(text)),
-            Err(fault) => Err(fault),
-        },
-        Standing::Live | Standing::NoMemory | Standing::Stopped => listing.lines_of(alloc, rows),
+        Standing::Fresh => L::text(alloc, rows),
+        Standing::Live | Standing::NoMemory | Standing::Stopped => L::lines(alloc, rows),
     }
 }
 
@@ -105,26 +98,6 @@ fn write<O: Outlet>(outlet: &mut O, written: &mut u64, text: &[u8]) -> Result<()
             Err(OutFault)
         }
     }
-}
-
-// Writes the pieces of a text, and counts the bytes of it that were taken.
-fn write_each<O: Outlet>(
-    outlet: &mut O,
-    written: &mut u64,
-    pieces: &[Vec<u8>],
-) -> Result<(), OutFault>
-    requires { O.failures outlet.old < 2 ^ 64 - 1 }
-    ensures failures { O.failures outlet.new
-        ≡ (if is_ok result then O.failures outlet.old else O.failures outlet.old + 1) }
-    ensures taken { TakesText O.taken outlet.old written.old (joined_pieces pieces.now) result outlet.new written.new }
-{
-    for piece in pieces {
-        match write(outlet, written, piece.as_slice()) {
-            Ok(()) => {}
-            Err(OutFault) => return Err(OutFault),
-        }
-    }
-    Ok(())
 }
 
 impl<'a, L: Listing, O: Outlet> ListingSink<'a, L, O> {
@@ -226,9 +199,8 @@ impl<'a, L: Listing, O: Outlet> ListingSink<'a, L, O> {
         ensures left { LeavesOutlet self.old result self.new }
         ensures gathered { IfOk result (λ _. Gathers self.old (text_next L.form (standing_of self.old) rows.items) self.new) }
     {
-        match text_of(alloc, &mut self.listing, self.standing, rows) {
-            Ok(Text::Whole(text)) => self.put(text.as_slice()),
-            Ok(Text::Pieces(pieces)) => self.put_pieces(pieces.as_slice()),
+        match text_of::<L>(alloc, self.standing, rows.as_slice()) {
+            Ok(text) => self.put(text.as_slice()),
             Err(ReportFault::NoMemory) => Err(SinkFault::NoMemory),
         }
     }
@@ -272,40 +244,6 @@ impl<'a, L: Listing, O: Outlet> ListingSink<'a, L, O> {
                 let written = self.written;
                 Err(SinkFault::Stopped { written })
             }
-        }
-    }
-
-    // Writes a text in pieces after what is gathered.
-    fn put_pieces(&mut self, pieces: &[Vec<u8>]) -> Result<(), SinkFault>
-        requires failures { O.failures (outlet_under self.old) < 2 ^ 64 - 1 }
-        ensures outlet { AreOverOne self.old self.new }
-        ensures standing { StandsAsBefore self.old self.new }
-        ensures failures { O.failures (outlet_under self.new) ≡ O.failures (outlet_under self.old) + stops_in result }
-        ensures text { PutsText O.taken self.old (joined_pieces pieces.now) result self.new }
-        ensures left { LeavesOutlet self.old result self.new }
-        ensures gathered { IfOk result (λ _. Gathers self.old (joined_pieces pieces.now) self.new) }
-    {
-        match self.write_pieces(pieces) {
-            Ok(()) => Ok(()),
-            Err(OutFault) => {
-                let written = self.written;
-                Err(SinkFault::Stopped { written })
-            }
-        }
-    }
-
-    // Writes what is gathered, and the pieces of a text after it.
-    fn write_pieces(&mut self, pieces: &[Vec<u8>]) -> Result<(), OutFault>
-        requires failures { O.failures (outlet_under self.old) < 2 ^ 64 - 1 }
-        ensures outlet { AreOverOne self.old self.new }
-        ensures standing { StandsAsBefore self.old self.new }
-        ensures failures { O.failures (outlet_under self.new)
-            ≡ (if is_ok result then O.failures (outlet_under self.old) else O.failures (outlet_under self.old) + 1) }
-        ensures text { WritesThrough O.taken self.old (joined_pieces pieces.now) result self.new }
-    {
-        match self.write_gathered() {
-            Ok(()) => write_each(self.outlet, &mut self.written, pieces),
-            Err(OutFault) => Err(OutFault),
         }
     }
 

@@ -1,21 +1,26 @@
 //! The lines of the table of operations.
-ghost use Rattle.std.specs.Prelude.{◌≡◌, ◌<◌, [], ◌∷◌, IfOk, IfSome, length, map};
+ghost use Rattle.std.specs.Prelude.{◌≡◌, ◌<◌, [], ◌∷◌, List, IfOk, IfSome, length, map};
 ghost use Rattle.csv.specs.Machine.{line_feed};
 ghost use Rattle.csv.specs.Writing.{default_writer, row_text};
 ghost use Rattle.srm_net.specs.declared.packet.Name.{Name as AName};
+ghost use Rattle.srm_member.specs.declared.row.Row.{Row as R};
+ghost use Rattle.srm_member.specs.Orderly.{IsOrderly};
 ghost use Rattle.srm_report.specs.Lines.{full_room, line_room, line_text, line_written};
-ghost use Rattle.srm_report.specs.Operations.{last_told, operation_columns, operation_fields};
+ghost use Rattle.srm_report.specs.Operations.{last_told, operation_columns, operation_fields, operations_table};
+ghost use Rattle.srm_report.specs.OperationsSinks.{TellOperations};
 ghost use Rattle.srm_report.specs.Sendings.{sending_in};
 ghost use Rattle.srm_report.specs.Tables.{table_lines};
 ghost use Rattle.srm_report.specs.Tallies.{tally_in};
 
+use crate::course::Course;
 use crate::fault::ReportFault;
 use crate::fields::{put_dash, put_delay, put_number, put_time};
 use crate::line::Line;
+use crate::loss::Loss;
 use crate::recovery::Recovery;
 use crate::sending::Sending;
 use crate::sendings::sending;
-use crate::tallies::tally;
+use crate::tallies::{tallies, tally};
 use crate::tally::Tally;
 use srm_member::named::Named;
 use srm_net::net::Net;
@@ -26,8 +31,25 @@ use std::alloc::Global;
 const HEADER: &[u8] =
     b"source,page,number,losers,recovered,left,detected,asked,requests,repairs,last,delay\n";
 
+// The table of orderly rows of which this was found: their losses, in rising order, with what became of each; what was sent for each
+// name; and of each member whether it left.
+pub(crate) fn found_text(
+    alloc: Global,
+    net: &Net,
+    losses: &[(Loss, Course)],
+    sent: &Named<Sending>,
+    left: &[bool],
+) -> Result<Vec<u8>, ReportFault>
+    requires { (rows : List R) × IsOrderly (length net.now.hosts) rows × TellOperations rows losses.now sent.now left.now }
+    ensures { (rows : List R) → IsOrderly (length net.now.hosts) rows → TellOperations rows losses.now sent.now left.now
+        → IfOk result (λ text. text.items ≡ operations_table net.now rows) }
+{
+    let counted = tallies(alloc, losses, left)?;
+    table_text(alloc, net, &counted, sent)
+}
+
 // The table of the names of these tallies, with what was sent for each.
-pub(crate) fn table_text(
+fn table_text(
     alloc: Global,
     net: &Net,
     tallies: &Named<Tally>,

@@ -1,10 +1,17 @@
 //! The table of operations as CSV.
-ghost use Rattle.std.specs.Prelude.{◌≡◌, IfOk, length};
+ghost use Rattle.std.specs.Prelude.{◌≡◌, ◌≤◌, List, IfOk, length};
+ghost use Rattle.srm_interfaces.specs.Watches.{KeepMembers};
+ghost use Rattle.srm_member.specs.declared.row.Row.{Row as R};
 ghost use Rattle.srm_member.specs.Orderly.{IsOrderly};
+ghost use Rattle.srm_report.specs.KeptOperations.{KeepsOperations};
 ghost use Rattle.srm_report.specs.Operations.{operations_table};
 
 use crate::fault::ReportFault;
+use crate::member_operations::MemberOperations;
+use crate::operation_lines::found_text;
 use crate::operations_sink::OperationsSink;
+use crate::sendings::add_sent;
+use srm_member::named::Named;
 use srm_member::row::Row;
 use srm_net::net::Net;
 use std::alloc::Global;
@@ -39,4 +46,31 @@ pub fn operations_text(alloc: Global, net: &Net, rows: &[Row]) -> Result<Vec<u8>
     let mut sink = OperationsSink::new(alloc);
     sink.take(rows)?;
     sink.text(alloc, net)
+}
+
+/// The same of rows of which this was kept of each member, as [`FindOperations`](crate::find_operations::FindOperations) keeps it.
+///
+/// # Errors
+/// `NoMemory`, also where a count would be too great for its number.
+pub fn operations_kept(
+    alloc: Global,
+    net: &Net,
+    kept: &[MemberOperations],
+) -> Result<Vec<u8>, ReportFault>
+    requires { (rows : List R) × IsOrderly (length net.now.hosts) rows × (length net.now.hosts ≤ length kept.now)
+        × KeepMembers (λ k own. KeepsOperations own k) 0 kept.now rows }
+    ensures { (rows : List R) → IsOrderly (length net.now.hosts) rows → length net.now.hosts ≤ length kept.now
+        → KeepMembers (λ k own. KeepsOperations own k) 0 kept.now rows
+        → IfOk result (λ text. text.items ≡ operations_table net.now rows) }
+{
+    let mut losses = Vec::new(alloc);
+    let mut sent = Named::new(alloc);
+    let mut left = Vec::new(alloc);
+    for own in kept {
+        let found = own.losses.entries(alloc)?;
+        losses.extend_from_slice(found.as_slice())?;
+        add_sent(alloc, &mut sent, &own.sent)?;
+        left.extend_from_slice(&[own.left])?;
+    }
+    found_text(alloc, net, losses.as_slice(), &sent, left.as_slice())
 }

@@ -5,10 +5,9 @@ use crate::by_loss::ByLoss;
 use crate::course::Course;
 use crate::courses::note;
 use crate::fault::ReportFault;
-use crate::operation_lines::table_text;
+use crate::operation_lines::found_text;
 use crate::sending::Sending;
 use crate::sendings::{note_left, note_sent};
-use crate::tallies::tallies;
 use srm_interfaces::sink::{RowSink, SinkFault, Stage};
 use srm_member::named::Named;
 use srm_member::row::Row;
@@ -58,8 +57,13 @@ impl OperationsSink {
             → IfOk result (λ text. text.items ≡ operations_table net.now rows) }
     {
         let entries = self.losses.entries(alloc)?;
-        let counted = tallies(alloc, entries.as_slice(), self.left.as_slice())?;
-        table_text(alloc, net, &counted, &self.sent)
+        found_text(
+            alloc,
+            net,
+            entries.as_slice(),
+            &self.sent,
+            self.left.as_slice(),
+        )
     }
 
     // Takes in what these rows say.

@@ -1,17 +1,17 @@
 //! What was sent for names, and who left, row by row.
-ghost use Rattle.std.specs.Prelude.{◌≡◌, ◌<◌, ◌++◌, ◌∷◌, [], ℕ, List, Some, OnOk, length, get_or, false};
+ghost use Rattle.std.specs.Prelude.{◌≡◌, ◌<◌, ◌++◌, ◌∷◌, [], ℕ, List, Some, OnOk, IfSome, length, get_or, false};
 ghost use Rattle.std.specs.FinMap.Entries.{put};
 ghost use Rattle.srm_net.specs.Names.{name_cmp};
 ghost use Rattle.srm_member.specs.declared.row.Row.{Row as R};
 ghost use Rattle.srm_report.specs.Operations.{sooner};
-ghost use Rattle.srm_report.specs.Sendings.{repaired, requested, sending_in, TellLeft, TellSent};
+ghost use Rattle.srm_report.specs.Sendings.{repaired, requested, sending_in, TellLeft, TellSent, together as sent_together};
 
 use crate::sending::Sending;
 use srm_member::named::Named;
 use srm_member::row::{About, Row, Word};
 use srm_member::told::Told;
 use srm_net::packet::Name;
-use std::alloc::AllocError;
+use std::alloc::{AllocError, Global};
 
 // Takes in what one more row says of requests and repairs. It answers no memory also where a count would be too great for its number.
 pub(crate) fn note_sent(sent: &mut Named<Sending>, row: &Row) -> Result<(), AllocError>
@@ -82,6 +82,43 @@ fn count_repair(sent: &mut Named<Sending>, name: Name) -> Result<(), AllocError>
         return Err(AllocError);
     };
     sent.put(name, Sending { repairs, ..before })
+}
+
+// Takes in what was sent in more rows, of which this was found. It answers no memory also where a count would be too great for its
+// number.
+pub(crate) fn add_sent(
+    alloc: Global,
+    sent: &mut Named<Sending>,
+    more: &Named<Sending>,
+) -> Result<(), AllocError>
+    ensures { (xs ys : List R) → TellSent xs sent.old → TellSent ys more.now → OnOk result (TellSent (xs ++ ys) sent.new) }
+{
+    let names = more.names(alloc)?;
+    for name in names.as_slice() {
+        let name = *name;
+        let Some(all) = together(sending(sent, name), sending(more, name)) else {
+            return Err(AllocError);
+        };
+        sent.put(name, all)?;
+    }
+    Ok(())
+}
+
+// What was sent in some rows and what was sent in others, together, if its counts have room.
+fn together(some: Sending, others: Sending) -> Option<Sending>
+    ensures { IfSome result (λ s. s ≡ sent_together some others) }
+{
+    let asked = match others.asked {
+        None => some.asked,
+        Some(at) => sooner_of(some.asked, at),
+    };
+    let requests = some.requests.checked_add(others.requests)?;
+    let repairs = some.repairs.checked_add(others.repairs)?;
+    Some(Sending {
+        asked,
+        requests,
+        repairs,
+    })
 }
 
 // Takes in whether the member of one more row left.

@@ -6,7 +6,7 @@ use Rattle.csv.specs.Writing.{default_writer, row_text}
 use Rattle.memchr.specs.Find.{IsFirstByte, is_byte}
 use Rattle.srm_report.specs.Seeds.{IsLine}
 use Rattle.srm_report.proofs.SeedLemmas.{first_feed, line_ends}
-use Rattle.srm_report.proofs.PieceLemmas.{drop-whole}
+use Rattle.srm_report.proofs.TextLemmas.{drop-whole}
 use Rattle.srm_report.proofs.seeds.end_of_line.Goals as goal
 
 -- the first line feed of what stands from here on is that of the line

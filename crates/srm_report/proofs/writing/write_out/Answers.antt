@@ -1,7 +1,7 @@
 use Rattle.std.proofs.Common.{◌∙◌, take, drop, arith, length-drop}
 use Rattle.std.proofs.Math.Seq.{take-add}
 use Rattle.std.proofs.KnownBytes.{Appends-trans}
-use Rattle.srm_report.proofs.PieceLemmas.{drop-whole}
+use Rattle.srm_report.proofs.TextLemmas.{drop-whole}
 use Rattle.srm_report.proofs.writing.write_out.Goals as goal
 
 -- what was taken before, and the front of the rest

@@ -14,3 +14,8 @@ hear_in_team-requires-clause-groups g c =
     (sym c.requires.serves.0)
     (subst (λ (n : Network). GroupsMayHear g.M.Participant.plain (traffic_of c.args.scenario.now n) ps gs) (sym c.requires.serves.1)
     c.requires.groups)
+
+pub hear_groups-requires-clause-groups : goal.hear_groups-requires-clause-groups
+hear_groups-requires-clause-groups g c =
+    subst (λ xs. GroupsMayHear g.M.Participant.plain (traffic_of c.args.scenario.now c.args.net.now) (packets_in xs) c.args.groups.items)
+    (sym c.as_slice-then-saturating_mul-lt-ENOUGH.ensures.value) c.requires.groups

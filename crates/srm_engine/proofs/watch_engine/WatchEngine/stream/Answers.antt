@@ -151,7 +151,8 @@ loop-begin-preserved g c =
           let turn = kept_in_turn f g.S.KeptSink.keeps ended done.stands seed (i.0 ++ i.1 ∷ []) told.0 told.1 i.1.trace rows
           told.2.1 told.2.2 (keep_as keeps g.S.KeptSink.keeps c.requires.keeps 0 (kept_by ended) rows (told.2.3 [] v.none)) in
           let rule = rule_by e seed in
-          let calls = subst (λ l. g.C.WatchCrew.handed c.args.crew.now l c.window.new.crew) (sym ((calls_follow rule e.groups.cut).1 i.0 i.1))
+          let calls = subst (λ l. g.C.WatchCrew.handed c.args.crew.now l c.window.new.crew)
+          (sym ((calls_follow rule e.groups.cut).1 i.0 i.1))
           (g.met.C.WatchCrew.handed_more _ _ _ _ _ i.4 both.1) in (
             i.0 ++ i.1 ∷ [],
             told.0,

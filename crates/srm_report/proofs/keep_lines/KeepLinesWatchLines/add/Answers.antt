@@ -2,6 +2,7 @@ use Rattle.std.proofs.Common.{◌≡◌, ◌∙◌, ◌<◌, ◌++◌, refl, ap,
 use Rattle.std.proofs.Math.Seq.{take-length}
 use Rattle.srm_report.specs.KeptLines.{lines_of}
 use Rattle.srm_report.proofs.ListingLemmas.{kept-more}
+use Rattle.srm_report.proofs.TurnLemmas.{any_default}
 use Rattle.srm_report.proofs.keep_lines.KeepLinesWatchLines.add.Goals as goal
 
 pub loop-row-init : goal.loop-row-init
@@ -9,9 +10,11 @@ loop-row-init g c before was = c.replace-lines.ensures.value ∙ was ∙ ap (lin
 
 pub loop-row-preserved : goal.loop-row-preserved
 loop-row-preserved g c before was =
-    let lt : c.loop-row.row-index < length c.args.rows.now = c.loop-row-test.true in
-    kept-more g.L.Listing.form before c.args.rows.now c.loop-row.row-index c.row-item.result _ _ _ lt c.row-item.is
-    (c.loop-row.invariant before was) refl c.in_ok-lines.ensures
+    let rows = c.args.rows.now in
+    let i = c.loop-row.row-index in
+    let lt : i < length rows = c.loop-row-test.true in
+    kept-more g.L.Listing.form before rows i c.row-item.result c.loop-row.lines c.in_ok-lines.lines _ lt
+    (c.row-item.is ∙ any_default rows i _ _ lt) (c.loop-row.invariant before was) refl c.in_ok-lines.ensures
 
 pub returns : goal.returns
 returns g c before was =

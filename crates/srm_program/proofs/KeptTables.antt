@@ -1,0 +1,141 @@
+-- What is told of a table that is written at the end of a run, of what a watch kept.
+use Rattle.std.proofs.Common.{◌≡◌, ◌≤◌, ℕ, List, length, Option, Result, Ok, Err, refl, sym, subst, arith}
+use Rattle.std.proofs.lemmas.List.{length-map}
+use Rattle.std.specs.Global.{Vec}
+use Rattle.srm_net.specs.Network.{Network}
+use Rattle.srm_scenario.specs.Plain.{PlainScenario, network_of}
+use Rattle.srm_member.specs.Record.{Record}
+use Rattle.srm_member.specs.declared.row.Row.{Row}
+use Rattle.srm_member.specs.declared.exit.Exit.{Exit}
+use Rattle.srm_cell.specs.Setting.{setting_of}
+use Rattle.srm_interfaces.specs.Watches.{KeepMembers}
+use Rattle.srm_model.specs.World.{IsOutcome}
+use Rattle.srm_options.specs.declared.options.Engine.TheVariants.{Window}
+use Rattle.srm_options.specs.declared.options.Options.{Options}
+use Rattle.srm_options.specs.declared.options.Show.{Show}
+use Rattle.srm_options.specs.declared.options.Show.TheVariants.{Trace, Members, Losses, Operations, Links, Timers}
+use Rattle.srm_engine.specs.declared.fault.RunFault.{RunFault}
+use Rattle.srm_engine.specs.declared.fault.RunFault.TheVariants as fault
+use Rattle.srm_engine.specs.Openings.{seed_in}
+use Rattle.srm_engine.specs.Starts.{AreOpening}
+use Rattle.srm_engine.specs.Windowed.{rule_of}
+use Rattle.srm_engine.specs.WindowWatches.{TellsWatchAsked, MeetsWatchRefusal}
+use Rattle.srm_report.specs.declared.outlet.Outlet as outlet
+use Rattle.srm_program.specs.declared.fault.LabFault.{LabFault}
+use Rattle.srm_program.specs.declared.fault.LabFault.TheVariants.{BadCut, BadWidth, ShareFull, NoMemory, CountFull, WriteFault}
+use Rattle.srm_program.specs.declared.task.Task.{Task}
+use Rattle.srm_program.specs.Askings.{ForEachSeed, IsKept, Reports}
+use Rattle.srm_program.specs.Reports.{ByShow, TellsListing, TellsTable, Writes, failures_after_run, shown}
+use Rattle.srm_program.specs.Runs.{KeepsRows, MayBreakOff, TellsRefusedFor, TellsReport, fault_of_run}
+use Rattle.srm_program.proofs.TableTexts.{asked_told, table_told}
+use Rattle.srm_program.proofs.Texts.{keeps-itself}
+
+-- the refusal of a run whose rows are watched
+pub kept_refused : (A T : Type 0) {C K : Type 0} (keeps : K → List Row → Type 0) (p : PlainScenario) (net : Network) (seed : ℕ)
+    (o : Options) (old new : C) (x : RunFault) → o.engine ≡ Window
+    → TellsWatchAsked {A = A} net (record { cut = o.cut; width = o.width }) (Err x)
+    → MeetsWatchRefusal (setting_of p net seed) (rule_of (setting_of p net seed) net o.width) o.cut old x new
+    → KeepsRows keeps (setting_of p net seed) (Err (fault_of_run x)) × TellsRefusedFor {T = T} p net seed o (Err (fault_of_run x))
+kept_refused A T keeps p net seed o old new fault.NoMemory window asked met = (tt, λ e. asked)
+kept_refused A T keeps p net seed o old new fault.CountFull window asked met = (met.1.2.0, λ e. asked)
+kept_refused A T keeps p net seed o old new fault.ShareFull window asked met =
+    (tt, (window, asked, (met.1.0, met.0, met.1.1, met.1.2)))
+kept_refused A T keeps p net seed o old new fault.BadCut window asked met = (tt, (window, asked))
+kept_refused A T keeps p net seed o old new fault.BadWidth window asked met = (tt, (window, asked.0, asked.1))
+
+-- this table is written at the end
+abbrev pub IsWhole : Show → Type 0
+IsWhole show = ByShow show (λ text. ⊥) (Unit {0})
+
+whole_report : (T : Type 0) (p : PlainScenario) (net : Network) (seed : ℕ) (o : Options) (show : Show) (old new : Option (List ℕ))
+    (r : Result T LabFault) → IsWhole show → o.show ≡ show → TellsTable p net seed show old new r → TellsReport p net seed o old new r
+whole_report T p net seed o show old new r whole is told =
+    subst (λ (s : Show). ByShow s (λ text. TellsListing text (MayBreakOff p net seed o) (setting_of p net seed) old new r)
+    (TellsTable p net seed s old new r)) (sym is) (by show whole told)
+  where
+    by : (s : Show) → IsWhole s → TellsTable p net seed s old new r
+        → ByShow s (λ text. TellsListing text (MayBreakOff p net seed o) (setting_of p net seed) old new r)
+        (TellsTable p net seed s old new r)
+    by Trace whole told = absurd whole
+    by Members whole told = told
+    by Losses whole told = told
+    by Operations whole told = told
+    by Links whole told = told
+    by Timers whole told = absurd whole
+
+module _ {K : Type 0} (keeps : K → List Row → Type 0) where
+  -- nothing is told of a run that was refused
+  nothing_told : (A T : Type 0) (p : PlainScenario) (net : Network) (seed : ℕ) (o : Options) (show : Show) (at : Option (List ℕ))
+      (f : LabFault) → KeepsRows keeps (setting_of p net seed) (Err f) → TellsRefusedFor {T = A} p net seed o (Err f)
+      → TellsTable {T = T} p net seed show at at (Err f) × TellsRefusedFor {T = T} p net seed o (Err f)
+  nothing_told A T p net seed o show at BadCut kept asked = (keeps-itself at, asked)
+  nothing_told A T p net seed o show at BadWidth kept asked = (keeps-itself at, asked)
+  nothing_told A T p net seed o show at ShareFull kept asked = (keeps-itself at, asked)
+  nothing_told A T p net seed o show at NoMemory kept asked = (keeps-itself at, asked)
+  nothing_told A T p net seed o show at CountFull kept asked = ((kept, keeps-itself at), asked)
+  nothing_told A T p net seed o show at (WriteFault n) kept asked = absurd kept
+
+  not_written : (T : Type 0) (p : PlainScenario) (net : Network) (seed n : ℕ) (f : LabFault)
+      → KeepsRows keeps (setting_of p net seed) (Err f) → n ≡ failures_after_run {T = T} (Err f) n
+  not_written T p net seed n BadCut kept = refl
+  not_written T p net seed n BadWidth kept = refl
+  not_written T p net seed n ShareFull kept = refl
+  not_written T p net seed n NoMemory kept = refl
+  not_written T p net seed n CountFull kept = refl
+  not_written T p net seed n (WriteFault written) kept = absurd kept
+
+  -- what was kept, seen as this list, is of each member
+  pub rows_kept : (task : Task) (rs : List Record) (v : Vec K × List ℕ) (ks : List K) → ks ≡ v.0.items → IsKept keeps task rs (Ok v)
+      → ForEachSeed task rs (λ p net seed. (rows : List Row) × (exits : List Exit) × IsOutcome (setting_of p net seed) rows exits v.1
+      × (length p.members ≤ length ks) × KeepMembers keeps 0 ks rows)
+  rows_kept task rs v ks are kept seed h =
+      let k = kept.kept seed h in
+      let p = task.session.scenario.now in
+      let many : length p.members ≤ length v.0.items = let n = k.0 in omega (arith, n) in (
+        k.1.0,
+        k.1.1,
+        k.1.2,
+        subst (λ (l : List K). length p.members ≤ length l) (sym are) many,
+        subst (λ (l : List K). KeepMembers keeps 0 l k.1.0) (sym are) k.1.3,
+      )
+
+  module _ {O : Type 0} (T : Type 0) (o : outlet.Ghosts O) (task : Task) (rs : List Record) (show : Show) (whole : IsWhole show)
+      (is : task.options.show ≡ show) where
+    -- the report of a run that was refused
+    pub refused_report : (at : O) (f : LabFault) → AreOpening task.session rs → IsKept keeps task rs (Err f)
+        → Reports {T = T} o task rs at (Err f) at
+    refused_report at f opening kept = record {
+      failures = not_written T task.session.scenario.now task.session.net.now (seed_in rs) (o.failures at) f
+          (kept.kept (seed_in rs) opening);
+      report = λ seed h.
+          let p = task.session.scenario.now in
+          let net = task.session.net.now in
+          let told = nothing_told (Vec K × List ℕ) T p net seed task.options show (o.taken at) f (kept.kept seed h) (kept.refused seed h) in
+          (whole_report T p net seed task.options show (o.taken at) (o.taken at) (Err f) whole is told.0, told.1);
+    }
+
+    -- the report of a whole run, of which the outlet took the table
+    pub kept_report : (old new : O) (v : Vec K × List ℕ) (ks : List K) (r : Result T LabFault) → ks ≡ v.0.items
+        → IsKept keeps task rs (Ok v) → o.failures new ≡ failures_after_run r (o.failures old)
+        → ForEachSeed task rs (λ p net seed. (rows : List Row) (exits : List Exit) → IsOutcome (setting_of p net seed) rows exits v.1
+        → length p.members ≤ length ks → KeepMembers keeps 0 ks rows
+        → Writes (o.taken old) (o.taken new) (shown show p net rows v.1) r)
+        → Reports o task rs old r new
+    kept_report old new v ks r are kept failures writes = record {
+      failures = failures;
+      report = λ seed h.
+          let p = task.session.scenario.now in
+          let net = task.session.net.now in
+          let t = rows_kept task rs v ks are kept seed h in
+          let w = writes seed h t.0 t.1 t.2 t.3 t.4 in (
+            whole_report T p net seed task.options show (o.taken old) (o.taken new) r whole is
+                (table_told p net seed show t.0 t.1 v.1 t.2 (o.taken old) (o.taken new) r w),
+            asked_told p net seed task.options (kept.refused seed h) (o.taken old) (o.taken new) (shown show p net t.0 v.1) r w,
+          );
+    }
+
+-- a network has as many hosts as its scenario has members
+pub hosts_of : (p : PlainScenario) (net : Network) (n : ℕ) → net ≡ network_of p → length p.members ≤ n → length net.hosts ≤ n
+hosts_of p net n made many =
+    subst (λ (w : Network). length w.hosts ≤ n) (sym made)
+    (subst (λ (k : ℕ). k ≤ n) (sym (length-map p.members (λ m. m.node))) many)

@@ -1,5 +1,0 @@
-use Rattle.srm_program.proofs.in_team.in_team.Given as goal
-
--- the history that was just opened
-abbrev pub ghosts-by_team : goal.ghosts-by_team
-ghosts-by_team g a = record { book = a.opened }
