@@ -7,22 +7,17 @@ use mathlib.Core.Logic.{dite}
 use native.Mathlib.Decide.{dec_le}
 use Rattle.std.proofs.lemmas.List.{map-append}
 use Rattle.std.proofs.lemmas.List.Elements.{Contains-append_right, Contains-get_or}
-use Rattle.std.specs.List.{AllZip, Contains}
+use Rattle.std.specs.List.{Contains}
 use Rattle.std.specs.Global.{Vec}
-use Rattle.srm_net.specs.Network.{Network}
-use Rattle.srm_scenario.specs.Plain.{PlainScenario}
 use Rattle.srm_member.specs.Record.{Record}
 use Rattle.srm_cell.specs.declared.job.Job.{Job}
-use Rattle.srm_cell.specs.declared.job.Done as job
 use Rattle.srm_cell.specs.declared.fault.CellFault.{CellFault}
 use Rattle.srm_cell.specs.declared.fault.CellFault.TheVariants as cell
 use Rattle.srm_cell.specs.Cells.{StepOutcome, Stepped}
-use Rattle.srm_cell.specs.Setting.{traffic_of}
-use Rattle.srm_cell.specs.Jobs.{PlainJob, IsDone}
-use Rattle.srm_interfaces.specs.Crews.{AreJobs, AnyEnds, AdvanceEach, TellsEach}
-use Rattle.srm_crew.specs.Teams.{PutTogether}
+use Rattle.srm_cell.specs.Jobs.{PlainJob}
+use Rattle.srm_interfaces.specs.Crews.{AreJobs, AnyEnds}
+use Rattle.srm_crew.specs.Pieces.{PutTogether}
 use Rattle.srm_interfaces.proofs.InPieces.{all_in}
-use Rattle.srm_net.proofs.Basics.{zip_append}
 
 pub any_first : (o : StepOutcome Stepped) (ps qs : List PlainJob) → AnyEnds o ps → AnyEnds o (ps ++ qs)
 any_first o [] qs h = absurd h
@@ -48,44 +43,6 @@ module _ {M : Type 0} (f : M → Record) where
   parted (x ∷ xs) ys (p ∷ ps) h =
       let r = parted xs ys ps h.1 in
       record { first = p ∷ r.first; others = r.others; whole = ap (λ l. p ∷ l) r.whole; one = (h.0, r.one); more = r.more }
-
-  module _ (k : PlainScenario) (net : Network) where
-    -- what each piece gave
-    abbrev pub Gave : List (Vec (Job M)) → List (Result (Vec (job.Done M)) CellFault) → Type 0
-    Gave pieces rs = AllZip (λ (js : Vec (Job M)) r. AdvanceEach f k net js.items r) pieces rs
-
-    all_done : (pieces : List (Vec (Job M))) (ds : List (Vec (job.Done M))) (ps : List PlainJob) → Gave pieces (map Ok ds)
-        → AreJobs f (all_in pieces) ps → AllZip (λ p d. IsDone f (traffic_of k net) p d) ps (all_in ds)
-    all_done [] [] [] z h = tt
-    all_done [] [] (p ∷ ps) z h = absurd h
-    all_done [] (d ∷ ds) ps z h = absurd z
-    all_done (j ∷ js) [] ps z h = absurd z
-    all_done (j ∷ js) (d ∷ ds) ps z h =
-        let r = parted j.items (all_in js) ps h in
-        subst (λ l. AllZip (λ p d. IsDone f (traffic_of k net) p d) l (all_in (d ∷ ds))) (sym r.whole)
-        (zip_append (λ p d. IsDone f (traffic_of k net) p d) r.first d.items r.others (all_in ds) (z.0.tells r.first r.one)
-        (all_done js ds r.others z.1 r.more))
-
-    any_told : (o : StepOutcome Stepped) (e : CellFault)
-        → ((ps : List PlainJob) → TellsEach f (traffic_of k net) ps (Err e) → AnyEnds o ps)
-        → (pieces : List (Vec (Job M))) (rs : List (Result (Vec (job.Done M)) CellFault)) (ps : List PlainJob)
-        → Gave pieces rs → AreJobs f (all_in pieces) ps → (i : ℕ) → i < length rs → get_or rs i (Err e) ≡ Err e → AnyEnds o ps
-    any_told o e tells pieces [] ps z h i lt at = absurd (omega arith)
-    any_told o e tells [] (r ∷ rs) ps z h i lt at = absurd z
-    any_told o e tells (j ∷ js) (r ∷ rs) ps z h zero lt at =
-        let c = parted j.items (all_in js) ps h in
-        subst (AnyEnds o) (sym c.whole) (any_first o c.first c.others
-        (tells c.first (subst (TellsEach f (traffic_of k net) c.first) at (z.0.tells c.first c.one))))
-    any_told o e tells (j ∷ js) (r ∷ rs) ps z h (suc i) lt at =
-        let c = parted j.items (all_in js) ps h in
-        subst (AnyEnds o) (sym c.whole) (any_last o c.first c.others
-        (any_told o e tells js rs c.others z.1 c.more i (omega arith) at))
-
-    -- jobs whose pieces were advanced, and then put together, were advanced
-    pub pieces_advanced : (pieces : List (Vec (Job M))) (rs : List (Result (Vec (job.Done M)) CellFault))
-        (r : Result (Vec (job.Done M)) CellFault)
-        → Gave pieces rs → PutTogether rs r → AdvanceEach f k net (all_in pieces) r
-    pieces_advanced pieces rs r z h = grind (arith, all_done, any_told)
 
 module _ {D : Type 0} where
   -- what was put together of these pieces, and what is left of them
@@ -181,10 +138,3 @@ few_enough n room pieces some few = dite (dec_le pieces room) (λ near. near)
     let most : room * (n / room + 1) ≤ (pieces - 1) * (n / room + 1) =
     mul-le-mul_right (n / room + 1) (let l = lt_of_not-le far in omega (arith, l)) in
     omega (arith, past, most, few)))
-
--- what advancing jobs tells of one scenario and network it tells of the same under other names
-pub as_given : {M : Type 0} (f : M → Record) (own given : PlainScenario) (own_net net : Network) (js : List (Job M))
-    (r : Result (Vec (job.Done M)) CellFault)
-    → own ≡ given → own_net ≡ net → AdvanceEach f own own_net js r → AdvanceEach f given net js r
-as_given f own given own_net net js r p q a =
-    subst (λ k. AdvanceEach f k net js r) p (subst (λ n. AdvanceEach f own n js r) q a)

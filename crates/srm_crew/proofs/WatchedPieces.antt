@@ -6,7 +6,7 @@ use Rattle.std.proofs.lemmas.List.Elements.{All-nil, All-cons, All-head, All-tai
 use Rattle.std.specs.List.{AllZip}
 use Rattle.std.specs.Global.{Vec}
 use Rattle.srm_net.specs.Network.{Network}
-use Rattle.srm_scenario.specs.Plain.{PlainScenario, network_of}
+use Rattle.srm_scenario.specs.Plain.{PlainScenario}
 use Rattle.srm_member.specs.Record.{Record}
 use Rattle.srm_member.specs.declared.row.Row.{Row}
 use Rattle.srm_ledger.specs.Seats.{SeatView}
@@ -27,7 +27,7 @@ use Rattle.srm_interfaces.proofs.InPieces.{all_each, all_in}
 use Rattle.srm_interfaces.proofs.Sums.{all_long, rows_of_all, sum_is}
 use Rattle.srm_net.proofs.Basics.{zip_append}
 use Rattle.srm_crew.specs.Shared.{sum_of}
-use Rattle.srm_crew.specs.Teams.{PutTogether}
+use Rattle.srm_crew.specs.Pieces.{PutTogether}
 use Rattle.srm_crew.specs.Watched.{MayWatch, SettlesWatched}
 use Rattle.srm_crew.proofs.JobPieces.{any_first, any_last, parted}
 use Rattle.srm_crew.proofs.JobsSeen.{seen_jobs}
@@ -51,30 +51,29 @@ module _ {M K : Type 0} (f : M → Record) (k : PlainScenario) (net : Network) w
       (All-head (λ j. MayAdvance f (length net.hosts) (job_in j)) j js h)
       (may_jobs js (All-tail (λ j. MayAdvance f (length net.hosts) (job_in j)) j js h))
 
-  each_both : (pieces : List (Vec (WatchedJob M K))) → net ≡ network_of k
+  each_both : (pieces : List (Vec (WatchedJob M K)))
       → All (λ (js : Vec (WatchedJob M K)). All (λ j. MayAdvance f (length net.hosts) (job_in j)) js.items) pieces
       → All (λ (js : Vec (WatchedJob M K)). All HaveKept js.items) pieces
-      → All (λ (js : Vec (WatchedJob M K)). MayWatch f k net js.items) pieces
-  each_both [] n h g = All-nil (λ (js : Vec (WatchedJob M K)). MayWatch f k net js.items)
-  each_both (js ∷ pieces) n h g =
-      All-cons (λ (js : Vec (WatchedJob M K)). MayWatch f k net js.items) js pieces (
-        n,
+      → All (λ (js : Vec (WatchedJob M K)). MayWatch f net js.items) pieces
+  each_both [] h g = All-nil (λ (js : Vec (WatchedJob M K)). MayWatch f net js.items)
+  each_both (js ∷ pieces) h g =
+      All-cons (λ (js : Vec (WatchedJob M K)). MayWatch f net js.items) js pieces (
         may_jobs js.items (All-head (λ (x : Vec (WatchedJob M K)). All (λ j. MayAdvance f (length net.hosts) (job_in j)) x.items)
             js pieces h),
         All-head (λ (x : Vec (WatchedJob M K)). All HaveKept x.items) js pieces g,
       )
-      (each_both pieces n
+      (each_both pieces
       (All-tail (λ (x : Vec (WatchedJob M K)). All (λ j. MayAdvance f (length net.hosts) (job_in j)) x.items) js pieces h)
       (All-tail (λ (x : Vec (WatchedJob M K)). All HaveKept x.items) js pieces g))
 
   -- jobs that may be watched may be watched in pieces
-  pub watch_pieces : (pieces : List (Vec (WatchedJob M K))) (js : List (WatchedJob M K)) → all_in pieces ≡ js → MayWatch f k net js
-      → All (λ (js : Vec (WatchedJob M K)). MayWatch f k net js.items) pieces
+  pub watch_pieces : (pieces : List (Vec (WatchedJob M K))) (js : List (WatchedJob M K)) → all_in pieces ≡ js → MayWatch f net js
+      → All (λ (js : Vec (WatchedJob M K)). MayWatch f net js.items) pieces
   watch_pieces pieces js is h =
-      let own : MayWatch f k net (all_in pieces) = subst (λ l. MayWatch f k net l) (sym is) h in
-      each_both pieces own.0
-      (all_each (λ j. MayAdvance f (length net.hosts) (job_in j)) pieces (may_each (all_in pieces) own.1))
-      (all_each HaveKept pieces own.2)
+      let own : MayWatch f net (all_in pieces) = subst (λ l. MayWatch f net l) (sym is) h in
+      each_both pieces
+      (all_each (λ j. MayAdvance f (length net.hosts) (job_in j)) pieces (may_each (all_in pieces) own.0))
+      (all_each HaveKept pieces own.1)
 
   -- ---- what is left of them
 

@@ -7,5 +7,4 @@ pub mod Indices
 pub mod Passes
 pub mod Shared
 pub mod Recorded
-pub mod Teams
 pub mod Watched

@@ -2,7 +2,7 @@
 use Rattle.std.specs.Prelude.{◌≡◌, List, All, length, Result, Ok, Err}
 use Rattle.std.specs.Global.{Vec}
 use Rattle.srm_net.specs.Network.{Network}
-use Rattle.srm_scenario.specs.Plain.{PlainScenario, network_of}
+use Rattle.srm_scenario.specs.Plain.{PlainScenario}
 use Rattle.srm_member.specs.declared.row.Row.{Row}
 use Rattle.srm_member.specs.Record.{Record}
 use Rattle.srm_cell.specs.declared.job.Done as job
@@ -22,7 +22,7 @@ use Rattle.srm_interfaces.specs.Watches.{HaveKept, Watches, job_in, jobs_in}
 
 -- the work is on runs of this scenario on this network
 abbrev pub IsWatchOn : {W : Type 0} → Watching W → PlainScenario → Network → Type 0
-IsWatchOn w k net = (w.scenario.now ≡ k) × (w.net.now ≡ net)
+IsWatchOn w k net = (w.session.scenario.now ≡ k) × (w.session.net.now ≡ net)
 
 module _ {M K : Type 0} where
   -- what advancing one watched job tells: what is left of what is done of it; or why not, as without a watch, but
@@ -35,9 +35,8 @@ module _ {M K : Type 0} where
   AdvanceOne f keeps k net j (Err e) = Advances f k net (job_in j) (Err e)
 
   -- the jobs may be advanced, and something is kept of each of their cells
-  abbrev pub MayWatch : (M → Record) → PlainScenario → Network → List (WatchedJob M K) → Type 0
-  MayWatch f k net js =
-      (net ≡ network_of k) × All (λ j. MayAdvance f (length net.hosts) j) (jobs_in js) × All HaveKept js
+  abbrev pub MayWatch : (M → Record) → Network → List (WatchedJob M K) → Type 0
+  MayWatch f net js = All (λ j. MayAdvance f (length net.hosts) j) (jobs_in js) × All HaveKept js
 
   -- what adding the crossings of all that is left tells: all of it, with a seat that has grown by them; or the refusal
   -- of the cells; or else, that a share would be past its bound

@@ -2,15 +2,12 @@
 #![tactic(auto)]
 
 mod add;
-pub mod advancing;
 pub mod bag;
 pub mod bag_crew;
 pub mod bag_fault;
 mod counted;
 mod each;
 pub mod gate;
-mod has_due;
-pub mod hearing;
 mod order;
 pub mod pass;
 pub mod piece;
@@ -21,7 +18,6 @@ pub mod recording;
 pub mod rule;
 mod shared;
 pub mod taken;
-pub mod team_crew;
 pub mod watch_team;
 pub mod watching;
 pub mod worked;

@@ -1,16 +1,16 @@
 //! What a team's worker is given at once.
 use srm_cell::cell::Cell;
-use srm_cell::job::Job;
 use srm_cell::sent::Sent;
+use srm_interfaces::watched::WatchedJob;
 use std::sync::Arc;
 
-/// Work on some of the cells of a call, whose jobs are each a `T`.
+/// Work on some of the cells of a call.
 #[derive(Drop)]
-pub enum Piece<M, T = Job<M>> {
+pub enum Piece<M, K> {
     /// Jobs to be advanced.
     Jobs {
         /// The jobs.
-        jobs: Vec<T>,
+        jobs: Vec<WatchedJob<M, K>>,
     },
     /// Groups of cells that are to hear what was sent.
     Hearers {

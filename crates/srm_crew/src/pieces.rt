@@ -3,28 +3,41 @@ ghost use Rattle.std.specs.Prelude.{◌≡◌, ◌≤◌, ◌+◌, ◌-◌, ◌*
 ghost use Rattle.std.specs.List.{AllZip};
 ghost use Rattle.srm_cell.specs.Crossings.{joined};
 ghost use Rattle.srm_crew.specs.Pieces.{IsJobsOf, AreHearersOf, IsAdvanced, IsHeard, IsAdvancedAs, HeardTogether};
-ghost use Rattle.srm_crew.specs.Teams.{PutTogether};
+ghost use Rattle.srm_crew.specs.Pieces.{PutTogether};
 
-use crate::has_due::HasDue;
 use crate::piece::Piece;
 use crate::worked::Worked;
 use srm_cell::cell::Cell;
 use srm_cell::fault::CellFault;
-use srm_cell::job::Done;
 use srm_cell::sent::Sent;
+use srm_interfaces::watched::{WatchedDone, WatchedJob};
 use srm_member::participant::Participant;
-use srm_member::row::Row;
-use srm_net::sequence::Sequence;
 use std::alloc::{AllocError, Global};
 use std::sync::Arc;
 
 /// In how many cells of the jobs something is due before their ends.
-pub(crate) fn due_in_all<T: HasDue>(jobs: &[T]) -> usize {
+pub(crate) fn due_in_all<M: Participant, K: Drop>(jobs: &[WatchedJob<M, K>]) -> usize {
     let mut due: usize = 0;
     for job in jobs {
-        due = due.saturating_add(job.due());
+        due = due.saturating_add(due_in(job));
     }
     due
+}
+
+// In how many cells of the job something is due before its end.
+fn due_in<M: Participant, K: Drop>(job: &WatchedJob<M, K>) -> usize {
+    job.cells
+        .iter()
+        .filter(|cell| is_due(cell, job.till))
+        .count()
+}
+
+// Whether something is due in the cell before tick `till`.
+fn is_due<M: Participant>(cell: &Cell<M>, till: u64) -> bool {
+    match cell.next_time() {
+        Some(time) => time < till,
+        None => false,
+    }
 }
 
 /// How many cells there are in the groups.
@@ -36,35 +49,14 @@ pub(crate) fn cells_in<M: Participant>(groups: &[Vec<Cell<M>>]) -> usize {
     cells
 }
 
-/// How many rows a call gave; none where it was refused.
-pub(crate) fn rows_given<M: Participant>(advanced: &Result<Vec<Done<M>>, CellFault>) -> usize {
-    let Ok(all) = advanced else {
-        return 0;
-    };
-    let mut rows: usize = 0;
-    for done in all {
-        rows = rows.saturating_add(rows_in(done.rows.as_slice()));
-    }
-    rows
-}
-
-// How many rows there are in the lists.
-fn rows_in(lists: &[Sequence<Row>]) -> usize {
-    let mut rows: usize = 0;
-    for list in lists {
-        rows = rows.saturating_add(list.len());
-    }
-    rows
-}
-
 /// The jobs in pieces, in order. A piece ends once something is due in `share` of its cells; but the one after so many `cuts` has
 /// all that are left.
-pub(crate) fn pieces_of<T: HasDue + Drop>(
+pub(crate) fn pieces_of<M: Participant, K: Drop>(
     alloc: Global,
-    jobs: Vec<T>,
+    jobs: Vec<WatchedJob<M, K>>,
     share: usize,
     cuts: usize,
-) -> Result<Vec<Vec<T>>, AllocError>
+) -> Result<Vec<Vec<WatchedJob<M, K>>>, AllocError>
     ensures all { IfOk result (λ pieces. joined (map (λ p. p.items) pieces.items) ≡ jobs.items) }
     ensures few { IfOk result (λ pieces. length pieces.items ≤ cuts + 1) }
 {
@@ -77,7 +69,7 @@ pub(crate) fn pieces_of<T: HasDue + Drop>(
             piece = Vec::new(alloc);
             due = 0;
         }
-        due = due.saturating_add(job.due());
+        due = due.saturating_add(due_in(&job));
         piece.push(job)?;
     }
     pieces.push(piece)?;
@@ -107,10 +99,10 @@ pub(crate) fn even_pieces<M: Participant>(
 }
 
 /// The jobs of each piece, to be advanced.
-pub(crate) fn to_advance<M: Participant, T: Drop>(
+pub(crate) fn to_advance<M: Participant, K: Drop>(
     alloc: Global,
-    pieces: Vec<Vec<T>>,
-) -> Result<Vec<Piece<M, T>>, AllocError>
+    pieces: Vec<Vec<WatchedJob<M, K>>>,
+) -> Result<Vec<Piece<M, K>>, AllocError>
     ensures { IfOk result (λ all. AllZip (λ js p. IsJobsOf js p) pieces.items all.items) }
 {
     let mut all = Vec::new(alloc);
@@ -121,11 +113,11 @@ pub(crate) fn to_advance<M: Participant, T: Drop>(
 }
 
 /// The groups of each piece, to hear what was sent.
-pub(crate) fn to_hear<M: Participant, T: Drop>(
+pub(crate) fn to_hear<M: Participant, K: Drop>(
     alloc: Global,
     sent: Vec<Sent>,
     pieces: Vec<Vec<Vec<Cell<M>>>>,
-) -> Result<Vec<Piece<M, T>>, AllocError>
+) -> Result<Vec<Piece<M, K>>, AllocError>
     ensures { IfOk result (λ all. AllZip (λ gs p. AreHearersOf sent.items gs p) pieces.items all.items) }
 {
     let shared = Arc::new(alloc, sent)?;
@@ -138,10 +130,10 @@ pub(crate) fn to_hear<M: Participant, T: Drop>(
 }
 
 /// What came of the jobs of each piece.
-pub(crate) fn advanced_of<M: Participant, D: Drop>(
+pub(crate) fn advanced_of<M: Participant, K: Drop>(
     alloc: Global,
-    all: Vec<Worked<M, D>>,
-) -> Result<Vec<Result<Vec<D>, CellFault>>, AllocError>
+    all: Vec<Worked<M, K>>,
+) -> Result<Vec<Result<Vec<WatchedDone<M, K>>, CellFault>>, AllocError>
     requires { All (λ w. IsAdvanced w) all.items }
     ensures { IfOk result (λ rs. AllZip (λ w r. IsAdvancedAs r w) all.items rs.items) }
 {
@@ -176,9 +168,9 @@ pub(crate) fn put_together<D: Drop>(
 }
 
 /// The groups of all pieces that heard, in order.
-pub(crate) fn heard_of<M: Participant, D: Drop>(
+pub(crate) fn heard_of<M: Participant, K: Drop>(
     alloc: Global,
-    all: Vec<Worked<M, D>>,
+    all: Vec<Worked<M, K>>,
 ) -> Result<Vec<Vec<Cell<M>>>, AllocError>
     requires { All (λ w. IsHeard w) all.items }
     ensures { IfOk result (λ heard. HeardTogether all.items heard.items) }

@@ -2,26 +2,19 @@
 ghost use Rattle.std.specs.Prelude.{◌≡◌, ◌≤◌, ◌∷◌, ◌++◌, [], ℕ, List, length, map, All, IfOk};
 ghost use Rattle.std.specs.List.{range_with_len};
 ghost use Rattle.srm_net.specs.Limits.{most_nodes};
-ghost use Rattle.srm_scenario.specs.Plain.{network_of};
-ghost use Rattle.srm_cell.specs.Setting.{traffic_of};
 ghost use Rattle.srm_cell.specs.Jobs.{PlainJob, MayAdvance};
-ghost use Rattle.srm_cell.specs.Hearing.{IsSent, packets_in};
 ghost use Rattle.srm_interfaces.specs.Crews.{AreJobs, Maps};
-ghost use Rattle.srm_interfaces.specs.Hearers.{GroupsMayHear, TellsHeard};
 
 use crate::add::settle;
 use crate::each::advance_each;
-use crate::hearing::hear_groups;
-use srm_cell::cell::Cell;
 use srm_cell::job::{Done, Job};
-use srm_cell::sent::Sent;
 use srm_interfaces::crew::Crew;
 use srm_interfaces::fault::CrewFault;
 use srm_ledger::ledger::{Ledger, Seat};
 use srm_member::participant::Participant;
 use srm_net::net::Net;
 use srm_scenario::scenario::Scenario;
-use std::alloc::{AllocError, Global};
+use std::alloc::Global;
 
 /// Advances one job after the other, on the thread that calls it.
 #[derive(Drop)]
@@ -73,28 +66,5 @@ impl<M: Participant> Crew<M> for PlainCrew {
     {
         let advanced = advance_each(alloc, scenario, net, jobs);
         settle(ledger, seat, advanced)
-    }
-
-    fn hear(
-        &mut self,
-        alloc: Global,
-        scenario: &Scenario,
-        net: &Net,
-        sent: Vec<Sent>,
-        groups: Vec<Vec<Cell<M>>>,
-    ) -> Result<Vec<Vec<Cell<M>>>, AllocError>
-        requires ready { Unit {0} }
-        requires serves { Unit {0} }
-        requires network { net.now ≡ network_of scenario.now }
-        requires sent { All (λ x. IsSent scenario.now net.now x) sent.items }
-        requires groups { GroupsMayHear M.plain (traffic_of scenario.now net.now)
-            (packets_in sent.items) groups.items }
-        ensures ready { Unit {0} }
-        ensures serves { Unit {0} }
-        ensures heard { TellsHeard M.plain (traffic_of scenario.now net.now)
-            (packets_in sent.items) groups.items result }
-        ensures handed { self.new ≡ self.old }
-    {
-        hear_groups(alloc, scenario, net, sent.as_slice(), groups)
     }
 }

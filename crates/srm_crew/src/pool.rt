@@ -3,22 +3,15 @@ ghost use Rattle.std.specs.Prelude.{◌≡◌, ◌≤◌, ◌∷◌, ◌++◌, [
 ghost use Rattle.std.specs.List.{range_with_len};
 ghost use Rattle.srm_net.specs.Limits.{most_nodes};
 ghost use denote.Param.Send.{IsSync};
-ghost use Rattle.srm_scenario.specs.Plain.{network_of};
-ghost use Rattle.srm_cell.specs.Setting.{traffic_of};
 ghost use Rattle.srm_cell.specs.Jobs.{PlainJob, MayAdvance, Advances};
-ghost use Rattle.srm_cell.specs.Hearing.{IsSent, packets_in};
 ghost use Rattle.srm_interfaces.specs.Crews.{AdvanceEach, AreJobs, GathersEach, Maps};
-ghost use Rattle.srm_interfaces.specs.Hearers.{GroupsMayHear, TellsHeard};
 
 use crate::add::settle;
-use crate::hearing::hear_groups;
 use rayon::current_num_threads;
 use rayon::prelude::*;
 use srm_cell::advance::advance;
-use srm_cell::cell::Cell;
 use srm_cell::fault::CellFault;
 use srm_cell::job::{Done, Job};
-use srm_cell::sent::Sent;
 use srm_interfaces::crew::Crew;
 use srm_interfaces::fault::CrewFault;
 use srm_ledger::ledger::{Ledger, Seat};
@@ -130,28 +123,5 @@ impl<R: Threads + Sync> Crew<Box<dyn Member>> for PoolCrew<R> {
     {
         let advanced = advance_in_pool(&self.rt, alloc, scenario, net, jobs);
         settle(ledger, seat, advanced)
-    }
-
-    fn hear(
-        &mut self,
-        alloc: Global,
-        scenario: &Scenario,
-        net: &Net,
-        sent: Vec<Sent>,
-        groups: Vec<Vec<Cell>>,
-    ) -> Result<Vec<Vec<Cell>>, AllocError>
-        requires ready { IsSync R.row }
-        requires serves { Unit {0} }
-        requires network { net.now ≡ network_of scenario.now }
-        requires sent { All (λ x. IsSent scenario.now net.now x) sent.items }
-        requires groups { GroupsMayHear (λ b. (⟦<dyn Member as Member>⟧ b.vtable).plain b.value)
-            (traffic_of scenario.now net.now) (packets_in sent.items) groups.items }
-        ensures ready { IsSync R.row }
-        ensures serves { Unit {0} }
-        ensures heard { TellsHeard (λ b. (⟦<dyn Member as Member>⟧ b.vtable).plain b.value)
-            (traffic_of scenario.now net.now) (packets_in sent.items) groups.items result }
-        ensures handed { self.new ≡ self.old }
-    {
-        hear_groups(alloc, scenario, net, sent.as_slice(), groups)
     }
 }

@@ -2,19 +2,12 @@
 ghost use Rattle.std.specs.Prelude.{◌≡◌, ◌≤◌, ◌∷◌, ◌++◌, [], ℕ, List, length, map, All, IfOk};
 ghost use Rattle.std.specs.List.{range_with_len};
 ghost use Rattle.srm_net.specs.Limits.{most_nodes};
-ghost use Rattle.srm_scenario.specs.Plain.{network_of};
-ghost use Rattle.srm_cell.specs.Setting.{traffic_of};
 ghost use Rattle.srm_cell.specs.Jobs.{PlainJob, MayAdvance};
-ghost use Rattle.srm_cell.specs.Hearing.{IsSent, packets_in};
 ghost use Rattle.srm_interfaces.specs.Crews.{AreJobs, Maps};
-ghost use Rattle.srm_interfaces.specs.Hearers.{GroupsMayHear, TellsHeard};
 ghost use Rattle.srm_crew.specs.Notes.{notes_of, noted_none, noted_more};
 
-use crate::hearing::hear_groups;
 use crate::plain::PlainCrew;
-use srm_cell::cell::Cell;
 use srm_cell::job::{Done, Job};
-use srm_cell::sent::Sent;
 use srm_interfaces::crew::Crew;
 use srm_interfaces::fault::CrewFault;
 use srm_ledger::ledger::{Ledger, Seat};
@@ -121,28 +114,5 @@ impl<M: Participant> Crew<M> for Recording {
             return Err(CrewFault::NoMemory);
         }
         self.inner.map(alloc, scenario, net, ledger, seat, jobs)
-    }
-
-    fn hear(
-        &mut self,
-        alloc: Global,
-        scenario: &Scenario,
-        net: &Net,
-        sent: Vec<Sent>,
-        groups: Vec<Vec<Cell<M>>>,
-    ) -> Result<Vec<Vec<Cell<M>>>, AllocError>
-        requires ready { Unit {0} }
-        requires serves { Unit {0} }
-        requires network { net.now ≡ network_of scenario.now }
-        requires sent { All (λ x. IsSent scenario.now net.now x) sent.items }
-        requires groups { GroupsMayHear M.plain (traffic_of scenario.now net.now)
-            (packets_in sent.items) groups.items }
-        ensures ready { Unit {0} }
-        ensures serves { Unit {0} }
-        ensures heard { TellsHeard M.plain (traffic_of scenario.now net.now)
-            (packets_in sent.items) groups.items result }
-        ensures handed { self.new.calls.items ≡ self.old.calls.items ++ map notes_of [] }
-    {
-        hear_groups(alloc, scenario, net, sent.as_slice(), groups)
     }
 }

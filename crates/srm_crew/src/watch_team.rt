@@ -1,39 +1,37 @@
 //! A crew of threads that live for a whole run, and keep of rows what a watch keeps.
-ghost use Rattle.std.specs.Prelude.{◌≡◌, ◌≤◌, ◌∷◌, ◌++◌, [], ℕ, List, length, map, All, IfOk};
-ghost use Rattle.std.specs.List.{range_with_len};
-ghost use Rattle.srm_net.specs.Limits.{most_nodes};
-ghost use Rattle.srm_scenario.specs.Plain.{network_of};
+ghost use Rattle.std.specs.Prelude.{◌≡◌, ◌≤◌, ◌∷◌, ◌++◌, [], List, length, All, IfOk};
+ghost use Rattle.std.specs.List.{AllZip};
 ghost use Rattle.srm_cell.specs.Setting.{traffic_of};
-ghost use Rattle.srm_cell.specs.Jobs.{PlainJob, MayAdvance};
+ghost use Rattle.srm_cell.specs.Jobs.{PlainJob};
 ghost use Rattle.srm_cell.specs.Hearing.{IsSent, packets_in};
 ghost use Rattle.srm_interfaces.specs.Crews.{AreJobs};
 ghost use Rattle.srm_interfaces.specs.Hearers.{GroupsMayHear, TellsHeard};
-ghost use Rattle.srm_interfaces.specs.Watches.{jobs_in, AdvanceWatched, HaveKept, MapsWatched};
+ghost use Rattle.srm_interfaces.specs.Watches.{jobs_in, AdvanceWatched, MayMap, MapsWatched};
 ghost use Rattle.srm_crew.specs.Watched.{IsWatchOn, MayWatch};
 
 use crate::add::settle_watched;
-use crate::hearing::hear_groups;
 use crate::piece::Piece;
 use crate::pieces::{
     advanced_of, cells_in, due_in_all, even_pieces, heard_of, pieces_of, put_together, to_advance,
     to_hear,
 };
-use crate::team_crew::work_in_team;
 use crate::watching::{Watching, advance_watched};
 use crate::worked::Worked;
 use srm_cell::cell::Cell;
 use srm_cell::fault::CellFault;
 use srm_cell::sent::Sent;
 use srm_interfaces::fault::CrewFault;
+use srm_interfaces::hearing::hear_groups;
 use srm_interfaces::watch::Watch;
 use srm_interfaces::watch_crew::WatchCrew;
 use srm_interfaces::watched::{WatchedDone, WatchedJob};
 use srm_ledger::ledger::{Ledger, Seat};
 use srm_member::participant::Participant;
-use srm_net::net::Net;
-use srm_scenario::scenario::Scenario;
+use srm_scenario::session::Session;
+use srm_team::fault::TeamFault;
 use srm_team::naming::Naming;
 use srm_team::team::Team;
+use srm_team::work::Work;
 use std::alloc::{AllocError, Global};
 use std::marker::Copy;
 use std::sync::Wait;
@@ -44,7 +42,7 @@ use std::sync::Wait;
 #[derive(Drop)]
 pub struct WatchTeam<'a, R: Wait, M: Participant, K: Drop, W: Watch<K> + Copy, J: Naming> {
     rt: R,
-    team: Team<Watching<'a, W>, Piece<M, WatchedJob<M, K>>, Worked<M, WatchedDone<M, K>>, J>,
+    team: Team<Watching<'a, W>, Piece<M, K>, Worked<M, K>, J>,
     work: Watching<'a, W>,
     few: usize,
 }
@@ -52,22 +50,51 @@ pub struct WatchTeam<'a, R: Wait, M: Participant, K: Drop, W: Watch<K> + Copy, J
 // From so many hearings on, of a packet by a cell each, the team shares them.
 const ENOUGH: usize = 8_192;
 
+// What comes of pieces that a team works on. They are no more than it has room for, so what is refused is memory, or as it is
+// written the team is worn or a channel was closed.
+fn work_in_team<
+    R: Wait,
+    A: Work<Piece<M, K>, Worked<M, K>> + Copy,
+    M: Participant,
+    K: Drop,
+    J: Naming,
+>(
+    rt: &R,
+    alloc: Global,
+    team: &mut Team<A, Piece<M, K>, Worked<M, K>, J>,
+    work: A,
+    pieces: Vec<Piece<M, K>>,
+) -> Result<Vec<Worked<M, K>>, AllocError>
+    requires few { length pieces.items ≤ team.old.room }
+    requires ready { All (λ p. A.ready work p) pieces.items }
+    ensures given { IfOk result (λ all. AllZip (λ p w. A.gives work p w) pieces.items all.items) }
+    ensures room { team.new.room ≡ team.old.room }
+{
+    match team.map(rt, alloc, work, pieces) {
+        Ok(all) => Ok(all),
+        Err(fault) => {
+            prove!(fault != TeamFault::TooMany);
+            Err(AllocError)
+        }
+    }
+}
+
 // Advances each job, in pieces that a team works on.
 fn advance_in_team<'a, R: Wait, M: Participant, K: Drop, W: Watch<K> + Copy, J: Naming>(
     rt: &R,
     alloc: Global,
-    team: &mut Team<Watching<'a, W>, Piece<M, WatchedJob<M, K>>, Worked<M, WatchedDone<M, K>>, J>,
+    team: &mut Team<Watching<'a, W>, Piece<M, K>, Worked<M, K>, J>,
     work: Watching<'a, W>,
     jobs: Vec<WatchedJob<M, K>>,
 ) -> Result<Vec<WatchedDone<M, K>>, CellFault>
-    requires { MayWatch M.plain work.scenario.now work.net.now jobs.items }
-    ensures advanced { AdvanceWatched M.plain (W.keeps work.entry.watch) work.entry.scenario.now work.entry.net.now
-        jobs.items result }
+    requires { MayWatch M.plain work.session.net.now jobs.items }
+    ensures advanced { AdvanceWatched M.plain (W.keeps work.entry.watch) work.entry.session.scenario.now
+        work.entry.session.net.now jobs.items result }
     ensures room { team.new.room ≡ team.old.room }
 {
     let room = team.room();
     if room == 0 {
-        return advance_watched(alloc, work.scenario, work.net, &work.watch, jobs);
+        return advance_watched(alloc, work.session, &work.watch, jobs);
     }
     let due = due_in_all(jobs.as_slice());
     let Ok(pieces) = pieces_of(alloc, jobs, due / room, room - 1) else {
@@ -89,22 +116,21 @@ fn advance_in_team<'a, R: Wait, M: Participant, K: Drop, W: Watch<K> + Copy, J: 
 fn hear_in_team<'a, R: Wait, M: Participant, K: Drop, W: Watch<K> + Copy, J: Naming>(
     rt: &R,
     alloc: Global,
-    team: &mut Team<Watching<'a, W>, Piece<M, WatchedJob<M, K>>, Worked<M, WatchedDone<M, K>>, J>,
+    team: &mut Team<Watching<'a, W>, Piece<M, K>, Worked<M, K>, J>,
     work: Watching<'a, W>,
     sent: Vec<Sent>,
     groups: Vec<Vec<Cell<M>>>,
 ) -> Result<Vec<Vec<Cell<M>>>, AllocError>
-    requires network { work.net.now ≡ network_of work.scenario.now }
-    requires sent { All (λ x. IsSent work.scenario.now work.net.now x) sent.items }
-    requires groups { GroupsMayHear M.plain (traffic_of work.scenario.now work.net.now) (packets_in sent.items)
-        groups.items }
-    ensures heard { TellsHeard M.plain (traffic_of work.entry.scenario.now work.entry.net.now) (packets_in sent.items)
-        groups.items result }
+    requires sent { All (λ x. IsSent work.session.scenario.now work.session.net.now x) sent.items }
+    requires groups { GroupsMayHear M.plain (traffic_of work.session.scenario.now work.session.net.now)
+        (packets_in sent.items) groups.items }
+    ensures heard { TellsHeard M.plain (traffic_of work.entry.session.scenario.now work.entry.session.net.now)
+        (packets_in sent.items) groups.items result }
     ensures room { team.new.room ≡ team.old.room }
 {
     let room = team.room();
     if room == 0 {
-        return hear_groups(alloc, work.scenario, work.net, sent.as_slice(), groups);
+        return hear_groups(alloc, work.session, sent.as_slice(), groups);
     }
     let size = groups.len() / room + 1;
     let pieces = even_pieces(alloc, groups, size)?;
@@ -128,7 +154,7 @@ impl<'a, R: Wait, M: Participant, K: Drop, W: Watch<K> + Copy, J: Naming> WatchT
     /// A call of it is refused with `NoMemory` also where its team is `Worn` or `Left`, and never for `TooMany`.
     pub fn new(
         rt: R,
-        team: Team<Watching<'a, W>, Piece<M, WatchedJob<M, K>>, Worked<M, WatchedDone<M, K>>, J>,
+        team: Team<Watching<'a, W>, Piece<M, K>, Worked<M, K>, J>,
         work: Watching<'a, W>,
         few: usize,
     ) -> WatchTeam<'a, R, M, K, W, J>
@@ -165,25 +191,19 @@ impl<'a, R: Wait, M: Participant, K: Drop, W: Watch<K> + Copy, J: Naming> WatchC
     fn map(
         &mut self,
         alloc: Global,
-        scenario: &Scenario,
-        net: &Net,
+        session: Session,
         ledger: &Ledger,
         seat: Seat,
         watch: W,
         jobs: Vec<WatchedJob<M, K>>,
     ) -> Result<(Vec<WatchedDone<M, K>>, Seat), CrewFault>
         requires ready { Unit {0} }
-        requires serves { IsWatchOn self.old.work scenario.now net.now }
-        requires network { net.now ≡ network_of scenario.now }
-        requires jobs { All (λ j. MayAdvance M.plain (length net.now.hosts) j) (jobs_in jobs.items) }
-        requires kept { All HaveKept jobs.items }
-        requires many { length jobs.items ≤ most_nodes }
-        requires places { map (λ j. j.place) jobs.items ≡ range_with_len 0 (length jobs.items) }
-        requires links { ledger.now.links ≡ length net.now.links }
-        requires seat { seat.ledger ≡ ledger.now.name }
+        requires serves { IsWatchOn self.old.work session.scenario.now session.net.now }
+        requires may { MayMap M.plain session.net.now ledger.now seat jobs.items }
         ensures ready { Unit {0} }
-        ensures serves { IsWatchOn self.new.work scenario.now net.now }
-        ensures done { MapsWatched M.plain (W.keeps watch) scenario.now net.now seat jobs.items result }
+        ensures serves { IsWatchOn self.new.work session.entry.scenario.now session.entry.net.now }
+        ensures done { MapsWatched M.plain (W.keeps watch) session.entry.scenario.now session.entry.net.now seat
+            jobs.items result }
         ensures handed { IfOk result (λ _. (ps : List PlainJob) → AreJobs M.plain (jobs_in jobs.items) ps
             → (self.new.work ≡ self.old.work) × (self.new.team.room ≡ self.old.team.room)
             × (self.new.few ≡ self.old.few)) }
@@ -191,12 +211,11 @@ impl<'a, R: Wait, M: Participant, K: Drop, W: Watch<K> + Copy, J: Naming> WatchC
             × (self.new.few ≡ self.old.few) }
     {
         let advanced = if due_in_all(jobs.as_slice()) < self.few {
-            advance_watched(alloc, scenario, net, &watch, jobs)
+            advance_watched(alloc, session, &watch, jobs)
         } else {
             let work = Watching {
                 alloc: self.work.alloc,
-                scenario: self.work.scenario,
-                net: self.work.net,
+                session: self.work.session,
                 watch,
             };
             advance_in_team(&self.rt, alloc, &mut self.team, work, jobs)
@@ -207,31 +226,28 @@ impl<'a, R: Wait, M: Participant, K: Drop, W: Watch<K> + Copy, J: Naming> WatchC
     fn hear(
         &mut self,
         alloc: Global,
-        scenario: &Scenario,
-        net: &Net,
+        session: Session,
         sent: Vec<Sent>,
         groups: Vec<Vec<Cell<M>>>,
     ) -> Result<Vec<Vec<Cell<M>>>, AllocError>
         requires ready { Unit {0} }
-        requires serves { IsWatchOn self.old.work scenario.now net.now }
-        requires network { net.now ≡ network_of scenario.now }
-        requires sent { All (λ x. IsSent scenario.now net.now x) sent.items }
-        requires groups { GroupsMayHear M.plain (traffic_of scenario.now net.now)
+        requires serves { IsWatchOn self.old.work session.scenario.now session.net.now }
+        requires sent { All (λ x. IsSent session.scenario.now session.net.now x) sent.items }
+        requires groups { GroupsMayHear M.plain (traffic_of session.scenario.now session.net.now)
             (packets_in sent.items) groups.items }
         ensures ready { Unit {0} }
-        ensures serves { IsWatchOn self.new.work scenario.now net.now }
-        ensures heard { TellsHeard M.plain (traffic_of scenario.now net.now)
+        ensures serves { IsWatchOn self.new.work session.entry.scenario.now session.entry.net.now }
+        ensures heard { TellsHeard M.plain (traffic_of session.entry.scenario.now session.entry.net.now)
             (packets_in sent.items) groups.items result }
         ensures handed { (self.new.work ≡ self.old.work) × (self.new.team.room ≡ self.old.team.room)
             × (self.new.few ≡ self.old.few) }
     {
         if sent.len().saturating_mul(cells_in(groups.as_slice())) < ENOUGH {
-            return hear_groups(alloc, scenario, net, sent.as_slice(), groups);
+            return hear_groups(alloc, session, sent.as_slice(), groups);
         }
         let work = Watching {
             alloc: self.work.alloc,
-            scenario: self.work.scenario,
-            net: self.work.net,
+            session: self.work.session,
             watch: self.work.watch,
         };
         hear_in_team(&self.rt, alloc, &mut self.team, work, sent, groups)

@@ -1,21 +1,19 @@
-//! What a team's worker does that keeps no rows.
-ghost use Rattle.std.specs.Prelude.{◌≡◌, length, All};
-ghost use Rattle.srm_scenario.specs.Plain.{network_of};
+//! What a team's worker does.
+ghost use Rattle.std.specs.Prelude.{length, All};
 ghost use Rattle.srm_cell.specs.Jobs.{MayAdvance};
-ghost use Rattle.srm_interfaces.specs.Watches.{job_in, jobs_in, AdvanceWatched, HaveKept};
-ghost use Rattle.srm_crew.specs.Watched.{AdvanceOne};
+ghost use Rattle.srm_interfaces.specs.Watches.{job_in, AdvanceWatched, HaveKept};
+ghost use Rattle.srm_crew.specs.Watched.{AdvanceOne, MayWatch};
 
-use crate::hearing::hear_groups;
 use crate::piece::Piece;
 use crate::worked::Worked;
 use srm_cell::advance::advance;
 use srm_cell::fault::CellFault;
 use srm_cell::job::Job;
+use srm_interfaces::hearing::hear_groups;
 use srm_interfaces::watch::Watch;
 use srm_interfaces::watched::{WatchedDone, WatchedJob};
 use srm_member::participant::Participant;
-use srm_net::net::Net;
-use srm_scenario::scenario::Scenario;
+use srm_scenario::session::Session;
 use srm_team::work::Work;
 use std::alloc::Global;
 use std::marker::Copy;
@@ -26,9 +24,7 @@ pub struct Watching<'a, W> {
     /// The memory that workers take.
     pub alloc: Global,
     /// What is run.
-    pub scenario: &'a Scenario,
-    /// Its network.
-    pub net: &'a Net,
+    pub session: Session<'a>,
     /// What is kept of rows.
     pub watch: W,
 }
@@ -37,19 +33,16 @@ pub struct Watching<'a, W> {
 /// time.
 pub(crate) fn advance_watched<M: Participant, K: Drop, W: Watch<K>>(
     alloc: Global,
-    scenario: &Scenario,
-    net: &Net,
+    session: Session,
     watch: &W,
     jobs: Vec<WatchedJob<M, K>>,
 ) -> Result<Vec<WatchedDone<M, K>>, CellFault>
-    requires network { net.now ≡ network_of scenario.now }
-    requires jobs { All (λ j. MayAdvance M.plain (length net.now.hosts) j) (jobs_in jobs.items) }
-    requires kept { All HaveKept jobs.items }
-    ensures { AdvanceWatched M.plain (W.keeps watch.now) scenario.now net.now jobs.items result }
+    requires { MayWatch M.plain session.net.now jobs.items }
+    ensures { AdvanceWatched M.plain (W.keeps watch.now) session.entry.scenario.now session.entry.net.now jobs.items result }
 {
     let mut all = Vec::new(alloc);
     for job in jobs {
-        let done = match advance_one(alloc, scenario, net, watch, job) {
+        let done = match advance_one(alloc, session, watch, job) {
             Ok(done) => done,
             Err(fault) => return Err(fault),
         };
@@ -63,15 +56,13 @@ pub(crate) fn advance_watched<M: Participant, K: Drop, W: Watch<K>>(
 // Advances a job, and keeps of the rows what the watch keeps.
 fn advance_one<M: Participant, K: Drop, W: Watch<K>>(
     alloc: Global,
-    scenario: &Scenario,
-    net: &Net,
+    session: Session,
     watch: &W,
     job: WatchedJob<M, K>,
 ) -> Result<WatchedDone<M, K>, CellFault>
-    requires network { net.now ≡ network_of scenario.now }
-    requires job { MayAdvance M.plain (length net.now.hosts) (job_in job) }
+    requires job { MayAdvance M.plain (length session.net.now.hosts) (job_in job) }
     requires kept { HaveKept job }
-    ensures { AdvanceOne M.plain (W.keeps watch.now) scenario.now net.now job result }
+    ensures { AdvanceOne M.plain (W.keeps watch.now) session.entry.scenario.now session.entry.net.now job result }
 {
     let WatchedJob {
         place,
@@ -79,41 +70,33 @@ fn advance_one<M: Participant, K: Drop, W: Watch<K>>(
         cells,
         kept,
     } = job;
-    let done = match advance(alloc, scenario, net, Job { place, till, cells }) {
+    let job = Job { place, till, cells };
+    let done = match advance(alloc, session.scenario, session.net, job) {
         Ok(done) => done,
         Err(fault) => return Err(fault),
     };
-    let Ok(left) = WatchedDone::of(alloc, scenario, net, watch, kept, done) else {
+    let Ok(left) = WatchedDone::of(alloc, session, watch, kept, done) else {
         return Err(CellFault::NoMemory);
     };
     Ok(left)
 }
 
-impl<'a, M: Participant, K: Drop, W: Watch<K> + Copy> Work<
-    Piece<M, WatchedJob<M, K>>,
-    Worked<M, WatchedDone<M, K>>,
-> for Watching<'a, W> {
-    ghost use Rattle.std.specs.Prelude.{◌≡◌, All, length};
-    ghost use Rattle.srm_scenario.specs.Plain.{network_of};
-    ghost use Rattle.srm_cell.specs.Jobs.{MayAdvance};
-    ghost use Rattle.srm_interfaces.specs.Watches.{AdvanceWatched};
+impl<'a, M: Participant, K: Drop, W: Watch<K> + Copy> Work<Piece<M, K>, Worked<M, K>>
+    for Watching<'a, W> {
+    ghost use Rattle.std.specs.Prelude.{All, length};
     ghost use Rattle.srm_crew.specs.Pieces.{MayWork, ComesOfPiece};
-    ghost use Rattle.srm_crew.specs.Watched.{MayWatch};
 
-    ghost ready = { λ w p. MayWork (λ js. MayWatch M.plain w.scenario.now w.net.now js) M.plain w.scenario.now
-        w.net.now p };
+    ghost ready = { λ w p. MayWork M.plain w.session.scenario.now w.session.net.now p };
 
-    ghost gives = { λ w p r. ComesOfPiece
-        (λ js d. AdvanceWatched M.plain (W.keeps w.watch) w.scenario.now w.net.now js d) M.plain w.scenario.now
-        w.net.now p r };
+    ghost gives = { λ w p r. ComesOfPiece M.plain (W.keeps w.watch) w.session.scenario.now w.session.net.now p r };
 
-    fn work(&self, piece: Piece<M, WatchedJob<M, K>>) -> Worked<M, WatchedDone<M, K>> {
+    fn work(&self, piece: Piece<M, K>) -> Worked<M, K> {
         match piece {
             Piece::Jobs { jobs } => Worked::Advanced {
-                done: advance_watched(self.alloc, self.scenario, self.net, &self.watch, jobs),
+                done: advance_watched(self.alloc, self.session, &self.watch, jobs),
             },
             Piece::Hearers { sent, groups } => Worked::Heard {
-                groups: hear_groups(self.alloc, self.scenario, self.net, sent.as_slice(), groups),
+                groups: hear_groups(self.alloc, self.session, sent.as_slice(), groups),
             },
         }
     }

@@ -4,17 +4,17 @@ ghost use Rattle.srm_crew.specs.Pieces.{IsAdvanced, IsAdvancedAs, IsHeard, IsHea
 
 use srm_cell::cell::Cell;
 use srm_cell::fault::CellFault;
-use srm_cell::job::Done;
+use srm_interfaces::watched::WatchedDone;
 use srm_member::participant::Participant;
 use std::alloc::AllocError;
 
-/// What came of a piece: of each job a `D`.
+/// What came of a piece.
 #[derive(Drop)]
-pub enum Worked<M, D = Done<M>> {
+pub enum Worked<M, K> {
     /// What was done of jobs.
     Advanced {
         /// What was done of each, or why not.
-        done: Result<Vec<D>, CellFault>,
+        done: Result<Vec<WatchedDone<M, K>>, CellFault>,
     },
     /// Cells that heard what was sent.
     Heard {
@@ -23,9 +23,9 @@ pub enum Worked<M, D = Done<M>> {
     },
 }
 
-impl<M: Participant, D: Drop> Worked<M, D> {
+impl<M: Participant, K: Drop> Worked<M, K> {
     /// What came of jobs. `None` where cells heard.
-    pub(crate) fn into_advanced(self) -> Option<Result<Vec<D>, CellFault>>
+    pub(crate) fn into_advanced(self) -> Option<Result<Vec<WatchedDone<M, K>>, CellFault>>
         ensures { MatchOption result (IsHeard self) (λ r. IsAdvancedAs r self) }
     {
         match self {

@@ -1,8 +1,8 @@
 -- Jobs as crews may be handed them.
 use Rattle.std.proofs.Common.{◌≡◌, ℕ, zero, suc, ◌+◌, ◌<◌, ◌≤◌, List, [], ◌∷◌, ◌++◌, length, Ok, refl, sym, ap, ◌∙◌, subst, arith}
-use Rattle.std.proofs.Common.{add-zero, zero-add, add-one, All, length-append}
+use Rattle.std.proofs.Common.{add-zero, zero-add, add-one, All, length-append, map}
 use Rattle.std.specs.List.{AllZip, range_with_len}
-use Rattle.std.proofs.lemmas.List.{map-append}
+use Rattle.std.proofs.lemmas.List.{length-map, map-append}
 use Rattle.std.proofs.lemmas.List.Elements.{All-nil, All-cons, All-head, All-tail, All-push}
 use Rattle.std.specs.Global.{Vec}
 use Rattle.srm_net.specs.Network.{Network}
@@ -10,7 +10,7 @@ use Rattle.srm_scenario.specs.Plain.{PlainScenario}
 use Rattle.srm_member.specs.declared.row.Row.{Row}
 use Rattle.srm_member.specs.Record.{Record, fixed_part}
 use Rattle.srm_scenario.specs.declared.mark.Mark.{Mark}
-use Rattle.srm_ledger.specs.Seats.{SeatView}
+use Rattle.srm_ledger.specs.Seats.{LedgerView, SeatView}
 use Rattle.srm_cell.specs.declared.cell.Cell.{Cell}
 use Rattle.srm_cell.specs.declared.job.Job.{Job}
 use Rattle.srm_cell.specs.declared.job.Done as job
@@ -19,8 +19,11 @@ use Rattle.srm_cell.specs.Cells.{new_cell}
 use Rattle.srm_cell.specs.Views.{IsNew}
 use Rattle.srm_cell.specs.Jobs.{OwnCell, PlainJob, AreMembers, AreCells, MayAdvance, RanEach, IsDone}
 use Rattle.srm_interfaces.specs.Crews.{AreJobs, Maps}
-use Rattle.srm_crew_tests.specs.Handed.{MayMap, AreKnown}
-use Rattle.srm_net.specs.Limits.{end_of_time}
+use Rattle.srm_interfaces.specs.declared.watched.WatchedJob.{WatchedJob}
+use Rattle.srm_interfaces.specs.Watches.{HaveKept, job_in, jobs_in}
+use Rattle.srm_interfaces.specs.Watches as watches
+use Rattle.srm_crew_tests.specs.Handed.{MayMap, AreKnown, IsWatchedAs}
+use Rattle.srm_net.specs.Limits.{end_of_time, most_nodes}
 
 range_more : (a n : ℕ) → range_with_len a (suc n) ≡ range_with_len a n ++ (a + n) ∷ []
 range_more a zero = ap (λ k. k ∷ []) (sym (add-zero a))
@@ -85,3 +88,35 @@ module _ {M : Type 0} (f : M → Record) (n : ℕ) where
   pub same_ledger : (k : PlainScenario) (net : Network) (seat : SeatView) (js : List (Job M)) (r : Vec (job.Done M) × SeatView)
       → MayMap f n js → Maps f k net seat js (Ok r) → r.1.ledger ≡ seat.ledger
   same_ledger k net seat js r h m = let fit = fit_jobs js h.jobs in (m.tells fit.0 fit.1).1.ledger
+
+module _ {M K : Type 0} where
+  jobs_are : (js : List (Job M)) (ws : List (WatchedJob M K)) → AllZip (λ j w. IsWatchedAs j w) js ws → jobs_in ws ≡ js
+  jobs_are [] [] z = refl
+  jobs_are [] (w ∷ ws) z = absurd z
+  jobs_are (j ∷ js) [] z = absurd z
+  jobs_are (j ∷ js) (w ∷ ws) z = λ i. z.0.0 i ∷ jobs_are js ws z.1 i
+
+  are_kept : (js : List (Job M)) (ws : List (WatchedJob M K)) → AllZip (λ j w. IsWatchedAs j w) js ws → All HaveKept ws
+  are_kept [] [] z = All-nil HaveKept
+  are_kept [] (w ∷ ws) z = absurd z
+  are_kept (j ∷ js) [] z = absurd z
+  are_kept (j ∷ js) (w ∷ ws) z = All-cons HaveKept w ws z.0.1 (are_kept js ws z.1)
+
+  placed : (ws : List (WatchedJob M K)) → map (λ (w : WatchedJob M K). w.place) ws ≡ map (λ (j : Job M). j.place) (jobs_in ws)
+  placed [] = refl
+  placed (w ∷ ws) = ap (λ l. w.place ∷ l) (placed ws)
+
+  -- jobs that a crew may be handed it may be handed watched
+  pub may_watch : (f : M → Record) (net : Network) (ledger : LedgerView) (seat : SeatView) (js : List (Job M)) (ws : List (WatchedJob M K))
+      → AllZip (λ j w. IsWatchedAs j w) js ws → MayMap f (length net.hosts) js → ledger.links ≡ length net.links
+      → seat.ledger ≡ ledger.name → watches.MayMap f net ledger seat ws
+  may_watch f net ledger seat js ws z h links name =
+      let is = jobs_are js ws z in
+      let long : length ws ≡ length js = sym (length-map ws job_in) ∙ ap (λ (l : List (Job M)). length l) is in record {
+        jobs = subst (All (λ j. MayAdvance f (length net.hosts) j)) (sym is) h.jobs;
+        kept = are_kept js ws z;
+        many = subst (λ n. n ≤ most_nodes) (sym long) h.few;
+        places = placed ws ∙ ap (map (λ (j : Job M). j.place)) is ∙ h.places ∙ ap (λ n. range_with_len 0 n) (sym long);
+        links = links;
+        of_ledger = name;
+      }

@@ -5,6 +5,8 @@ use Rattle.srm_net.specs.Limits.{most_nodes}
 use Rattle.srm_member.specs.Record.{Record}
 use Rattle.srm_cell.specs.declared.job.Job.{Job}
 use Rattle.srm_cell.specs.declared.cell.Cell.{Cell}
+use Rattle.srm_interfaces.specs.declared.watched.WatchedJob.{WatchedJob}
+use Rattle.srm_interfaces.specs.Watches.{HaveKept, job_in}
 use Rattle.srm_cell.specs.Jobs.{OwnCell, AreMembers, AreCells, MayAdvance}
 
 module _ {M : Type 0} where
@@ -20,3 +22,7 @@ module _ {M : Type 0} where
     pub are : AreCells f cs seen
     pub of_members : AreMembers members seen
     pub few : length seen ≤ 1024
+
+-- the watched job is this one, and something is kept of each of its cells
+abbrev pub IsWatchedAs : {M K : Type 0} → Job M → WatchedJob M K → Type 0
+IsWatchedAs j w = (job_in w ≡ j) × HaveKept w

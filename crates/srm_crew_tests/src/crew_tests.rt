@@ -4,6 +4,7 @@ mod case;
 mod cases;
 pub(crate) mod handing;
 mod in_team;
+mod keep_seen;
 mod mapped;
 pub(crate) mod run_context;
 pub(crate) mod seats;

@@ -25,7 +25,6 @@ use Rattle.srm_interfaces.proofs.InPieces.{all_each}
 use Rattle.srm_net.proofs.Basics.{zip_append}
 use Rattle.srm_engine.specs.Seen.{AreCellsInOrder}
 use Rattle.srm_engine.specs.Groups.{all_in, sizes}
-use Rattle.srm_engine.specs.SentRows.{MayBeSent}
 use Rattle.srm_net.proofs.Lists.{below_get}
 
 one_hears : (t : Traffic) (m : ℕ) (xs ys : List Row) (c : PlainCell) → hear_rows t m (xs ++ ys) c ≡ hear_rows t m ys (hear_rows t m xs c)
@@ -79,19 +78,6 @@ module _ (s : Setting) where
             subst (λ ds. IsUnheard p.id ds) (packets_are_heard_in_turn s cs).0 new m c at,
             subst (λ o. AreNewTo s.traffic m (packets_of rows) (told_to s.traffic o m c)) e rest,
           )
-
-  -- members sent them
-  pub may_be_sent : (k : PlainScenario) (rows : List Row) (cs : List PlainCell) → AreNewInTurn s.traffic rows cs
-      → s.traffic.members ≡ length k.members → s.traffic.until ≤ end_of_time → All (λ (r : Row). MayBeSent k r.sent) rows
-  may_be_sent k rows cs h same early = λ i d lt. by i d lt (get_or rows i d).sent refl
-    where
-      by : (i : ℕ) (d : Row) → i < length rows → (o : Option Packet) → (get_or rows i d).sent ≡ o → MayBeSent k o
-      by i d lt None e = tt
-      by i d lt (Some p) e =
-          let n = h (take i rows) (drop (suc i) rows) (get_or rows i d) p (split_at rows i d lt) e in
-          let sender = n.1 in
-          let sent = n.2 in
-          (omega (arith, same), omega (arith, early))
 
 -- ---- packets in another order
 

@@ -67,8 +67,6 @@ use Rattle.srm_model.proofs.OneWindow.{as_many_results}
 use Rattle.srm_model.proofs.Sequential.{good_reached}
 use Rattle.srm_engine.proofs.Stepping.{opening_trace}
 use Rattle.srm_model.proofs.WindowRows.{own_rows_are_sorted}
-use Rattle.srm_member.specs.ByMember.{AreAlike}
-use Rattle.srm_model.proofs.StandAlike.{members_stand_alike}
 use Rattle.srm_model.proofs.AnyOrder.{packets_are_heard_in_any_order, heard_by_packets}
 use Rattle.srm_model.proofs.WindowEnds.{widths_are_rules, promises_are_a_rule, starts_tell}
 use Rattle.srm_model.proofs.WindowChain.{windows_are_reached, windows_follow, refused_windows_meet_full}
@@ -288,11 +286,6 @@ module _ {M : Type 0} (f : M → Record) (e : WindowEngine M) (is : IsUnderWay f
         (merged : IsPermutation (joined (some_of (lists_of ds))) rows × IsSorted row_cmp rows) where
       merge_is : IsMerge (rows_in ran.results) rows
       merge_is = grind (arith, joined_some)
-
-      -- each member's rows stand alike list after list and merged
-      pub stand_alike : AreAlike (joined (some_of (lists_of ds))) rows
-      stand_alike = subst (λ l. AreAlike l rows) (sym (listed_is ds ran))
-          (members_stand_alike s w till fit reached within safe ran.results ran.alone rows merge_is)
 
       abbrev pub after : World
       after = after_window s w ran.results rows

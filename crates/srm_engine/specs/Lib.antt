@@ -1,6 +1,5 @@
 pub mod NextTimes
 pub mod Seen
-pub mod SentRows
 pub mod Faults
 pub mod Openings
 pub mod Starts

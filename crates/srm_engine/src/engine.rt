@@ -5,7 +5,7 @@ ghost use Rattle.srm_cell.specs.PutRows.{PutsStep};
 ghost use Rattle.srm_engine.specs.Starts.{AreOpening, InRunsOn};
 ghost use Rattle.srm_engine.specs.Engines.{MayStep, StepsOn, MaySendNow, Sends, MayDeliver, Delivers, IsOpened};
 ghost use Rattle.srm_engine.specs.Engines.{Shows};
-ghost use Rattle.srm_interfaces.specs.Sinks.{IsOpen, stage_after, stops_in};
+ghost use Rattle.srm_interfaces.specs.Sinks.{IsReady, stage_after, stops_in};
 ghost use Rattle.srm_engine.specs.Streams.{sink_in, MayTake, TakesSteps, StreamsRows, StandsAs, stopped_in, MayLackSteps};
 ghost use Rattle.srm_engine.specs.Streams.{TellsRefusal};
 ghost use Rattle.srm_engine.specs.RowRuns.{TellsLast, TellsUndone};
@@ -69,8 +69,7 @@ impl<'a, M: Participant> Engine<'a, M> {
         sink: &mut S,
     ) -> Result<Engine<'a, M>, StreamFault>
         requires boxes { AreOpening session (map M.plain members.items) }
-        requires open { IsOpen (S.stage sink.old) }
-        requires failures { S.failures sink.old < 2 ^ 64 - 1 }
+        requires sink { IsReady (S.stage sink.old) (S.failures sink.old) }
         ensures session { IfOk result (λ e. e.session ≡ session.entry) }
         ensures device { S.same sink.old sink.new }
         ensures stands { StandsAs result (S.stage sink.new) }
@@ -100,8 +99,7 @@ impl<'a, M: Participant> Engine<'a, M> {
         sink: &mut S,
     ) -> Result<(), Halt<StepFault>>
         requires opened { (seed : ℕ) × IsOpened M.plain seed self.old }
-        requires open { IsOpen (S.stage sink.old) }
-        requires failures { S.failures sink.old < 2 ^ 64 - 1 }
+        requires sink { IsReady (S.stage sink.old) (S.failures sink.old) }
         ensures session { self.new.session ≡ self.old.session }
         ensures device { S.same sink.old sink.new }
         ensures stage { S.stage sink.new ≡ stage_after (sink_in result) }

@@ -15,13 +15,12 @@ ghost use Rattle.srm_engine.specs.Groups.{MayHand, HandsIn, MayDeliverIn, Delive
 ghost use Rattle.srm_engine.specs.Groups.{MayHearInAnyOrder, HearsInSomeOrder};
 
 use crate::ends::way;
-use crate::sent::{are_enough, in_order_of_sending, sent_in};
+use crate::sent::in_order_of_sending;
 use crate::soonest::{Soonest, soonest_in, soonest_of_each};
 use srm_cell::arrival::arrival;
 use srm_cell::cell::Cell;
 use srm_cell::job::{Done, Job};
 use srm_cell::sent::Sent;
-use srm_interfaces::crew::Crew;
 use srm_interfaces::watch::Watch;
 use srm_interfaces::watch_crew::WatchCrew;
 use srm_member::member::Member;
@@ -170,40 +169,6 @@ impl<M: Participant> Groups<M> {
         Ok(())
     }
 
-    /// The groups after every member heard the packets of the lists' rows, in some order. A crew shares them where there is enough
-    /// to hear.
-    pub(crate) fn heard_by<C: Crew<M>>(
-        self,
-        alloc: Global,
-        session: Session,
-        crew: &mut C,
-        lists: &[Vec<Row>],
-    ) -> Result<Groups<M>, AllocError>
-        requires ready { C.ready crew.old }
-        requires serves { C.serves crew.old session.scenario.now session.net.now }
-        requires until { session.scenario.now.until ≤ end_of_time }
-        requires may { (seed : ℕ) × MayHearInAnyOrder M.plain
-            (setting_on session seed) (joined (map (λ v. v.items) lists.now)) self }
-        ensures ready { C.ready crew.new }
-        ensures serves { C.serves crew.new session.entry.scenario.now session.entry.net.now }
-        ensures handed { C.handed crew.old [] crew.new }
-        ensures cut { IfOk result (λ heard. heard.cut ≡ self.cut) }
-        ensures heard { IfOk result (λ heard. (seed : ℕ) → HearsInSomeOrder M.plain
-            (setting_on session.entry seed) (joined (map (λ v. v.items) lists.now)) self heard) }
-    {
-        if !are_enough(lists, session.scenario.members()) {
-            let mut groups = self;
-            groups.hear_each(alloc, session, lists)?;
-            return Ok(groups);
-        }
-        let Groups { cut, groups, .. } = self;
-        let listed = sent_in(alloc, session, lists)?;
-        let sent = in_order_of_sending(listed)?;
-        let groups = crew.hear(alloc, session.scenario, session.net, sent, groups)?;
-        let soon = soonest_of_each(alloc, session, groups.as_slice(), cut)?;
-        Ok(Groups { cut, groups, soon })
-    }
-
     /// The groups after every member heard what was sent in some rows, in some order.
     pub(crate) fn heard_from<K, W: Watch<K>, C: WatchCrew<M, K, W>>(
         self,
@@ -227,7 +192,7 @@ impl<M: Participant> Groups<M> {
     {
         let Groups { cut, groups, .. } = self;
         let sent = in_order_of_sending(sent)?;
-        let groups = crew.hear(alloc, session.scenario, session.net, sent, groups)?;
+        let groups = crew.hear(alloc, session, sent, groups)?;
         let soon = soonest_of_each(alloc, session, groups.as_slice(), cut)?;
         Ok(Groups { cut, groups, soon })
     }

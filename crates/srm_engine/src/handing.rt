@@ -1,11 +1,9 @@
 //! Rows, handed to a sink: those of a window, or what is kept of them, and none, by which a run begins.
 ghost use Rattle.std.specs.Prelude.{◌≡◌, ◌<◌, ◌+◌, ◌-◌, ◌^◌, [], List, All, IsSorted, MatchResult};
 ghost use Rattle.srm_member.specs.declared.row.Row.{Row as OneRow};
-ghost use Rattle.srm_cell.specs.Crossings.{joined};
 ghost use Rattle.srm_model.specs.World.{row_cmp};
-ghost use Rattle.srm_model.specs.WindowRuns.{StandAlike};
 ghost use Rattle.srm_interfaces.specs.declared.sink.Stage.{Stage as AStage};
-ghost use Rattle.srm_interfaces.specs.Sinks.{IsOpen, stage_after, stops_in};
+ghost use Rattle.srm_interfaces.specs.Sinks.{IsReady, stage_after, stops_in};
 ghost use Rattle.srm_interfaces.specs.InTurn.{KeepInTurn};
 ghost use Rattle.srm_engine.specs.Groups.{all_in};
 ghost use Rattle.srm_engine.specs.Streams.{sink_in};
@@ -23,8 +21,7 @@ use std::alloc::Global;
 
 /// Hands a sink no rows: the call by which a run begins.
 pub(crate) fn hand_none<S: RowSink>(alloc: Global, sink: &mut S) -> Result<(), SinkFault>
-    requires open { IsOpen (S.stage sink.old) }
-    requires failures { S.failures sink.old < 2 ^ 64 - 1 }
+    requires sink { IsReady (S.stage sink.old) (S.failures sink.old) }
     ensures same { S.same sink.old sink.new }
     ensures stage { S.stage sink.new ≡ stage_after result }
     ensures failures { S.failures sink.new ≡ S.failures sink.old + stops_in result }
@@ -33,8 +30,7 @@ pub(crate) fn hand_none<S: RowSink>(alloc: Global, sink: &mut S) -> Result<(), S
     sink.rows(alloc, Vec::new(alloc))
 }
 
-/// Hands a sink the rows of all lists, each of which is in order: all of them in order of their keys, or list after list where
-/// it takes the rows of members apart.
+/// Hands a sink the rows of all lists, each of which is in order: all of them in order of their keys.
 pub(crate) fn hand_lists<S: RowSink>(
     alloc: Global,
     sink: &mut S,
@@ -43,18 +39,11 @@ pub(crate) fn hand_lists<S: RowSink>(
     requires live { S.stage sink.old ≡ Stage.Live }
     requires failures { S.failures sink.old < 2 ^ 64 - 1 }
     requires sorted { All (IsSorted row_cmp) (lists_in lists) }
-    requires alike { StandAlike (lists_in lists) }
     ensures device { S.same sink.old sink.new }
     ensures stage { S.stage sink.new ≡ stage_after (sink_in result) }
     ensures failures { S.failures sink.new ≡ S.failures sink.old + stops_in (sink_in result) }
     ensures rows { HandsLists S.took S.part (lists_in lists) sink.old result sink.new }
 {
-    if sink.takes_members_apart() {
-        return match hand_each(alloc, sink, lists) {
-            Ok(()) => Ok(()),
-            Err(fault) => Err(Halt::Sink(fault)),
-        };
-    }
     let Ok(rows) = merge(alloc, lists) else {
         return Err(Halt::Run(WindowFault::NoMemory));
     };
@@ -62,24 +51,6 @@ pub(crate) fn hand_lists<S: RowSink>(
         Ok(()) => Ok(()),
         Err(fault) => Err(Halt::Sink(fault)),
     }
-}
-
-// Hands a sink the rows of each list.
-fn hand_each<S: RowSink>(alloc: Global, sink: &mut S, lists: Vec<Vec<Row>>) -> Result<(), SinkFault>
-    requires live { S.stage sink.old ≡ Stage.Live }
-    requires failures { S.failures sink.old < 2 ^ 64 - 1 }
-    ensures device { S.same sink.old sink.new }
-    ensures stage { S.stage sink.new ≡ stage_after result }
-    ensures failures { S.failures sink.new ≡ S.failures sink.old + stops_in result }
-    ensures rows { MatchResult result (λ _. S.took sink.old (joined (lists_in lists)) sink.new)
-        (λ _. S.part sink.old (joined (lists_in lists)) sink.new) }
-{
-    for rows in lists {
-        if let Err(fault) = sink.rows(alloc, rows) {
-            return Err(fault);
-        }
-    }
-    Ok(())
 }
 
 /// Hands a sink what is kept of the rows of a window, of the members of each group.

@@ -29,7 +29,6 @@ pub mod width;
 mod window_engine;
 pub mod window_fault;
 pub mod window_kept;
-pub mod window_rows;
 pub mod window_run;
 pub mod window_stream;
 pub mod window_watch;

@@ -2,7 +2,7 @@
 ghost use Rattle.std.specs.Prelude.{◌≡◌, ◌<◌, ◌+◌, ◌-◌, ◌^◌, [], ℕ, List, IfOk};
 ghost use Rattle.srm_member.specs.declared.row.Row.{Row as OneRow};
 ghost use Rattle.srm_interfaces.specs.declared.sink.Stage.{Stage as AStage};
-ghost use Rattle.srm_interfaces.specs.Sinks.{IsOpen, stage_after, stops_in};
+ghost use Rattle.srm_interfaces.specs.Sinks.{IsReady, stage_after, stops_in};
 ghost use Rattle.srm_interfaces.specs.InTurn.{KeepInTurn};
 ghost use Rattle.srm_engine.specs.Streams.{sink_in};
 ghost use Rattle.srm_engine.specs.Starts.{BeginsWith};
@@ -23,7 +23,6 @@ use srm_interfaces::sink::Stage;
 use srm_interfaces::watch::Watch;
 use srm_interfaces::watch_crew::WatchCrew;
 use srm_member::participant::Participant;
-use srm_scenario::session::Session;
 use std::alloc::{AllocError, Global};
 use std::marker::Copy;
 
@@ -82,10 +81,9 @@ impl<'a, M: Participant, K: Drop> WatchEngine<'a, M, K> {
             groups,
             ends,
         } = engine;
-        let Session { scenario, net } = session;
         let Groups { cut, groups, soon } = groups;
         let jobs = watched_jobs(alloc, groups, kept, end)?;
-        let (all, seat) = match crew.map(alloc, scenario, net, &ledger, seat, watch, jobs) {
+        let (all, seat) = match crew.map(alloc, session, &ledger, seat, watch, jobs) {
             Ok(done) => done,
             Err(fault) => return Err(WindowFault::of(fault).unwrap()),
         };
@@ -175,8 +173,7 @@ impl<'a, M: Participant, K: Drop> WatchEngine<'a, M, K> {
         requires stands { IsWatching M.plain self }
         requires none { KeepsRows (W.keeps watch) self [] }
         requires keeps { (k : K) (rows : List OneRow) → W.keeps watch k rows → S.keeps k rows }
-        requires open { IsOpen (S.stage sink.old) }
-        requires failures { S.failures sink.old < 2 ^ 64 - 1 }
+        requires sink { IsReady (S.stage sink.old) (S.failures sink.old) }
         ensures ready { C.ready crew.new }
         ensures serves { C.serves crew.new self.entry.engine.session.scenario.now self.entry.engine.session.net.now }
         ensures stands { IfOk result (λ e. IsUnderWay M.plain e) }

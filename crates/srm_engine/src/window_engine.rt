@@ -1,13 +1,12 @@
 //! The engine in windows.
 ghost use Rattle.std.specs.Prelude.{◌≡◌, ◌<◌, ◌+◌, ◌-◌, ◌*◌, ◌^◌, ℕ, List, IfOk, All, IsSorted, length, map};
 ghost use Rattle.srm_model.specs.World.{World, row_cmp};
-ghost use Rattle.srm_model.specs.WindowRuns.{StandAlike};
 ghost use Rattle.srm_engine.specs.Starts.{BeginsWith, InRunsOf};
 ghost use Rattle.srm_engine.specs.Ends.{MayCut};
-ghost use Rattle.srm_interfaces.specs.Sinks.{IsOpen, stage_after, stops_in};
+ghost use Rattle.srm_interfaces.specs.Sinks.{IsReady, stage_after, stops_in};
 ghost use Rattle.srm_engine.specs.Streams.{sink_in, StandsAs, stopped_in};
 ghost use Rattle.srm_engine.specs.WindowStreams.{IsLeft, TellsStreamAsked, CallsInWindows, RefusedInWindows};
-ghost use Rattle.srm_engine.specs.RowRuns.{TellsLast, MayLackWindow, TellsUndone};
+ghost use Rattle.srm_engine.specs.RowRuns.{TellsLast};
 ghost use Rattle.srm_engine.specs.WindowEngines.{IsUnderWay, IsAt, frame_of, OpensAt, BeginsNext, EndsNext, TellsWindow, TellsWindows};
 ghost use Rattle.srm_engine.specs.WindowEngines.{TellsCounted, TellsEnd, lists_in};
 ghost use Rattle.srm_ledger.specs.Seats.{totals_of};
@@ -75,7 +74,7 @@ impl<'a, M: Participant> WindowEngine<'a, M> {
     }
 
     /// The whole run in windows, as is asked for, its rows handed to a sink: first none, and then those of each window as it
-    /// ends. After the last of them it asks for no memory.
+    /// ends.
     pub(crate) fn run<C: Crew<M>, S: RowSink>(
         alloc: Global,
         start: Start<'a, M>,
@@ -85,8 +84,7 @@ impl<'a, M: Participant> WindowEngine<'a, M> {
     ) -> Result<WindowEngine<'a, M>, StreamFault>
         requires ready { C.ready crew.old }
         requires serves { C.serves crew.old start.session.scenario.now start.session.net.now }
-        requires open { IsOpen (S.stage sink.old) }
-        requires failures { S.failures sink.old < 2 ^ 64 - 1 }
+        requires sink { IsReady (S.stage sink.old) (S.failures sink.old) }
         ensures ready { C.ready crew.new }
         ensures serves { C.serves crew.new start.entry.session.scenario.now start.entry.session.net.now }
         ensures under_way { IfOk result (λ e. IsUnderWay M.plain e) }
@@ -100,8 +98,6 @@ impl<'a, M: Participant> WindowEngine<'a, M> {
             crew.old result crew.new) }
         ensures refused { InRunsOf start.entry (λ s. RefusedInWindows S.took S.part s start.entry.session.net.now asked
             sink.old result sink.new) }
-        ensures undone { InRunsOf start.entry (λ s. TellsUndone S.stage S.took S.part
-            (MayLackWindow s start.entry.session.net.now asked) s sink.old result sink.new) }
     {
         let cutting = match Cutting::of(start.session, asked) {
             Ok(cutting) => cutting,
@@ -158,7 +154,6 @@ impl<'a, M: Participant> WindowEngine<'a, M> {
         ensures later { IfOk result (λ ran. (next : ℕ) → BeginsNext M.plain ran.0 next
             → begin < next) }
         ensures sorted { IfOk result (λ ran. All (IsSorted row_cmp) (lists_in ran.1)) }
-        ensures alike { IfOk result (λ ran. StandAlike (lists_in ran.1)) }
         ensures window { TellsWindow C.handed M.plain self.entry crew.old result crew.new }
     {
         let end = self.end(begin);
@@ -177,8 +172,8 @@ impl<'a, M: Participant> WindowEngine<'a, M> {
             Err(fault) => return Err(WindowFault::of(fault).unwrap()),
         };
         let (groups, lists) = apart(alloc, all)?;
-        let groups = Groups { cut, groups, soon }.look_again(session, end);
-        let groups = groups.heard_by(alloc, session, crew, lists.as_slice())?;
+        let mut groups = Groups { cut, groups, soon }.look_again(session, end);
+        groups.hear_each(alloc, session, lists.as_slice())?;
         let engine = WindowEngine {
             session,
             ledger,
@@ -200,8 +195,7 @@ impl<'a, M: Participant> WindowEngine<'a, M> {
         requires ready { C.ready crew.old }
         requires serves { C.serves crew.old self.session.scenario.now self.session.net.now }
         requires stands { IsUnderWay M.plain self }
-        requires open { IsOpen (S.stage sink.old) }
-        requires failures { S.failures sink.old < 2 ^ 64 - 1 }
+        requires sink { IsReady (S.stage sink.old) (S.failures sink.old) }
         ensures ready { C.ready crew.new }
         ensures serves { C.serves crew.new self.entry.session.scenario.now self.entry.session.net.now }
         ensures stands { IfOk result (λ e. IsUnderWay M.plain e) }

@@ -20,12 +20,19 @@ use srm_member::participant::Participant;
 use std::alloc::Global;
 use std::marker::Copy;
 
-/// The run of a scenario in windows of time, as [`window_rows`](crate::window_rows::window_rows), but no row leaves the worker that
-/// made it: the sink is handed, as each window ends, what the watch keeps of each member's rows of that window, in order of the
-/// members' numbers. What it took is the trace of the sequential run all the same.
+/// The run of a scenario in windows of time, as [`window_stream`](crate::window_stream::window_stream)'s, but no row leaves the
+/// worker that made it: the sink is handed, as each window ends, what the watch keeps of each member's rows of that window, in
+/// order of the members' numbers. What it took is the trace of the sequential run all the same. What is answered are the crossings
+/// and drops of the trace's packets. The members are dropped, and not asked what they end with: once the sink took the last row, no
+/// memory is asked for.
 ///
 /// # Errors
-/// As of [`window_rows`](crate::window_rows::window_rows), and `NoMemory` also where memory was refused to the watch.
+/// As of [`window_stream`](crate::window_stream::window_stream), but `Run` with `NoMemory` only where something is left undone: the
+/// sink is as it was; or it took the rows so far, and a window is to come; or it was itself refused memory. So memory is refused to
+/// no run once a sink that tells its rows apart took the last one and refused nothing. `NoMemory` also where memory was refused to
+/// the watch.
+///
+/// The members are then gone, and the sink stands as after `window_stream`.
 pub fn window_kept<
     M: Participant,
     K: Drop,

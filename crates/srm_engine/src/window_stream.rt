@@ -21,9 +21,9 @@ use srm_scenario::session::Session;
 use std::alloc::Global;
 
 /// The run of a scenario in windows of time, as `window_run`'s, its rows handed to a sink as they come: first none, and then
-/// those of each window, in order, once it has ended; to a sink that takes members apart, member after member. So no more than
-/// one window's rows are in memory at once. What is answered are the exits of the members, in order of their numbers, and the
-/// crossings and drops of the trace's packets: those of the sequential run, as the trace is.
+/// those of each window, in order, once it has ended. So no more than one window's rows are in memory at once. What is answered are
+/// the exits of the members, in order of their numbers, and the crossings and drops of the trace's packets: those of the sequential
+/// run, as the trace is.
 ///
 /// There is one member of type `M` for each number, in order, each holding its opening record for this scenario and one seed. After
 /// an error the members are gone, and the sink has taken no more than a front of the trace.

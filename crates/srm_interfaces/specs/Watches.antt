@@ -1,19 +1,20 @@
 -- What is kept of the rows of jobs.
-use Rattle.std.specs.Prelude.{◌≡◌, ℕ, suc, List, [], ◌∷◌, ◌++◌, All, length, map, Result, Ok, Err}
-use Rattle.std.specs.List.{AllZip}
+use Rattle.std.specs.Prelude.{◌≡◌, ◌≤◌, ℕ, suc, List, [], ◌∷◌, ◌++◌, All, length, map, Result, Ok, Err}
+use Rattle.std.specs.List.{AllZip, range_with_len}
 use Rattle.std.specs.Global.{Vec}
+use Rattle.srm_net.specs.Limits.{most_nodes}
 use Rattle.srm_net.specs.Network.{Network}
 use Rattle.srm_scenario.specs.Plain.{PlainScenario}
 use Rattle.srm_member.specs.declared.row.Row.{Row}
 use Rattle.srm_member.specs.Record.{Record}
 use Rattle.srm_member.specs.ByMember.{rows_of_member}
-use Rattle.srm_ledger.specs.Seats.{SeatView}
+use Rattle.srm_ledger.specs.Seats.{LedgerView, SeatView}
 use Rattle.srm_cell.specs.declared.job.Job.{Job}
 use Rattle.srm_cell.specs.declared.job.Done as job
 use Rattle.srm_cell.specs.declared.fault.CellFault.{CellFault}
 use Rattle.srm_cell.specs.Crossings.{crossings, joined, packets_of}
 use Rattle.srm_cell.specs.Hearing.{IsSent, packets_in}
-use Rattle.srm_cell.specs.Jobs.{IsDone, PlainJob}
+use Rattle.srm_cell.specs.Jobs.{IsDone, MayAdvance, PlainJob}
 use Rattle.srm_cell.specs.Setting.{traffic_of}
 use Rattle.srm_interfaces.specs.declared.fault.CrewFault.{CrewFault}
 use Rattle.srm_interfaces.specs.declared.watched.WatchedJob.{WatchedJob}
@@ -49,6 +50,17 @@ module _ {M K : Type 0} where
   -- something is kept of each cell
   abbrev pub HaveKept : WatchedJob M K → Type 0
   HaveKept j = length j.kept.items ≡ length j.cells.items
+
+  -- a crew may be handed these jobs, in a run on this network, with this seat of this ledger: each may be advanced, and
+  -- they stand in the order of their places, and are few
+  pub record MayMap (f : M → Record) (net : Network) (ledger : LedgerView) (seat : SeatView)
+      (js : List (WatchedJob M K)) : Type 0 where
+    pub jobs : All (λ j. MayAdvance f (length net.hosts) j) (jobs_in js)
+    pub kept : All HaveKept js
+    pub many : length js ≤ most_nodes
+    pub places : map (λ j. j.place) js ≡ range_with_len 0 (length js)
+    pub links : ledger.links ≡ length net.links
+    pub of_ledger : seat.ledger ≡ ledger.name
 
   -- this is what is left of what is done of a job: of the rows what is kept of them, where this was kept before, and
   -- their packets

@@ -3,22 +3,17 @@ ghost use Rattle.std.specs.Prelude.{◌≡◌, ◌≤◌, ◌∷◌, ◌++◌, [
 ghost use Rattle.std.specs.List.{range_with_len};
 ghost use Rattle.srm_net.specs.Limits.{most_nodes};
 ghost use Rattle.srm_net.specs.Network.{Network};
-ghost use Rattle.srm_scenario.specs.Plain.{PlainScenario, network_of};
-ghost use Rattle.srm_cell.specs.Setting.{traffic_of};
+ghost use Rattle.srm_scenario.specs.Plain.{PlainScenario};
 ghost use Rattle.srm_cell.specs.Jobs.{PlainJob, MayAdvance};
-ghost use Rattle.srm_cell.specs.Hearing.{IsSent, packets_in};
 ghost use Rattle.srm_interfaces.specs.Crews.{AreJobs, Maps};
-ghost use Rattle.srm_interfaces.specs.Hearers.{GroupsMayHear, TellsHeard};
 
 use crate::fault::CrewFault;
-use srm_cell::cell::Cell;
 use srm_cell::job::{Done, Job};
-use srm_cell::sent::Sent;
 use srm_ledger::ledger::{Ledger, Seat};
 use srm_member::participant::Participant;
 use srm_net::net::Net;
 use srm_scenario::scenario::Scenario;
-use std::alloc::{AllocError, Global};
+use std::alloc::Global;
 
 /// Who advances jobs whose cells hold members of type `M`.
 pub trait Crew<M: Participant> {
@@ -60,28 +55,6 @@ pub trait Crew<M: Participant> {
         ensures done { Maps M.plain scenario.now net.now seat jobs.items result }
         ensures handed { IfOk result (λ _. (ps : List PlainJob) → AreJobs M.plain jobs.items ps
             → handed self.old (ps ∷ []) self.new) };
-
-    /// The groups after each of their cells heard what was sent, one packet after the other. Groups and cells stay in their order.
-    ///
-    /// # Errors
-    /// [`AllocError`]: the cells are gone.
-    fn hear(
-        &mut self,
-        alloc: Global,
-        scenario: &Scenario,
-        net: &Net,
-        sent: Vec<Sent>,
-        groups: Vec<Vec<Cell<M>>>,
-    ) -> Result<Vec<Vec<Cell<M>>>, AllocError>
-        requires ready { ready self.old }
-        requires serves { serves self.old scenario.now net.now }
-        requires network { net.now ≡ network_of scenario.now }
-        requires sent { All (λ x. IsSent scenario.now net.now x) sent.items }
-        requires groups { GroupsMayHear M.plain (traffic_of scenario.now net.now) (packets_in sent.items) groups.items }
-        ensures ready { ready self.new }
-        ensures serves { serves self.new scenario.now net.now }
-        ensures heard { TellsHeard M.plain (traffic_of scenario.now net.now) (packets_in sent.items) groups.items result }
-        ensures handed { handed self.old [] self.new };
 
     ghost handed_none: { (c : Self) → handed c [] c };
 

@@ -3,6 +3,7 @@
 
 pub mod crew;
 pub mod fault;
+pub mod hearing;
 pub mod kept_sink;
 pub mod sink;
 pub mod watch;

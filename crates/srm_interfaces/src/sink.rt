@@ -1,8 +1,8 @@
 //! Who takes the rows of a run as they come.
-ghost use Rattle.std.specs.Prelude.{◌≡◌, ◌<◌, ◌+◌, ◌-◌, ◌^◌, ◌++◌, [], ℕ, List, MatchResult, IsTrue};
+ghost use Rattle.std.specs.Prelude.{◌≡◌, ◌<◌, ◌+◌, ◌-◌, ◌^◌, ◌++◌, [], ℕ, List, MatchResult};
 ghost use Rattle.srm_member.specs.declared.row.Row.{Row as OneRow};
 ghost use Rattle.srm_interfaces.specs.declared.sink.Stage.{Stage as AStage};
-ghost use Rattle.srm_interfaces.specs.Sinks.{IsOpen, stage_after, stops_in, IsByMember};
+ghost use Rattle.srm_interfaces.specs.Sinks.{IsOpen, stage_after, stops_in};
 
 use srm_member::row::Row;
 use std::alloc::Global;
@@ -65,14 +65,6 @@ pub trait RowSink {
         ensures failures { failures self.new ≡ failures self.old + stops_in result }
         ensures rows { MatchResult result (λ _. took self.old rows.items self.new)
             (λ _. part self.old rows.items self.new) };
-
-    /// Whether the rows of members may be handed to it apart: what it takes of some rows, it takes of every list in which each
-    /// member's rows stand in the same order. It does not allocate.
-    fn takes_members_apart(&self) -> bool
-        ensures { IsTrue result → IsByMember took part }
-    {
-        false
-    }
 
     ghost same_self: { (a : Self) → same a a };
 

@@ -1,15 +1,13 @@
 //! What a crew is that keeps no rows, but what a watch keeps of them.
-ghost use Rattle.std.specs.Prelude.{◌≡◌, ◌≤◌, ◌∷◌, ◌++◌, [], ℕ, List, length, map, All, IfOk};
-ghost use Rattle.std.specs.List.{range_with_len};
-ghost use Rattle.srm_net.specs.Limits.{most_nodes};
+ghost use Rattle.std.specs.Prelude.{◌∷◌, ◌++◌, [], List, All, IfOk};
 ghost use Rattle.srm_net.specs.Network.{Network};
-ghost use Rattle.srm_scenario.specs.Plain.{PlainScenario, network_of};
+ghost use Rattle.srm_scenario.specs.Plain.{PlainScenario};
 ghost use Rattle.srm_cell.specs.Setting.{traffic_of};
-ghost use Rattle.srm_cell.specs.Jobs.{PlainJob, MayAdvance};
+ghost use Rattle.srm_cell.specs.Jobs.{PlainJob};
 ghost use Rattle.srm_cell.specs.Hearing.{IsSent, packets_in};
 ghost use Rattle.srm_interfaces.specs.Crews.{AreJobs};
 ghost use Rattle.srm_interfaces.specs.Hearers.{GroupsMayHear, TellsHeard};
-ghost use Rattle.srm_interfaces.specs.Watches.{jobs_in, HaveKept, MapsWatched};
+ghost use Rattle.srm_interfaces.specs.Watches.{jobs_in, MayMap, MapsWatched};
 
 use crate::fault::CrewFault;
 use crate::watch::Watch;
@@ -18,8 +16,7 @@ use srm_cell::cell::Cell;
 use srm_cell::sent::Sent;
 use srm_ledger::ledger::{Ledger, Seat};
 use srm_member::participant::Participant;
-use srm_net::net::Net;
-use srm_scenario::scenario::Scenario;
+use srm_scenario::session::Session;
 use std::alloc::{AllocError, Global};
 
 /// Who advances jobs whose cells hold members of type `M`, and keeps of their rows what a watch keeps: a `K` of each member.
@@ -40,48 +37,42 @@ pub trait WatchCrew<M: Participant, K, W: Watch<K>> {
     fn map(
         &mut self,
         alloc: Global,
-        scenario: &Scenario,
-        net: &Net,
+        session: Session,
         ledger: &Ledger,
         seat: Seat,
         watch: W,
         jobs: Vec<WatchedJob<M, K>>,
     ) -> Result<(Vec<WatchedDone<M, K>>, Seat), CrewFault>
         requires ready { ready self.old }
-        requires serves { serves self.old scenario.now net.now }
-        requires network { net.now ≡ network_of scenario.now }
-        requires jobs { All (λ j. MayAdvance M.plain (length net.now.hosts) j) (jobs_in jobs.items) }
-        requires kept { All HaveKept jobs.items }
-        requires many { length jobs.items ≤ most_nodes }
-        requires places { map (λ j. j.place) jobs.items ≡ range_with_len 0 (length jobs.items) }
-        requires links { ledger.now.links ≡ length net.now.links }
-        requires seat { seat.ledger ≡ ledger.now.name }
+        requires serves { serves self.old session.scenario.now session.net.now }
+        requires may { MayMap M.plain session.net.now ledger.now seat jobs.items }
         ensures ready { ready self.new }
-        ensures serves { serves self.new scenario.now net.now }
-        ensures done { MapsWatched M.plain (W.keeps watch) scenario.now net.now seat jobs.items result }
+        ensures serves { serves self.new session.entry.scenario.now session.entry.net.now }
+        ensures done { MapsWatched M.plain (W.keeps watch) session.entry.scenario.now session.entry.net.now seat
+            jobs.items result }
         ensures handed { IfOk result (λ _. (ps : List PlainJob) → AreJobs M.plain (jobs_in jobs.items) ps
             → handed self.old (ps ∷ []) self.new) };
 
-    /// As `Crew::hear`.
+    /// The groups after each of their cells heard what was sent, one packet after the other. Groups and cells stay in their order.
     ///
     /// # Errors
     /// [`AllocError`]: the cells are gone.
     fn hear(
         &mut self,
         alloc: Global,
-        scenario: &Scenario,
-        net: &Net,
+        session: Session,
         sent: Vec<Sent>,
         groups: Vec<Vec<Cell<M>>>,
     ) -> Result<Vec<Vec<Cell<M>>>, AllocError>
         requires ready { ready self.old }
-        requires serves { serves self.old scenario.now net.now }
-        requires network { net.now ≡ network_of scenario.now }
-        requires sent { All (λ x. IsSent scenario.now net.now x) sent.items }
-        requires groups { GroupsMayHear M.plain (traffic_of scenario.now net.now) (packets_in sent.items) groups.items }
+        requires serves { serves self.old session.scenario.now session.net.now }
+        requires sent { All (λ x. IsSent session.scenario.now session.net.now x) sent.items }
+        requires groups { GroupsMayHear M.plain (traffic_of session.scenario.now session.net.now) (packets_in sent.items)
+            groups.items }
         ensures ready { ready self.new }
-        ensures serves { serves self.new scenario.now net.now }
-        ensures heard { TellsHeard M.plain (traffic_of scenario.now net.now) (packets_in sent.items) groups.items result }
+        ensures serves { serves self.new session.entry.scenario.now session.entry.net.now }
+        ensures heard { TellsHeard M.plain (traffic_of session.entry.scenario.now session.entry.net.now) (packets_in sent.items)
+            groups.items result }
         ensures handed { handed self.old [] self.new };
 
     ghost handed_none: { (c : Self) → handed c [] c };

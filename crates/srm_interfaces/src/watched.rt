@@ -4,7 +4,6 @@ ghost use Rattle.srm_cell.specs.Crossings.{joined, packets_of};
 ghost use Rattle.srm_cell.specs.Hearing.{IsSent, packets_in};
 ghost use Rattle.srm_cell.specs.Totalled.{IsSentBelow};
 ghost use Rattle.srm_interfaces.specs.Watches.{KeepEach};
-ghost use Rattle.srm_scenario.specs.Plain.{network_of};
 
 use crate::watch::Watch;
 use srm_cell::cell::Cell;
@@ -13,9 +12,8 @@ use srm_cell::job::Done;
 use srm_cell::sent::Sent;
 use srm_member::participant::Participant;
 use srm_member::row::Row;
-use srm_net::net::Net;
 use srm_net::sequence::Sequence;
-use srm_scenario::scenario::Scenario;
+use srm_scenario::session::Session;
 use std::alloc::{AllocError, Global};
 
 /// A job, with what is kept of each cell's rows so far.
@@ -55,16 +53,15 @@ impl<M: Participant, K: Drop> WatchedDone<M, K> {
     /// [`AllocError`]: the cells are gone.
     pub fn of<W: Watch<K>>(
         alloc: Global,
-        scenario: &Scenario,
-        net: &Net,
+        session: Session,
         watch: &W,
         kept: Vec<K>,
         done: Done<M>,
     ) -> Result<Self, AllocError>
-        requires network { net.now ≡ network_of scenario.now }
         requires many { length done.rows.items ≡ length kept.items }
-        requires sent { All (λ rows. All (λ r. IsSentBelow (length scenario.now.members) r.sent) rows) done.rows.items }
-        ensures { IfOk result (λ e. Watches (W.keeps watch.now) scenario.now net.now kept.items done e) }
+        requires sent { All (λ rows. All (λ r. IsSentBelow (length session.scenario.now.members) r.sent) rows) done.rows.items }
+        ensures { IfOk result (λ e. Watches (W.keeps watch.now) session.entry.scenario.now session.entry.net.now
+            kept.items done e) }
     {
         let Done {
             place,
@@ -74,7 +71,7 @@ impl<M: Participant, K: Drop> WatchedDone<M, K> {
         } = done;
         let mut kept = kept;
         keep_each(watch, kept.as_mut_slice(), rows.as_slice())?;
-        let sent = sent_in(alloc, scenario, net, rows.as_slice())?;
+        let sent = sent_in(alloc, session, rows.as_slice())?;
         Ok(WatchedDone {
             place,
             cells,
@@ -106,18 +103,16 @@ fn keep_each<K, W: Watch<K>>(
 // The packets of the lists' rows, in their order, each with its spread.
 fn sent_in(
     alloc: Global,
-    scenario: &Scenario,
-    net: &Net,
+    session: Session,
     lists: &[Sequence<Row>],
 ) -> Result<Vec<Sent>, AllocError>
-    requires network { net.now ≡ network_of scenario.now }
-    requires sent { All (λ rows. All (λ r. IsSentBelow (length scenario.now.members) r.sent) rows) lists.now }
+    requires sent { All (λ rows. All (λ r. IsSentBelow (length session.scenario.now.members) r.sent) rows) lists.now }
     ensures packets { IfOk result (λ all. packets_in all.items ≡ packets_of (joined lists.now)) }
-    ensures sent { IfOk result (λ all. All (λ x. IsSent scenario.now net.now x) all.items) }
+    ensures sent { IfOk result (λ all. All (λ x. IsSent session.entry.scenario.now session.entry.net.now x) all.items) }
 {
     let mut all = Vec::new(alloc);
     for rows in lists {
-        add_sent(alloc, scenario, net, rows.as_slice(), &mut all)?;
+        add_sent(alloc, session, rows.as_slice(), &mut all)?;
     }
     Ok(all)
 }
@@ -125,20 +120,18 @@ fn sent_in(
 // Adds the packets of the rows.
 fn add_sent(
     alloc: Global,
-    scenario: &Scenario,
-    net: &Net,
+    session: Session,
     rows: &[Row],
     all: &mut Vec<Sent>,
 ) -> Result<(), AllocError>
-    requires network { net.now ≡ network_of scenario.now }
-    requires sent { All (λ r. IsSentBelow (length scenario.now.members) r.sent) rows.now }
-    requires before { All (λ x. IsSent scenario.now net.now x) all.old.items }
+    requires sent { All (λ r. IsSentBelow (length session.scenario.now.members) r.sent) rows.now }
+    requires before { All (λ x. IsSent session.scenario.now session.net.now x) all.old.items }
     ensures packets { IfOk result (λ _. packets_in all.new.items ≡ packets_in all.old.items ++ packets_of rows.now) }
-    ensures sent { IfOk result (λ _. All (λ x. IsSent scenario.now net.now x) all.new.items) }
+    ensures sent { IfOk result (λ _. All (λ x. IsSent session.entry.scenario.now session.entry.net.now x) all.new.items) }
 {
     for row in rows {
         if let Some(packet) = &row.sent {
-            let sent = Sent::of(alloc, scenario, net, packet)?;
+            let sent = Sent::of(alloc, session.scenario, session.net, packet)?;
             all.push(sent)?;
         }
     }

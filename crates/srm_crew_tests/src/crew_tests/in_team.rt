@@ -1,25 +1,28 @@
 //! What a crew of a team gives for a window. Its type names the box, so it can't have the trait that crews of boxes have.
-ghost use Rattle.std.specs.Prelude.{◌≡◌, length};
-ghost use Rattle.srm_crew_tests.specs.Handed.{MayMap};
+ghost use Rattle.std.specs.Prelude.{◌≡◌};
+ghost use Rattle.srm_scenario.specs.Plain.{network_of};
+ghost use Rattle.srm_interfaces.specs.Watches.{MayMap};
 
 use crate::crew_tests::case::Case;
 use crate::crew_tests::cases::CASES;
 use crate::crew_tests::handing::opened;
+use crate::crew_tests::keep_seen::{KeepSeen, watched};
 use crate::crew_tests::mapped::first_jobs;
 use crate::crew_tests::run_context::RunContext;
 use crate::crew_tests::seats::{counted, ledger_of};
-use crate::crew_tests::seen::Window;
-use srm_cell::job::{Done, Job};
-use srm_crew::advancing::Advancing;
+use crate::crew_tests::seen::{Seen, Window};
 use srm_crew::piece::Piece;
-use srm_crew::team_crew::TeamCrew;
+use srm_crew::watch_team::WatchTeam;
+use srm_crew::watching::Watching;
 use srm_crew::worked::Worked;
 use srm_examples::watched::Watch;
-use srm_interfaces::crew::Crew;
 use srm_interfaces::fault::CrewFault;
+use srm_interfaces::watch_crew::WatchCrew;
+use srm_interfaces::watched::{WatchedDone, WatchedJob};
 use srm_ledger::ledger::Seat;
 use srm_member::member::Member;
 use srm_member::participant::Participant;
+use srm_scenario::session::Session;
 use srm_team::naming::Naming;
 use srm_team::opened::Opened;
 use srm_team::team::open_team;
@@ -35,36 +38,37 @@ const ROOM: usize = 8;
 fn map_by_team<'a, M: Participant, J: Naming, R: Wait>(
     rt: &R,
     alloc: Global,
-    history: Opened<Advancing<'a>, Piece<M>>,
+    history: Opened<Watching<'a, KeepSeen>, Piece<M, Vec<Seen>>>,
     context: &RunContext<'a>,
     seat: Seat,
-    jobs: Vec<Job<M>>,
-) -> Result<(Vec<Done<M>>, Seat), CrewFault>
+    jobs: Vec<WatchedJob<M, Vec<Seen>>>,
+) -> Result<(Vec<WatchedDone<M, Vec<Seen>>>, Seat), CrewFault>
+    requires network { context.now.net.now ≡ network_of context.now.scenario.now }
     requires history { history ≡ J.book }
-    requires jobs { MayMap M.plain (length context.now.net.now.hosts) jobs.items }
-    requires links { context.now.ledger.now.links ≡ length context.now.net.now.links }
-    requires seat { seat.ledger ≡ context.now.ledger.now.name }
+    requires jobs { MayMap M.plain context.now.net.now context.now.ledger.now seat jobs.items }
 {
-    let work = Advancing {
-        alloc,
+    let session = Session {
         scenario: context.scenario,
         net: context.net,
     };
-    let (team, _bench) = match open_team::<Advancing, Piece<M>, Worked<M>, J>(
-        alloc, history, ROOM,
-    ) {
+    let watch = KeepSeen { alloc };
+    let (team, _bench) = match open_team::<
+        Watching<KeepSeen>,
+        Piece<M, Vec<Seen>>,
+        Worked<M, Vec<Seen>>,
+        J,
+    >(alloc, history, ROOM)
+    {
         Ok(both) => both,
         Err(AllocError) => return Err(CrewFault::NoMemory),
     };
-    let mut crew = TeamCrew::new(rt, team, work, 0);
-    crew.map(
+    let work = Watching {
         alloc,
-        context.scenario,
-        context.net,
-        context.ledger,
-        seat,
-        jobs,
-    )
+        session,
+        watch,
+    };
+    let mut crew = WatchTeam::new(rt, team, work, 0);
+    crew.map(alloc, session, context.ledger, seat, watch, jobs)
 }
 
 // Hands a case's jobs to a crew of a team, and asserts that what the case says comes of them.
@@ -78,6 +82,7 @@ fn map_first<R: Wait + Abort>(
     let jobs = first_jobs(rt, alloc, &scenario, &net, case, watch)?;
     let (ledger, seat) = ledger_of(rt, alloc, &net)?;
     let seat = counted(rt, &ledger, seat, case.counted);
+    let jobs = watched(alloc, jobs)?;
     let history = Opened::new();
     let context = RunContext {
         scenario: &scenario,
@@ -85,7 +90,7 @@ fn map_first<R: Wait + Abort>(
         ledger: &ledger,
     };
     match map_by_team::<Box<dyn Member>, Brand, R>(rt, alloc, history, &context, seat, jobs) {
-        Ok((all, _seat)) => case.expect(rt, &Window::of(alloc, all.as_slice())?),
+        Ok((all, _seat)) => case.expect(rt, &Window::of_watched(alloc, all)?),
         Err(fault) => case.expect_fault(rt, fault)?,
     }
     Ok(())

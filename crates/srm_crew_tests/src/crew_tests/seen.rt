@@ -2,6 +2,8 @@
 use srm_cell::cell::Cell;
 use srm_cell::crossings::Crossings;
 use srm_cell::job::Done;
+use srm_interfaces::watched::WatchedDone;
+use srm_member::member::Member;
 use srm_member::row::{Row, Word};
 use srm_member::told::Told;
 use srm_net::sequence::Sequence;
@@ -11,7 +13,8 @@ use std::alloc::{AllocError, Global};
 /// that was sent.
 pub(crate) type Seen = (u64, u16, Word, Told, Option<u64>);
 
-fn row_seen(row: &Row) -> Seen {
+/// What tests look at of a row.
+pub(crate) fn row_seen(row: &Row) -> Seen {
     let sent = match &row.sent {
         None => None,
         Some(packet) => Some(packet.id.count),
@@ -47,6 +50,35 @@ impl Window {
             window.add_next_times(done.cells.as_slice())?;
         }
         Ok(window)
+    }
+
+    /// The same of jobs of whose rows this was kept.
+    ///
+    /// # Errors
+    /// [`AllocError`] alone.
+    pub(crate) fn of_watched(
+        alloc: Global,
+        all: Vec<WatchedDone<Box<dyn Member>, Vec<Seen>>>,
+    ) -> Result<Self, AllocError> {
+        let mut window = Window {
+            rows: Vec::new(alloc),
+            crossings: Vec::new(alloc),
+            next_times: Vec::new(alloc),
+        };
+        for done in all {
+            window.add_crossings(done.place, &done.crossings)?;
+            window.add_next_times(done.cells.as_slice())?;
+            window.add_kept(done.kept)?;
+        }
+        Ok(window)
+    }
+
+    fn add_kept(&mut self, kept: Vec<Vec<Seen>>) -> Result<(), AllocError> {
+        for own in kept {
+            let mut own = own;
+            self.rows.append(&mut own)?;
+        }
+        Ok(())
     }
 
     fn add_lists(&mut self, lists: &[Sequence<Row>]) -> Result<(), AllocError> {

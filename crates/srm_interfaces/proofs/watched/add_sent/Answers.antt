@@ -15,18 +15,18 @@ loop-row-init c = (sym (append-nil (packets_in c.args.all.now.items)), c.require
 
 pub of-requires-clause-sent : goal.of-requires-clause-sent
 of-requires-clause-sent c =
-    (subst (IsSentBelow (length c.args.scenario.now.members)) c.in-Some.is
-    (subst (λ (r : Row). IsSentBelow (length c.args.scenario.now.members) r.sent) (sym c.row-item.is)
+    (subst (IsSentBelow (length c.args.session.scenario.now.members)) c.in-Some.is
+    (subst (λ (r : Row). IsSentBelow (length c.args.session.scenario.now.members) r.sent) (sym c.row-item.is)
     (All-get_or (λ (r : Row). IsSentBelow
-    (length c.args.scenario.now.members) r.sent) c.args.rows.now c.loop-row.row-index c.row-item.result
+    (length c.args.session.scenario.now.members) r.sent) c.args.rows.now c.loop-row.row-index c.row-item.result
     c.loop-row-test.true c.requires.sent))).1
 
 pub of-requires-clause-sender : goal.of-requires-clause-sender
 of-requires-clause-sender c =
-    (subst (IsSentBelow (length c.args.scenario.now.members)) c.in-Some.is
-    (subst (λ (r : Row). IsSentBelow (length c.args.scenario.now.members) r.sent) (sym c.row-item.is)
+    (subst (IsSentBelow (length c.args.session.scenario.now.members)) c.in-Some.is
+    (subst (λ (r : Row). IsSentBelow (length c.args.session.scenario.now.members) r.sent) (sym c.row-item.is)
     (All-get_or (λ (r : Row). IsSentBelow
-    (length c.args.scenario.now.members) r.sent) c.args.rows.now c.loop-row.row-index c.row-item.result
+    (length c.args.session.scenario.now.members) r.sent) c.args.rows.now c.loop-row.row-index c.row-item.result
     c.loop-row-test.true c.requires.sent))).0
 
 pub loop-row-preserved : goal.loop-row-preserved
@@ -41,8 +41,8 @@ loop-row-preserved c =
             ∙ ap (λ p. packets_in c.loop-row.all.items ++ p ∷ []) w.in_ok-sent.ensures.packet
             ∙ ap (λ l. l ++ w.in-Some.packet ∷ []) c.loop-row.invariant.0
             ∙ one_more ps rows i r w.in-Some.packet c.loop-row-test.true c.row-item.is w.in-Some.is,
-        subst (All (λ x. IsSent c.args.scenario.now c.args.net.now x)) (sym w.in_ok-push.ensures.items)
-            (All-push (λ x. IsSent c.args.scenario.now c.args.net.now x) c.loop-row.all.items w.in_ok-sent.sent c.loop-row.invariant.1
+        subst (All (λ x. IsSent c.args.session.scenario.now c.args.session.net.now x)) (sym w.in_ok-push.ensures.items)
+            (All-push (λ x. IsSent c.args.session.scenario.now c.args.session.net.now x) c.loop-row.all.items w.in_ok-sent.sent c.loop-row.invariant.1
             w.in_ok-sent.ensures.sent),
       )
       | in_default w ↦ rw w.all-is (

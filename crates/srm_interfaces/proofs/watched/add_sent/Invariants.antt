@@ -7,4 +7,4 @@ use Rattle.srm_interfaces.proofs.watched.add_sent.Given as goal
 abbrev pub invariant-loop-row : goal.invariant-loop-row
 invariant-loop-row l =
     (packets_in l.all.items ≡ packets_in l.fn.all.items ++ packets_of (take l.row-index l.rows))
-    × All (λ x. IsSent l.scenario l.net x) l.all.items
+    × All (λ x. IsSent l.session.scenario.now l.session.net.now x) l.all.items

@@ -12,15 +12,15 @@ use Rattle.srm_interfaces.proofs.watched.sent_in.Goals as goal
 pub loop-rows-init : goal.loop-rows-init
 loop-rows-init c = (
   ap packets_in c.new-all.ensures.items,
-  subst (All (λ x. IsSent c.args.scenario.now c.args.net.now x)) (sym c.new-all.ensures.items)
-      (All-nil (λ x. IsSent c.args.scenario.now c.args.net.now x)),
+  subst (All (λ x. IsSent c.args.session.scenario.now c.args.session.net.now x)) (sym c.new-all.ensures.items)
+      (All-nil (λ x. IsSent c.args.session.scenario.now c.args.session.net.now x)),
 )
 
 pub add_sent-requires-clause-sent : goal.add_sent-requires-clause-sent
 add_sent-requires-clause-sent c =
-    subst (All (λ (r : Row). IsSentBelow (length c.args.scenario.now.members) r.sent)) (sym c.as_slice.ensures)
-    (subst (λ (v : List Row). All (λ (r : Row). IsSentBelow (length c.args.scenario.now.members) r.sent) v) (sym c.rows-item.is)
-    (All-get_or (λ (v : List Row). All (λ (r : Row). IsSentBelow (length c.args.scenario.now.members) r.sent) v) c.args.lists.now
+    subst (All (λ (r : Row). IsSentBelow (length c.args.session.scenario.now.members) r.sent)) (sym c.as_slice.ensures)
+    (subst (λ (v : List Row). All (λ (r : Row). IsSentBelow (length c.args.session.scenario.now.members) r.sent) v) (sym c.rows-item.is)
+    (All-get_or (λ (v : List Row). All (λ (r : Row). IsSentBelow (length c.args.session.scenario.now.members) r.sent) v) c.args.lists.now
     c.loop-rows.rows-index c.rows-item.result c.loop-rows-test.true c.requires.sent))
 
 pub loop-rows-preserved : goal.loop-rows-preserved

@@ -7,4 +7,4 @@ use Rattle.srm_interfaces.proofs.watched.sent_in.Given as goal
 abbrev pub invariant-loop-rows : goal.invariant-loop-rows
 invariant-loop-rows l =
     (packets_in l.all.items ≡ packets_of (joined (take l.rows-index l.lists)))
-    × All (λ x. IsSent l.scenario l.net x) l.all.items
+    × All (λ x. IsSent l.session.scenario.now l.session.net.now x) l.all.items

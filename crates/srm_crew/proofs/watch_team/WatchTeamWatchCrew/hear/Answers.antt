@@ -10,12 +10,12 @@ pub hear_in_team-requires-clause-groups : goal.hear_in_team-requires-clause-grou
 hear_in_team-requires-clause-groups g c =
     let ps = packets_in c.args.sent.items in
     let gs = c.args.groups.items in
-    subst (λ (k : PlainScenario). GroupsMayHear g.M.Participant.plain (traffic_of k c.args.self.now.work.net.now) ps gs)
+    subst (λ (k : PlainScenario). GroupsMayHear g.M.Participant.plain (traffic_of k c.args.self.now.work.session.net.now) ps gs)
     (sym c.requires.serves.0)
-    (subst (λ (n : Network). GroupsMayHear g.M.Participant.plain (traffic_of c.args.scenario.now n) ps gs) (sym c.requires.serves.1)
+    (subst (λ (n : Network). GroupsMayHear g.M.Participant.plain (traffic_of c.args.session.scenario.now n) ps gs) (sym c.requires.serves.1)
     c.requires.groups)
 
 pub hear_groups-requires-clause-groups : goal.hear_groups-requires-clause-groups
 hear_groups-requires-clause-groups g c =
-    subst (λ xs. GroupsMayHear g.M.Participant.plain (traffic_of c.args.scenario.now c.args.net.now) (packets_in xs) c.args.groups.items)
+    subst (λ xs. GroupsMayHear g.M.Participant.plain (traffic_of c.args.session.scenario.now c.args.session.net.now) (packets_in xs) c.args.groups.items)
     (sym c.as_slice-then-saturating_mul-lt-ENOUGH.ensures.value) c.requires.groups

@@ -1,4 +1,4 @@
-use Rattle.std.proofs.Common.{◌≡◌, ◌∙◌, List, length, map, All, ap, sym, subst}
+use Rattle.std.proofs.Common.{◌≡◌, ◌∙◌, List, length, map, All, ap, sym, subst, arith}
 use Rattle.std.specs.List.{range_with_len}
 use Rattle.std.proofs.lemmas.List.{length-map}
 use Rattle.srm_cell.specs.declared.job.Job.{Job}
@@ -14,23 +14,36 @@ use Rattle.srm_engine.proofs.by_rows.ByRowsWatchCrew.map.Goals as goal
 pub returns-in_default-clause-done : goal.returns-in_default-clause-done
 returns-in_default-clause-done g c = record { tells = λ ps h. tt }
 
+pub map-requires-clause-jobs : goal.map-requires-clause-jobs
+map-requires-clause-jobs g c =
+    subst (λ l. All (λ j. MayAdvance g.M.Participant.plain (length c.args.session.net.now.hosts) j) l) (sym c.in-Ok.ensures.jobs)
+    c.requires.may.jobs
+
+pub map-requires-clause-many : goal.map-requires-clause-many
+map-requires-clause-many g c =
+    let long = ap (λ (l : List (Job _)). length l) c.in-Ok.ensures.jobs ∙ length-map c.args.jobs.items job_in in
+    let many = c.requires.may.many in
+    omega (arith, long, many)
+
 pub map-requires-clause-places : goal.map-requires-clause-places
 map-requires-clause-places g c =
     let js = c.args.jobs.items in
-    ap (λ (l : List (Job _)). map (λ j. j.place) l) c.in-Ok.ensures.jobs ∙ places_in js ∙ c.requires.places
+    ap (λ (l : List (Job _)). map (λ j. j.place) l) c.in-Ok.ensures.jobs ∙ places_in js ∙ c.requires.may.places
     ∙ ap (λ n. range_with_len 0 n) (sym (ap (λ (l : List (Job _)). length l) c.in-Ok.ensures.jobs ∙ length-map js job_in))
 
-pub leave-requires-clause-may : goal.leave-requires-clause-may
-leave-requires-clause-may g c =
+pub leave-requires : goal.leave-requires
+leave-requires g c =
     let js = c.args.jobs.items in
     let f = g.M.Participant.plain in
-    let k = c.args.scenario.now in
-    let hosts : length c.args.net.now.hosts ≡ length k.members =
-    ap (λ n. length n.hosts) c.requires.network ∙ length-map k.members (λ m. m.node) in
-    rw c.in-Ok.ensures.kept
-    (may_leave f k (traffic_of k c.args.net.now) js c.in-Ok-map.done.0.items
-    (subst (λ n. All (λ j. MayAdvance f n j) (jobs_in js)) hosts c.requires.jobs) c.requires.kept
-    (λ ps h. (c.in-Ok-map.ensures.done.tells ps (subst (λ l. AreJobs f l ps) (sym c.in-Ok.ensures.jobs) h)).0))
+    let k = c.args.session.scenario.now in
+    let hosts : length c.args.session.net.now.hosts ≡ length k.members =
+    ap (λ n. length n.hosts) c.args.session.network ∙ length-map k.members (λ m. m.node) in
+    record {
+      may = rw c.in-Ok.ensures.kept
+          (may_leave f k (traffic_of k c.args.session.net.now) js c.in-Ok-map.done.0.items
+          (subst (λ n. All (λ j. MayAdvance f n j) (jobs_in js)) hosts c.requires.may.jobs) c.requires.may.kept
+          (λ ps h. (c.in-Ok-map.ensures.done.tells ps (subst (λ l. AreJobs f l ps) (sym c.in-Ok.ensures.jobs) h)).0));
+    }
 
 pub returns-clause-done : goal.returns-clause-done
 returns-clause-done g c = record { tells = λ ps h. tt }
@@ -39,12 +52,12 @@ pub returns-in-Ok-leave-clause-done : goal.returns-in-Ok-leave-clause-done
 returns-in-Ok-leave-clause-done g c =
     let js = c.args.jobs.items in
     let f = g.M.Participant.plain in
-    let k = c.args.scenario.now in
-    let net = c.args.net.now in
+    let k = c.args.session.scenario.now in
+    let net = c.args.session.net.now in
     let keeps = g.W.Watch.keeps c.args.watch in
     let ds = c.in-Ok-map.done.0.items in
-    let hosts : length net.hosts ≡ length k.members = ap (λ n. length n.hosts) c.requires.network ∙ length-map k.members (λ m. m.node) in
-    let some = some_jobs f k (traffic_of k net) js (subst (λ n. All (λ j. MayAdvance f n j) (jobs_in js)) hosts c.requires.jobs) in
+    let hosts : length net.hosts ≡ length k.members = ap (λ n. length n.hosts) c.args.session.network ∙ length-map k.members (λ m. m.node) in
+    let some = some_jobs f k (traffic_of k net) js (subst (λ n. All (λ j. MayAdvance f n j) (jobs_in js)) hosts c.requires.may.jobs) in
     let as_crew : (ps : List PlainJob) → AreJobs f (jobs_in js) ps → AreJobs f c.in-Ok.jobs.items ps =
     λ ps h. subst (λ l. AreJobs f l ps) (sym c.in-Ok.ensures.jobs) h in (
       ds,
@@ -53,3 +66,9 @@ returns-in-Ok-leave-clause-done g c =
       left_of_jobs keeps k net js ds c.in-Ok-leave.left.items
           (subst (λ l. LeftEach keeps k net l ds c.in-Ok-leave.left.items) c.in-Ok.ensures.kept c.in-Ok-leave.ensures),
     )
+
+pub map-requires-clause-links : goal.map-requires-clause-links
+map-requires-clause-links g c = c.requires.may.links
+
+pub map-requires-clause-seat : goal.map-requires-clause-seat
+map-requires-clause-seat g c = c.requires.may.of_ledger

@@ -19,32 +19,21 @@ use Rattle.srm_engine.proofs.WindowLemmas.{of_a_window, map_refused, end_is}
 use Rattle.srm_engine.proofs.WindowLemmas.{heard_in_order, heard_as, after, one_more, counted_after, kept_after, later}
 use Rattle.srm_engine.proofs.watch_engine.WatchEngine.window.Goals as goal
 
-pub map-requires-clause-jobs : goal.map-requires-clause-jobs
-map-requires-clause-jobs g c =
-    (watched_tell_now g.M.Participant.plain (g.W.Watch.keeps c.args.watch) c.args.self c.requires.stands c.end-end.result
-    c.end-end.ensures c.in_ok-jobs.jobs.items c.in_ok-jobs.ensures).may
-
-pub map-requires-clause-kept : goal.map-requires-clause-kept
-map-requires-clause-kept g c =
-    rw c.in_ok-jobs.ensures
-    (have_kept c.end-end.result 0 c.args.self.engine.groups.groups.items c.args.self.kept.items c.requires.stands.each)
-
-pub map-requires-clause-many : goal.map-requires-clause-many
-map-requires-clause-many g c =
-    let few = (watched_tell_now g.M.Participant.plain (g.W.Watch.keeps c.args.watch) c.args.self c.requires.stands c.end-end.result
-    c.end-end.ensures c.in_ok-jobs.jobs.items c.in_ok-jobs.ensures).few in
-    let long = length-map c.in_ok-jobs.jobs.items job_in in
-    omega (arith, few, long)
-
-pub map-requires-clause-places : goal.map-requires-clause-places
-map-requires-clause-places g c =
+pub map-requires-clause-may : goal.map-requires-clause-may
+map-requires-clause-may g c =
     let js = c.in_ok-jobs.jobs.items in
-    let placed = (watched_tell_now g.M.Participant.plain (g.W.Watch.keeps c.args.watch) c.args.self c.requires.stands c.end-end.result
-    c.end-end.ensures js c.in_ok-jobs.ensures).placed in
-    sym (places_in js) ∙ placed ∙ ap (λ n. range_with_len 0 n) (length-map js job_in)
-
-pub map-requires-clause-seat : goal.map-requires-clause-seat
-map-requires-clause-seat g c = c.requires.stands.under_way.comes.counted.ledger
+    let told = watched_tell_now g.M.Participant.plain (g.W.Watch.keeps c.args.watch) c.args.self c.requires.stands c.end-end.result
+    c.end-end.ensures js c.in_ok-jobs.ensures in
+    let long = length-map js job_in in
+    let k = c.requires.stands.under_way in record {
+      jobs = told.may;
+      kept = rw c.in_ok-jobs.ensures
+          (have_kept c.end-end.result 0 c.args.self.engine.groups.groups.items c.args.self.kept.items c.requires.stands.each);
+      many = (let few = told.few in omega (arith, few, long));
+      places = sym (places_in js) ∙ told.placed ∙ ap (λ n. range_with_len 0 n) long;
+      links = k.links;
+      of_ledger = k.comes.counted.ledger;
+    }
 
 pub unwrap-requires : goal.unwrap-requires
 unwrap-requires g c = rw c.of.ensures (of_a_window c.in-Err.fault (λ spent.

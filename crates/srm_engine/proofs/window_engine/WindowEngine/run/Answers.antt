@@ -6,11 +6,10 @@ use Rattle.srm_model.specs.World.{opening, IsLast}
 use Rattle.srm_model.specs.WindowChains.{AreWindows, window_jobs}
 use Rattle.srm_engine.specs.declared.ends.Ends.{Ends}
 use Rattle.srm_engine.specs.Streams.{TellsHalt}
-use Rattle.srm_engine.specs.RowRuns.{MayLackWindow}
 use Rattle.srm_engine.specs.Windowed.{MayCome, rule_of}
 use Rattle.srm_engine.proofs.Stepping.{opening_reached, opening_trace}
-use Rattle.srm_engine.proofs.StreamLemmas.{halted_front, uncalled}
-use Rattle.srm_engine.proofs.WindowLemmas.{as_asked, halts_refuse, refused_at_window, windows_undone}
+use Rattle.srm_engine.proofs.StreamLemmas.{halted_front}
+use Rattle.srm_engine.proofs.WindowLemmas.{as_asked, halts_refuse, refused_at_window}
 use Rattle.srm_engine.proofs.window_engine.WindowEngine.run.Goals as goal
 
 pub returns-in-Err-clause-last : goal.returns-in-Err-clause-last
@@ -22,12 +21,6 @@ returns-in-Err-clause-last g c = λ seed h.
           (g.met.S.RowSink.part_none c.args.sink.now),
     )
 
-pub returns-in-Err-clause-undone : goal.returns-in-Err-clause-undone
-returns-in-Err-clause-undone g c = λ seed h.
-    let s = setting_on c.args.start.session seed in
-    uncalled g.S.RowSink.took g.S.RowSink.part g.S.RowSink.stage
-    (MayLackWindow s c.args.start.session.net.now c.args.asked) s c.args.sink.now _
-
 pub returns-in-Err-open-clause-last : goal.returns-in-Err-open-clause-last
 returns-in-Err-open-clause-last g c = λ seed h.
     let s = setting_on c.args.start.session seed in (
@@ -36,12 +29,6 @@ returns-in-Err-open-clause-last g c = λ seed h.
       subst (λ (l : List Row). g.S.RowSink.part c.args.sink.now l c.args.sink.now) (sym (opening_trace s))
           (g.met.S.RowSink.part_none c.args.sink.now),
     )
-
-pub returns-in-Err-open-clause-undone : goal.returns-in-Err-open-clause-undone
-returns-in-Err-open-clause-undone g c = λ seed h.
-    let s = setting_on c.args.start.session seed in
-    uncalled g.S.RowSink.took g.S.RowSink.part g.S.RowSink.stage
-    (MayLackWindow s c.args.start.session.net.now c.args.asked) s c.args.sink.now _
 
 pub returns-in-Err-stream-clause-last : goal.returns-in-Err-stream-clause-last
 returns-in-Err-stream-clause-last g c = λ seed h.
@@ -73,17 +60,6 @@ returns-in-Err-stream-clause-refused g c = λ seed h.
     (as_asked (λ s rule cut. TellsHalt g.S.RowSink.took g.S.RowSink.part (MayCome s rule cut) s c.args.sink.now c.in-Err-stream.halt
     c.stream.new.sink) c.in-Ok-open.opened c.args.start.session c.in-Ok.cutting c.args.asked seed
     c.in-Ok-open.ensures.frame c.in-Ok.ensures (c.in-Err-stream.ensures.windows seed (c.in-Ok-open.ensures.opened seed h))))
-
-pub returns-in-Err-stream-clause-undone : goal.returns-in-Err-stream-clause-undone
-returns-in-Err-stream-clause-undone g c = λ seed h.
-    let s = setting_on c.args.start.session seed in
-    rw c.into-in-Err-stream.ensures
-    (windows_undone g.S.RowSink.took g.S.RowSink.part g.S.RowSink.stage (Unit {0}) s
-    c.args.start.session.net.now c.args.asked c.args.sink.now c.in-Err-stream.halt c.stream.new.sink
-    (as_asked (λ s rule cut. TellsHalt g.S.RowSink.took g.S.RowSink.part (MayCome s rule cut) s c.args.sink.now c.in-Err-stream.halt
-    c.stream.new.sink) c.in-Ok-open.opened c.args.start.session c.in-Ok.cutting c.args.asked seed
-    c.in-Ok-open.ensures.frame c.in-Ok.ensures (c.in-Err-stream.ensures.windows seed (c.in-Ok-open.ensures.opened seed h)))
-    c.in-Err-stream.ensures.stage)
 
 pub returns-in-Ok-stream-clause-last : goal.returns-in-Ok-stream-clause-last
 returns-in-Ok-stream-clause-last g c = λ seed h.

@@ -1,17 +1,17 @@
 use Rattle.std.proofs.Common.{◌≡◌, ◌∙◌, ◌++◌, ◌∷◌, [], sym, ap, subst, refl, arith, length, map, All, IsSorted, IsPermutation}
+use Rattle.std.proofs.lemmas.List.Sorted.{IsPermutation-refl}
 use Rattle.srm_cell.specs.Crossings.{joined, packets_of}
 use Rattle.srm_model.specs.World.{row_cmp}
 use Rattle.srm_model.specs.WindowRuns.{cells_in, jobs_of}
 use Rattle.srm_model.proofs.OneWindow.{some_merge}
 use Rattle.srm_net.specs.Orders.{ordered}
 use Rattle.srm_member.specs.declared.row.Row.{Row}
-use Rattle.srm_member.specs.ByMember.{AreAlike}
 use Rattle.std.specs.Global.{Vec}
 use Rattle.srm_engine.specs.Groups.{all_in, sizes, lists_of, some_of, AreCuts, AreGrouped, AreKept}
 use Rattle.srm_engine.specs.WindowEngines.{setting_by, lists_in}
 use Rattle.srm_engine.proofs.SoonGroups.{as_many_kept}
 use Rattle.srm_engine.proofs.WindowLemmas.{jobs_tell, jobs_tell_now, mapped, ran_now, of_a_window, map_refused, end_is}
-use Rattle.srm_engine.proofs.WindowLemmas.{heard_in_order, heard_as, after, one_more, counted_after, later, stand_alike}
+use Rattle.srm_engine.proofs.WindowLemmas.{heard_in_order, heard_as, after, one_more, counted_after, later}
 use Rattle.srm_engine.proofs.window_engine.WindowEngine.window.Goals as goal
 
 pub map-requires-clause-jobs : goal.map-requires-clause-jobs
@@ -66,11 +66,11 @@ look_again-groups-requires g c =
       };
     }
 
-pub heard_by-requires-clause-until : goal.heard_by-requires-clause-until
-heard_by-requires-clause-until g c = let few = c.requires.stands.accepted.few_ticks in omega arith
+pub hear_each-requires-clause-until : goal.hear_each-requires-clause-until
+hear_each-requires-clause-until g c = let few = c.requires.stands.accepted.few_ticks in omega arith
 
-pub heard_by-requires-clause-may : goal.heard_by-requires-clause-may
-heard_by-requires-clause-may g c =
+pub hear_each-requires-clause-may : goal.hear_each-requires-clause-may
+hear_each-requires-clause-may g c =
     let k = c.requires.stands in
     let w = k.world in
     let ds = c.in-Ok.done.0.items in
@@ -80,15 +80,16 @@ heard_by-requires-clause-may g c =
     let cut = c.args.self.groups.cut in
     let grouped = subst (λ l. AreGrouped g.M.Participant.plain cut l (cells_in ran.results))
     (sym c.in_ok-groups.ensures.groups) ran.grouped in
-    let listed : joined (map (λ (v : Vec Row). v.items) c.as_slice.result.now) ≡ joined (some_of (lists_of ds)) =
+    let rows = joined (map (λ (v : Vec Row). v.items) c.as_slice.result.now) in
+    let listed : rows ≡ joined (some_of (lists_of ds)) =
     ap (λ l. joined (map (λ (v : Vec Row). v.items) l)) c.as_slice.ensures.value ∙ ap joined c.in_ok-groups.ensures.lists in (
       k.seed,
       (
         cells_in ran.results,
         c.look_again-groups.ensures.soon k.seed w.cells ran.results ran.alone grouped k.comes.kept.soon,
         ran.members,
-        λ others h. (heard_in_order g.M.Participant.plain c.args.self k k.seed k.begins w k.comes c.end-end.result c.end-end.ensures
-            ds ran others (subst (λ l. IsPermutation (packets_of l) (packets_of others)) listed h)).0,
+        (heard_in_order g.M.Participant.plain c.args.self k k.seed k.begins w k.comes c.end-end.result c.end-end.ensures
+            ds ran rows (subst (λ l. IsPermutation (packets_of l) (packets_of rows)) listed (IsPermutation-refl (packets_of rows)))).0,
       ),
     )
 
@@ -97,17 +98,6 @@ returns-clause-sorted g c =
     let ran = ran_now g.M.Participant.plain c.args.self c.requires.stands c.end-end.result
     c.end-end.ensures c.in_ok-jobs.jobs.items c.in_ok-jobs.ensures c.in-Ok.done c.in-Ok.ensures.done in
     subst (All (IsSorted row_cmp)) (sym (c.in_ok-groups.ensures.lists ∙ ap some_of ran.rows)) ran.sorted
-
-pub returns-clause-alike : goal.returns-clause-alike
-returns-clause-alike g c = λ rows merge.
-    let k = c.requires.stands in
-    let ran = ran_now g.M.Participant.plain c.args.self c.requires.stands c.end-end.result
-    c.end-end.ensures c.in_ok-jobs.jobs.items c.in_ok-jobs.ensures c.in-Ok.done c.in-Ok.ensures.done in
-    let merged = subst (λ l. IsPermutation (joined l) rows × IsSorted row_cmp rows) c.in_ok-groups.ensures.lists
-    (merge.all, merge.in_order) in
-    subst (λ l. AreAlike (joined l) rows) (sym c.in_ok-groups.ensures.lists)
-    (stand_alike g.M.Participant.plain c.args.self k k.seed k.begins k.world k.comes c.end-end.result c.end-end.ensures
-    c.in-Ok.done.0.items ran rows merged)
 
 pub returns-clause-window : goal.returns-clause-window
 returns-clause-window g c = λ seed begins w comes.
@@ -122,14 +112,15 @@ returns-clause-window g c = λ seed begins w comes.
     let cut = c.args.self.groups.cut in
     let cells = cells_in ran.results in
     let grouped = subst (λ l. AreGrouped g.M.Participant.plain cut l cells) (sym c.in_ok-groups.ensures.groups) ran.grouped in
-    let listed : joined (map (λ (v : Vec Row). v.items) c.as_slice.result.now) ≡ joined (some_of (lists_of ds)) =
+    let all = joined (map (λ (v : Vec Row). v.items) c.as_slice.result.now) in
+    let listed : all ≡ joined (some_of (lists_of ds)) =
     ap (λ l. joined (map (λ (v : Vec Row). v.items) l)) c.as_slice.ensures.value ∙ ap joined c.in_ok-groups.ensures.lists in
     let end_at = end_is g.M.Participant.plain c.args.self k seed begins w comes c.end-end.result
     c.end-end.ensures in
-    let others = c.in_ok-groups-2.ensures.heard seed in
-    let heard = others.2 cells (c.look_again-groups.ensures.soon seed w.cells ran.results ran.alone grouped comes.kept.soon) in
+    let heard = c.in_ok-hear_each.ensures.heard seed cells
+    (c.look_again-groups.ensures.soon seed w.cells ran.results ran.alone grouped comes.kept.soon) in
     let in_order = (heard_in_order g.M.Participant.plain c.args.self k seed begins w comes c.end-end.result c.end-end.ensures
-    ds ran others.0 (subst (λ l. IsPermutation (packets_of l) (packets_of others.0)) listed others.1)).1 in (
+    ds ran all (subst (λ l. IsPermutation (packets_of l) (packets_of all)) listed (IsPermutation-refl (packets_of all)))).1 in (
       λ rows merge.
           let merged = subst (λ l. IsPermutation (joined l) rows × IsSorted row_cmp rows) c.in_ok-groups.ensures.lists
           (merge.all, merge.in_order) in (
@@ -138,7 +129,7 @@ returns-clause-window g c = λ seed begins w comes.
             record {
               windows = (one_more g.M.Participant.plain c.args.self k seed begins w comes
                   c.end-end.result c.end-end.ensures ds ran rows merged).0;
-              kept = subst (λ qs. AreKept g.M.Participant.plain s c.in_ok-groups-2.groups qs)
+              kept = subst (λ qs. AreKept g.M.Participant.plain s c.hear_each.new.self qs)
                   (in_order ∙ heard_as g.M.Participant.plain c.args.self k seed begins w comes c.end-end.result c.end-end.ensures ds
                   ran rows merged.0) heard;
               counted = counted_after g.M.Participant.plain c.args.self k seed begins w comes
@@ -146,10 +137,8 @@ returns-clause-window g c = λ seed begins w comes.
             },
             refl,
           ),
-      subst (λ n. g.C.Crew.handed c.args.crew.now (jobs_of cut n w ∷ []) c.heard_by.new.crew) end_at
-          (g.met.C.Crew.handed_more c.args.crew.now c.map.new.self c.heard_by.new.crew
-          (jobs_of cut c.end-end.result w ∷ []) [] (c.in-Ok.ensures.handed (jobs_of cut c.end-end.result w) j.seen)
-          c.heard_by.ensures.handed),
+      subst (λ n. g.C.Crew.handed c.args.crew.now (jobs_of cut n w ∷ []) c.map.new.self) end_at
+          (c.in-Ok.ensures.handed (jobs_of cut c.end-end.result w) j.seen),
     )
 
 pub returns-clause-stands : goal.returns-clause-stands
