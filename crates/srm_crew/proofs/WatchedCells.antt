@@ -1,6 +1,6 @@
 -- The cells of a watched job, run one after the other: what is so after the first of them.
-use Rattle.std.proofs.Common.{◌≡◌, ◌∙◌, ◌<◌, ◌≤◌, ◌+◌, ◌^◌, ℕ, List, [], ◌∷◌, ◌++◌, All, length, take, drop, refl, sym, ap, subst, arith}
-use Rattle.std.proofs.Common.{append-nil, length-append, Result, Ok, Err, false, true≢false}
+use Rattle.std.proofs.Common.{◌≡◌, ◌∙◌, ◌<◌, ◌≤◌, ◌+◌, ◌^◌, ℕ, List, [], ◌∷◌, ◌++◌, All, length, take, drop, refl, sym, ap, subst}
+use Rattle.std.proofs.Common.{arith, append-nil, length-append, Result, Ok, Err, false, true≢false}
 use Rattle.std.specs.Result.{is_err, IfOk}
 use Rattle.std.proofs.Math.Seq.{take-length}
 use Rattle.std.proofs.Math.ListN.{drop_of_length-le}
@@ -51,8 +51,8 @@ module _ {M : Type 0} (f : M → Record) (members : ℕ) where
   are_of_members (c ∷ cs) [] h a = absurd h
   are_of_members (c ∷ cs) (q ∷ qs) h a = All-cons IsOfMember c cs (q.member, q.cell, h.0, a.0) (are_of_members cs qs h.1 a.1)
 
-  pub sent_below : (till : ℕ) (c after : Cell M) (rows : List Row) → till ≤ end_of_time → IsOfMember c → Runs f till c (Ok rows) after
-      → All (λ r. IsSentBelow members r.sent) rows
+  pub sent_below : (till : ℕ) (c after : Cell M) (rows : List Row) → till ≤ end_of_time → IsOfMember c
+      → Runs f till c (Ok rows) after → All (λ r. IsSentBelow members r.sent) rows
   sent_below till c after rows le o run =
       let q : OwnCell = record { member = o.0; cell = o.1 } in
       All-head (λ (rs : List Row). All (λ r. IsSentBelow members r.sent) rs) rows []
@@ -60,8 +60,9 @@ module _ {M : Type 0} (f : M → Record) (members : ℕ) where
 
 -- ---- what is so after the first of the cells
 
-module _ {M K : Type 0} (f : M → Record) (keeps : K → List Row → Type 0) (k : PlainScenario) (net : Network) (j : WatchedJob M K) where
-  -- these cells have run, and those are left; of the rows the watch, which kept the ones, keeps the others, and these were sent in them
+module _ {M K : Type 0} (f : M → Record) (keeps : K → List Row → Type 0) (k : PlainScenario) (net : Network)
+    (j : WatchedJob M K) where
+  -- these cells have run, and those are left; the watch, which kept the old, keeps the new, and these were sent
   pub record CellsSoFar (cells left : List (Cell M)) (old new : List K) (sent : List Sent) : Type 0 where
     pub rows : List (List Row)
     pub many : length rows ≡ length cells
@@ -72,8 +73,8 @@ module _ {M K : Type 0} (f : M → Record) (keeps : K → List Row → Type 0) (
   pub cells_none : CellsSoFar [] j.cells.items [] [] []
   cells_none = record { rows = []; many = refl; runs = λ qs h. so_far_none f j.till qs j.cells.items h; kept = tt; packets = refl }
 
-  pub cells_more : (cells left : List (Cell M)) (old new : List K) (sent all : List Sent) (c after : Cell M) (rows : List Row) (a b : K)
-      → CellsSoFar cells (c ∷ left) old new sent → Runs f j.till c (Ok rows) after
+  pub cells_more : (cells left : List (Cell M)) (old new : List K) (sent all : List Sent) (c after : Cell M) (rows : List Row)
+      (a b : K) → CellsSoFar cells (c ∷ left) old new sent → Runs f j.till c (Ok rows) after
       → ((before : List Row) → keeps a before → keeps b (before ++ rows))
       → packets_in all ≡ packets_in sent ++ packets_of rows
       → CellsSoFar (cells ++ after ∷ []) left (old ++ a ∷ []) (new ++ b ∷ []) all
@@ -108,8 +109,9 @@ module _ {M K : Type 0} (f : M → Record) (keeps : K → List Row → Type 0) (
 
   -- ---- what is so after all
 
-  pub cells_past : (n : ℕ) (cells : List (Cell M)) (old new : List K) (sent : List Sent) → n ≡ length cells → length cells ≡ length old
-      → length new ≡ length old → CellsSoFar (take n cells) (drop n cells) (take n old) (take n new) sent
+  pub cells_past : (n : ℕ) (cells : List (Cell M)) (old new : List K) (sent : List Sent) → n ≡ length cells
+      → length cells ≡ length old → length new ≡ length old
+      → CellsSoFar (take n cells) (drop n cells) (take n old) (take n new) sent
       → CellsSoFar cells [] old new sent
   cells_past n cells old new sent all before after s =
       let a : take n cells ≡ cells = ap (λ m. take m cells) all ∙ take-length cells in
@@ -132,7 +134,8 @@ module _ {M K : Type 0} (f : M → Record) (keeps : K → List Row → Type 0) (
       let ran = ran_all cells old new sent s qs may.is.cells in
       let few = rows_few f j.till qs s.rows cells ran in
       let many = as_many f j.till qs s.rows cells ran in
-      let same : length sent ≡ length (packets_of (joined s.rows)) = sym (length-map sent (λ (x : Sent). x.packet)) ∙ ap length s.packets in
+      let same : length sent ≡ length (packets_of (joined s.rows)) =
+      sym (length-map sent (λ (x : Sent). x.packet)) ∙ ap length s.packets in
       let most = may.few in
       omega (arith, few, many, same, most)
 

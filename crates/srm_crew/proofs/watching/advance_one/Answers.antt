@@ -12,8 +12,8 @@ use Rattle.srm_cell.specs.Crossings.{packets_of}
 use Rattle.srm_cell.specs.Hearing.{IsSent, packets_in}
 use Rattle.srm_cell.specs.Setting.{traffic_of}
 use Rattle.srm_cell.specs.Totalled.{IsSentBelow, numbers_of}
-use Rattle.srm_crew.proofs.WatchedCells.{CellsSoFar, IsOfMember, are_of_members, cells_all, cells_fault, cells_more, cells_none, cells_past}
-use Rattle.srm_crew.proofs.WatchedCells.{few_sent, if_ok, sent_below}
+use Rattle.srm_crew.proofs.WatchedCells.{CellsSoFar, IsOfMember, are_of_members, cells_all, cells_fault, cells_more, cells_none}
+use Rattle.srm_crew.proofs.WatchedCells.{cells_past, few_sent, if_ok, sent_below}
 use Rattle.srm_crew.proofs.watching.advance_one.Goals as goal
 
 pub loop-cell-init : goal.loop-cell-init
@@ -37,18 +37,6 @@ loop-cell-init g c =
       subst (All (λ x. IsSent k net x)) (sym c.new-sent.ensures.items) (All-nil (λ x. IsSent k net x)),
     )
 
-pub index_mut-requires : goal.index_mut-requires
-index_mut-requires g c =
-    let at = c.loop-cell.invariant.0 in
-    let many = c.loop-cell.invariant.1 in
-    let long = c.loop-cell.invariant.2 in
-    let own : length c.args.job.kept.items ≡ length c.args.job.cells.items = c.requires.kept in
-    let shown : length c.deref_mut-cell-items.result.now ≡ length c.args.job.cells.items =
-    ap length c.deref_mut-cell-items.ensures.value in
-    let test = c.loop-cell-test.true in
-    let len = c.loop-cell.kept.ok.0 in
-    omega arith
-
 pub add_sent-requires-clause-sent : goal.add_sent-requires-clause-sent
 add_sent-requires-clause-sent g c =
     let f = g.M.Participant.plain in
@@ -56,13 +44,10 @@ add_sent-requires-clause-sent g c =
     let i = c.loop-cell.cell-index in
     let cells = c.loop-cell.cell-items in
     let cell = get_or cells i c.cell-item.result in
-    let many = c.loop-cell.invariant.1 in
-    let own : length c.args.job.kept.items ≡ length c.args.job.cells.items = c.requires.kept in
-    let shown : length c.deref_mut-cell-items.result.now ≡ length c.args.job.cells.items =
-    ap length c.deref_mut-cell-items.ensures.value in
+    let same = c.loop-cell.auto.cell-items in
     let test = c.loop-cell-test.true in
     let within : i < length cells = omega arith in
-    let same = c.requires.job.is.till in
+    let till = c.requires.job.is.till in
     let most = c.requires.job.till in
     let le : c.args.job.till ≤ end_of_time = omega arith in
     let hosts : n ≡ length c.args.scenario.now.members =
@@ -73,18 +58,12 @@ add_sent-requires-clause-sent g c =
     (subst (λ m. All (λ (r : Row). IsSentBelow m r.sent) c.in-Ok.rows) hosts
     (sent_below f n c.args.job.till cell c.run.new.self c.in-Ok.rows le of c.in-Ok.ensures))
 
-pub add_sent-requires-clause-before : goal.add_sent-requires-clause-before
-add_sent-requires-clause-before g c = c.loop-cell.invariant.6
-
 pub returns-in-Err : goal.returns-in-Err
 returns-in-Err g c =
     let i = c.loop-cell.cell-index in
     let cells = c.loop-cell.cell-items in
     let cell = get_or cells i c.cell-item.result in
-    let many = c.loop-cell.invariant.1 in
-    let own : length c.args.job.kept.items ≡ length c.args.job.cells.items = c.requires.kept in
-    let shown : length c.deref_mut-cell-items.result.now ≡ length c.args.job.cells.items =
-    ap length c.deref_mut-cell-items.ensures.value in
+    let same = c.loop-cell.auto.cell-items in
     let test = c.loop-cell-test.true in
     let within : i < length cells = omega arith in
     cells_fault g.M.Participant.plain (g.W.Watch.keeps c.args.watch.now) c.args.scenario.now c.args.net.now c.args.job
@@ -109,9 +88,7 @@ loop-cell-preserved g c =
     let at : c.loop-cell.index ≡ i = c.loop-cell.invariant.0 in
     let many : length cells ≡ length was = c.loop-cell.invariant.1 in
     let long : length now ≡ length was = c.loop-cell.invariant.2 in
-    let own : length was ≡ length c.args.job.cells.items = c.requires.kept in
-    let shown : length c.deref_mut-cell-items.result.now ≡ length c.args.job.cells.items =
-    ap length c.deref_mut-cell-items.ensures.value in
+    let same = c.loop-cell.auto.cell-items in
     let test = c.loop-cell-test.true in
     let within : i < length cells = omega arith in
     let before : i < length was = omega arith in
@@ -148,10 +125,6 @@ loop-cell-preserved g c =
       if_ok c.add_sent.result _ sent_here c.add_sent.ensures.sent,
     )
 
-pub of-requires-clause-sent : goal.of-requires-clause-sent
-of-requires-clause-sent g c =
-    subst (All (λ x. IsSent c.args.scenario.now c.args.net.now x)) (sym c.as_slice.ensures.value) c.loop-cell.invariant.6
-
 pub of-requires-clause-few : goal.of-requires-clause-few
 of-requires-clause-few g c =
     let f = g.M.Participant.plain in
@@ -164,9 +137,7 @@ of-requires-clause-few g c =
     let now = c.loop-cell.kept.items in
     let sent = c.loop-cell.sent.items in
     let many : length cells ≡ length was = c.loop-cell.invariant.1 in
-    let own : length was ≡ length c.args.job.cells.items = c.requires.kept in
-    let shown : length c.deref_mut-cell-items.result.now ≡ length c.args.job.cells.items =
-    ap length c.deref_mut-cell-items.ensures.value in
+    let same = c.loop-cell.auto.cell-items in
     let past = c.loop-cell-test.false in
     let within = c.loop-cell.auto.cell-index-end in
     let all : i ≡ length cells = omega arith in
@@ -186,9 +157,7 @@ returns g c =
     let now = c.loop-cell.kept.items in
     let sent = c.loop-cell.sent.items in
     let many : length cells ≡ length was = c.loop-cell.invariant.1 in
-    let own : length was ≡ length c.args.job.cells.items = c.requires.kept in
-    let shown : length c.deref_mut-cell-items.result.now ≡ length c.args.job.cells.items =
-    ap length c.deref_mut-cell-items.ensures.value in
+    let same = c.loop-cell.auto.cell-items in
     let past = c.loop-cell-test.false in
     let within = c.loop-cell.auto.cell-index-end in
     let all : i ≡ length cells = omega arith in
@@ -201,7 +170,7 @@ returns g c =
       crossings = c.in-Ok-of.crossings;
     }) refl
     (subst (λ xs. CellsSoFar f keeps k net c.args.job xs [] was now sent)
-    (sym (with_items_is c.args.job.cells cells (many ∙ own ∙ sym c.args.job.cells.ok.0)))
+    (sym (with_items_is c.args.job.cells cells (many ∙ c.requires.kept ∙ sym c.args.job.cells.ok.0)))
     (cells_past f keeps k net c.args.job i cells was now sent all many c.loop-cell.invariant.2 c.loop-cell.invariant.5))
     c.loop-cell.invariant.6
     (c.in-Ok-of.ensures.counted

@@ -49,7 +49,8 @@ loop-sent-preserved c =
     let is : IsSent k net x = subst (IsSent k net) (sym c.sent-item.is)
     (All-get_or (λ x. IsSent k net x) all i x c.loop-sent-test.true c.requires.sent) in
     let more : take (i + 1) all ≡ take i all ++ x ∷ [] =
-    ap (λ k. take k all) (add-one i) ∙ take-suc all i x c.loop-sent-test.true ∙ ap (λ r. take i all ++ r ∷ []) (sym c.sent-item.is) in
+    ap (λ k. take k all) (add-one i) ∙ take-suc all i x c.loop-sent-test.true
+    ∙ ap (λ r. take i all ++ r ∷ []) (sym c.sent-item.is) in
     c.in_ok-count_spread.ensures k is.spread (packets_in (take i all)) c.loop-sent.invariant
     ∙ ap (numbers_of (traffic_of k net)) (sym (ap packets_in more ∙ map-append (λ (x : Sent). x.packet) (take i all) (x ∷ [])))
 
