@@ -1,17 +1,23 @@
 //! Crossings of rows.
-ghost use Rattle.std.specs.Prelude.{◌≡◌, ◌<◌, ◌∷◌, [], ℕ, length, All, IfOk, IfErr, MatchOption};
+ghost use Rattle.std.specs.Prelude.{◌≡◌, ◌<◌, ◌+◌, ◌^◌, ◌∷◌, [], ℕ, length, All, IfOk, IfErr, MatchOption};
 ghost use Rattle.srm_net.specs.Limits.{end_of_time};
+ghost use Rattle.srm_net.specs.Spreads.{IsSpread};
+ghost use Rattle.srm_scenario.specs.Plain.{PlainScenario};
 ghost use Rattle.srm_ledger.specs.Counts.{nothing_at};
 ghost use Rattle.srm_cell.specs.Setting.{traffic_of};
 ghost use Rattle.srm_cell.specs.Crossings.{packets_of};
-ghost use Rattle.srm_cell.specs.Totalled.{MayCount, Counts, IsSentBelow};
+ghost use Rattle.srm_cell.specs.Hearing.{IsSent, packets_in};
+ghost use Rattle.srm_cell.specs.Totalled.{MayCount, Counts, IsSentBelow, numbers_of};
 
 use crate::count::count;
+use crate::sent::Sent;
 use srm_ledger::totals::Totals;
 use srm_member::row::Row;
 use srm_net::net::Net;
 use srm_net::packet::Packet;
+use srm_net::spread::Spread;
 use srm_scenario::scenario::Scenario;
+use srm_scenario::session::Session;
 use std::alloc::{AllocError, Global};
 use std::marker::Model;
 
@@ -64,13 +70,50 @@ impl Crossings {
         ensures { IfOk result (λ _. Counts scenario.now net.now (packet.now ∷ []) self.old self.new) }
     {
         let spread = net.spread(alloc, scenario.drops(), packet.id, packet.sent)?;
+        self.count_spread(alloc, net, &spread, packet)
+    }
+
+    // Counts a packet, of which this is the spread.
+    fn count_spread(
+        &mut self,
+        alloc: Global,
+        net: &Net,
+        spread: &Spread,
+        packet: &Packet,
+    ) -> Result<(), AllocError>
+        requires sender { packet.now.id.sender < length net.now.hosts }
+        requires room { (s : PlainScenario) × IsSpread net.now s.drops packet.now.id packet.now.sent spread.now
+            × MayCount (traffic_of s net.now) 1 self.old }
+        ensures { IfOk result (λ _. (s : PlainScenario)
+            → IsSpread net.now s.drops packet.now.id packet.now.sent spread.now
+            → Counts s net.now (packet.now ∷ []) self.old self.new) }
+    {
         let mut totals = match self.counted.take() {
             Some(totals) => totals,
             None => Totals::new(alloc, self.links)?,
         };
-        count(&mut totals, net, &spread, packet);
+        count(&mut totals, net, spread, packet);
         self.counted = Some(totals);
         Ok(())
+    }
+
+    /// The crossings of packets that were sent, by their spreads. Where there is none it does not allocate.
+    ///
+    /// # Errors
+    /// [`AllocError`].
+    pub fn of(alloc: Global, session: Session, all: &[Sent]) -> Result<Crossings, AllocError>
+        requires sent { All (λ x. IsSent session.scenario.now session.net.now x) all.now }
+        requires few { length all.now + 2 < 2 ^ 64 }
+        ensures counted { IfOk result (λ c. c
+            ≡ numbers_of (traffic_of session.entry.scenario.now session.entry.net.now) (packets_in all.now)) }
+        ensures asked { IfErr result (λ _. 0 < length all.now) }
+    {
+        let net = session.net;
+        let mut crossings = Crossings::none(net.links().len() as u16);
+        for sent in all {
+            crossings.count_spread(alloc, net, &sent.spread, &sent.packet)?;
+        }
+        Ok(crossings)
     }
 
     /// Counts the packets that the rows' members sent. Where none was sent it does not allocate.

@@ -10,5 +10,6 @@ pub mod JobsShared
 pub mod JobPieces
 pub mod Hearers
 pub mod Counts
+mod WatchedCells
 mod WatchedSoFar
 pub mod WatchedPieces

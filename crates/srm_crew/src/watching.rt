@@ -6,12 +6,11 @@ ghost use Rattle.srm_crew.specs.Watched.{AdvanceOne, MayWatch};
 
 use crate::piece::Piece;
 use crate::worked::Worked;
-use srm_cell::advance::advance;
+use srm_cell::crossings::Crossings;
 use srm_cell::fault::CellFault;
-use srm_cell::job::Job;
 use srm_interfaces::hearing::hear_groups;
 use srm_interfaces::watch::Watch;
-use srm_interfaces::watched::{WatchedDone, WatchedJob};
+use srm_interfaces::watched::{WatchedDone, WatchedJob, add_sent};
 use srm_member::participant::Participant;
 use srm_scenario::session::Session;
 use srm_team::work::Work;
@@ -29,7 +28,7 @@ pub struct Watching<'a, W> {
     pub watch: W,
 }
 
-/// Advances each job, one after the other, and keeps of the rows what the watch keeps. Only the rows of one job are there at a
+/// Advances each job, one after the other, and keeps of the rows what the watch keeps. Only the rows of one cell are there at a
 /// time.
 pub(crate) fn advance_watched<M: Participant, K: Drop, W: Watch<K>>(
     alloc: Global,
@@ -53,7 +52,7 @@ pub(crate) fn advance_watched<M: Participant, K: Drop, W: Watch<K>>(
     Ok(all)
 }
 
-// Advances a job, and keeps of the rows what the watch keeps.
+// Advances a job cell by cell, and keeps of the rows what the watch keeps. Only the rows of one cell are there at a time.
 fn advance_one<M: Participant, K: Drop, W: Watch<K>>(
     alloc: Global,
     session: Session,
@@ -70,15 +69,33 @@ fn advance_one<M: Participant, K: Drop, W: Watch<K>>(
         cells,
         kept,
     } = job;
-    let job = Job { place, till, cells };
-    let done = match advance(alloc, session.scenario, session.net, job) {
-        Ok(done) => done,
-        Err(fault) => return Err(fault),
-    };
-    let Ok(left) = WatchedDone::of(alloc, session, watch, kept, done) else {
+    let mut cells = cells;
+    let mut kept = kept;
+    let mut sent = Vec::new(alloc);
+    let mut index = 0;
+    for cell in cells.iter_mut() {
+        let rows = match cell.run(alloc, till) {
+            Ok(rows) => rows,
+            Err(fault) => return Err(fault),
+        };
+        let rows = rows.as_slice();
+        if watch.add(&mut kept[index], rows).is_err()
+            || add_sent(alloc, session, rows, &mut sent).is_err()
+        {
+            return Err(CellFault::NoMemory);
+        }
+        index += 1;
+    }
+    let Ok(crossings) = Crossings::of(alloc, session, sent.as_slice()) else {
         return Err(CellFault::NoMemory);
     };
-    Ok(left)
+    Ok(WatchedDone {
+        place,
+        cells,
+        kept,
+        sent,
+        crossings,
+    })
 }
 
 impl<'a, M: Participant, K: Drop, W: Watch<K> + Copy> Work<Piece<M, K>, Worked<M, K>>

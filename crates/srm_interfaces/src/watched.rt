@@ -117,8 +117,11 @@ fn sent_in(
     Ok(all)
 }
 
-// Adds the packets of the rows.
-fn add_sent(
+/// Adds the packets of the rows, in their order, each with its spread.
+///
+/// # Errors
+/// [`AllocError`]: nothing is known of what was there then.
+pub fn add_sent(
     alloc: Global,
     session: Session,
     rows: &[Row],
