@@ -112,9 +112,4 @@ impl RowSink for LossesSink {
             }
         }
     }
-
-    // A loss, and what became of it, stand in rows of one member.
-    fn takes_members_apart(&self) -> bool {
-        true
-    }
 }

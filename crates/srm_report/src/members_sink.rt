@@ -130,9 +130,4 @@ impl RowSink for MembersSink {
             }
         }
     }
-
-    // A member's counts are of its own rows.
-    fn takes_members_apart(&self) -> bool {
-        true
-    }
 }

@@ -62,9 +62,4 @@ impl RowSink for NoRows {
         self.stage = Stage::Live;
         Ok(())
     }
-
-    // Of a sink that keeps nothing any rows may be said to be taken, so this is true of it.
-    fn takes_members_apart(&self) -> bool {
-        true
-    }
 }

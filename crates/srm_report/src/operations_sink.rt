@@ -137,9 +137,4 @@ impl RowSink for OperationsSink {
             }
         }
     }
-
-    // Losses and leaves stand in rows of one member, counts and least times do not look at the order.
-    fn takes_members_apart(&self) -> bool {
-        true
-    }
 }
