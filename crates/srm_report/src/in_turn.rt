@@ -10,8 +10,8 @@ use std::alloc::{AllocError, Global};
 // How many bytes most lines have at most, to make room for them at once.
 const USUAL_LINE: usize = 40;
 
-/// The text of the lines of all members, in order of their rows' keys: whatever the rows are, where each member's lines are those of
-/// its rows. A key is compared by its time and then its member, so a member's own lines stand as they are.
+/// The text of the lines of all members, in order of their rows' keys: whatever the rows are, where each member's lines are those
+/// of its rows. A key is compared by its time and then its member, so a member's own lines stand as they are.
 ///
 /// # Errors
 /// [`AllocError`].

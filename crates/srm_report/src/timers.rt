@@ -44,8 +44,8 @@ impl Listing for TimersListing {
     }
 }
 
-/// The table of timers, as CSV with line feeds: a header, and a line for each join of a member that is no listener and for each event
-/// after which one of the member's four constants is another than before. Lines are in the order of the trace.
+/// The table of timers, as CSV with line feeds: a header, and a line for each join of a member that is no listener and for each
+/// event after which one of the member's four constants is another than before. Lines are in the order of the trace.
 ///
 /// | column | what it has |
 /// |---|---|
