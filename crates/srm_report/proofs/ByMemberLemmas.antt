@@ -1,4 +1,4 @@
--- What members' and losses' sinks take of rows that are alike.
+-- Losses in rows that are alike.
 use Rattle.std.proofs.Common.{◌≡◌, ◌∙◌, ℕ, inl, inr, Bool, false, cond, ◌&&◌, List, [], ◌∷◌, ◌++◌, map, Some, refl}
 use Rattle.std.proofs.Common.{ap, sym, subst, ◌==◌, eqb-true, eq-eqb, true≢false, filter}
 use Rattle.std.specs.List.{Contains, list_any}
@@ -12,24 +12,16 @@ use Rattle.srm_net.specs.Orders.{place, ordered}
 use Rattle.srm_member.specs.declared.told.Told.TheVariants.{Fixed}
 use Rattle.srm_member.specs.declared.row.Row.{Row}
 use Rattle.srm_member.specs.ByMember.{rows_of_member, AreAlike}
-use Rattle.srm_member.specs.Orderly.{IsOrderly, AreLostOnce, AreFixedAfterLoss, LostIn, FixedIn, brought}
+use Rattle.srm_member.specs.Orderly.{IsOrderly, LostIn, FixedIn, brought}
 use Rattle.srm_member.specs.Kinds.{is_fixed}
 use Rattle.srm_member.proofs.OrderLemmas.{place-comm}
-use Rattle.srm_member.proofs.ByMemberLemmas.{split_filter, in_filter, from_filter, find_filtered, alike_after, alike_within, same_of_alike}
+use Rattle.srm_member.proofs.ByMemberLemmas.{split_filter, in_filter, from_filter, find_filtered, same_of_alike}
 use Rattle.srm_report.specs.declared.course.Course.{Course}
 use Rattle.srm_report.specs.declared.loss.Loss.{Loss}
-use Rattle.srm_report.specs.declared.losses_sink.LossesSink.{LossesSink}
-use Rattle.srm_report.specs.declared.members_sink.MembersSink.{MembersSink}
-use Rattle.srm_report.specs.declared.operations_sink.OperationsSink.{OperationsSink}
-use Rattle.srm_report.specs.Courses.{TellLosses, LoseInTurn, course_of}
+use Rattle.srm_report.specs.Courses.{TellLosses, LoseInTurn, course_of, row_time}
 use Rattle.srm_report.specs.Losses.{loss_cmp, losses_in, detected_at, recovered_at}
-use Rattle.srm_report.specs.LossesSinks.{FindsLosses}
-use Rattle.srm_report.specs.Members.{counts_of}
-use Rattle.srm_report.specs.MembersSinks.{CountsRows}
-use Rattle.srm_report.specs.OperationsSinks.{FindsOperations}
-use Rattle.srm_report.specs.Rows.{is_name, row_time}
+use Rattle.srm_report.specs.Rows.{is_name}
 use Rattle.srm_report.proofs.CourseLemmas.{loss_total, losses_apart}
-use Rattle.srm_report.proofs.SendingLemmas.{left_alike, tell_sent_alike}
 
 -- ---- losses in turn
 
@@ -92,9 +84,6 @@ orderly_loses members rows o m = (
       ),
 )
 
-turn_alike : (xs ys : List Row) → AreAlike xs ys → LoseInTurn ys → LoseInTurn xs
-turn_alike xs ys alike o m = subst (λ l. AreLostOnce l × AreFixedAfterLoss l) (sym (alike m)) (o m)
-
 -- ---- what became of losses
 
 at_alike : (k : ℕ) (q : Row → Bool) (xs ys : List Row) → rows_of_member k xs ≡ rows_of_member k ys
@@ -154,23 +143,3 @@ tell_alike xs ys es alike t = record {
   losses = t.losses ∙ losses_alike xs ys alike;
   courses = λ k. t.courses k ∙ course_at k xs ys (alike k.member);
 }
-
--- ---- sinks
-
-pub finds_alike : (a b : LossesSink) (xs ys : List Row) → AreAlike xs ys → FindsLosses a xs b → FindsLosses a ys b
-finds_alike a b xs ys alike found before after o was =
-    tell_alike (before ++ xs) (before ++ ys) b.losses (alike_after before xs ys alike)
-    (found before after (turn_alike (before ++ xs ++ after) (before ++ ys ++ after) (alike_within before xs ys after alike) o) was)
-
-pub operations_alike : (a b : OperationsSink) (xs ys : List Row) → AreAlike xs ys → FindsOperations a xs b → FindsOperations a ys b
-operations_alike a b xs ys alike found before after o was =
-    let t = found before after (turn_alike (before ++ xs ++ after) (before ++ ys ++ after) (alike_within before xs ys after alike) o) was in
-    let more = alike_after before xs ys alike in record {
-      lost = tell_alike (before ++ xs) (before ++ ys) b.losses more t.lost;
-      asked = tell_sent_alike (before ++ xs) (before ++ ys) b.sent more t.asked;
-      gone = λ m. t.gone m ∙ left_alike m (before ++ xs) (before ++ ys) more;
-    }
-
-pub counts_alike : (a b : MembersSink) (xs ys : List Row) → AreAlike xs ys → CountsRows a xs b → CountsRows a ys b
-counts_alike a b xs ys alike counted before was m =
-    counted before was m ∙ ap counts_of (alike_after before xs ys alike m)

@@ -18,12 +18,12 @@ use Rattle.srm_report.specs.declared.member_count.MemberCount.{MemberCount}
 use Rattle.srm_report.specs.Counted.{first_known}
 use Rattle.srm_report.specs.MemberCounts.{CountsOn, IsCounted, IsCountOf, counts_at}
 use Rattle.srm_report.specs.Members.{counts_of, member_fields, member_rows}
-use Rattle.srm_report.specs.Rows.{time_of_kind}
+use Rattle.srm_report.specs.Rows.{time_of_first}
 
 -- ---- one row more
 
-time_more : (kind : Word → Bool) (rows : List Row) (r : Row) → first_known (time_of_kind kind rows) r.key.time (kind r.cause)
-    ≡ time_of_kind kind (rows ++ r ∷ [])
+time_more : (kind : Word → Bool) (rows : List Row) (r : Row) → first_known (time_of_first (λ q. kind q.cause) rows) r.key.time (kind r.cause)
+    ≡ time_of_first (λ q. kind q.cause) (rows ++ r ∷ [])
 time_more kind rows r = grind (arith, find-append)
 
 count_more : (p : Row → Bool) (rows : List Row) (r : Row) → count_by p rows + cond (p r) 1 0 ≡ count_by p (rows ++ r ∷ [])

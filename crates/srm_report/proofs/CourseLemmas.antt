@@ -25,16 +25,17 @@ use Rattle.srm_member.proofs.TableChanges.{same_names, name_is}
 use Rattle.srm_member.specs.Kinds.{is_fixed}
 use Rattle.srm_report.specs.declared.course.Course.{Course}
 use Rattle.srm_report.specs.declared.loss.Loss.{Loss}
-use Rattle.srm_report.specs.Courses.{TellLosses, after_fix, fixed_at, course_of, losing, name_fixed}
-use Rattle.srm_report.specs.Losses.{loss_cmp, numbers_of_loss, losses_in, detects, fixes, detected_at, recovered_at}
-use Rattle.srm_report.specs.Rows.{is_name, row_time}
+use Rattle.srm_report.specs.Courses.{TellLosses, after_fix, fixed_at, course_of, losing, name_fixed, detects, fixes, row_time}
+use Rattle.srm_report.specs.Losses.{loss_cmp, losses_in, detected_at, recovered_at}
+use Rattle.srm_report.specs.Rows.{is_name}
 use Rattle.srm_report.proofs.EntryLemmas.{any_ordered, keys_put, keys_same, ordered_push}
 use Rattle.std.proofs.lemmas.List.Folds.{list_any-append}
 
 -- ---- losses that tie are the same
 
 pub loss_total : IsTotalOrder loss_cmp
-loss_total = on_total numbers_of_loss nat_list_cmp_total
+loss_total =
+    on_total (λ (k : Loss). k.member ∷ k.name.source ∷ k.name.page ∷ k.name.number ∷ []) nat_list_cmp_total
 
 loss_self : (k : Loss) → loss_cmp k k ≡ Equal
 loss_self k = grind arith

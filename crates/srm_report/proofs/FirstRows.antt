@@ -13,14 +13,16 @@ use Rattle.srm_member.specs.declared.row.Row.{Row}
 use Rattle.srm_member.specs.Kinds.{is_ask}
 use Rattle.srm_member.proofs.TableChanges.{name_is, same_names}
 use Rattle.srm_report.specs.declared.loss.Loss.{Loss}
-use Rattle.srm_report.specs.Losses.{detected_at, detects, loss_cmp, losses_in}
+use Rattle.srm_report.specs.Losses.{detected_at, loss_cmp, losses_in}
 use Rattle.srm_report.specs.OperationLaws.{FirstsAreLeast, loses}
-use Rattle.srm_report.specs.Operations.{all_losses, earliest, losses_of, named, sends_for, sooner}
-use Rattle.srm_report.specs.Rows.{is_name, row_time}
+use Rattle.srm_report.specs.Operations.{losses_of, sends_for, sooner}
+use Rattle.srm_report.specs.Rows.{is_name}
 use Rattle.srm_report.proofs.CourseLemmas.{loss_is, loss_total, losses_apart, named_in, second_true}
 use Rattle.srm_report.proofs.EntryLemmas.{any_ordered, first_false, second_false}
 use Rattle.srm_report.proofs.OperationSums.{any_loss, any_named}
 use Rattle.srm_report.proofs.SumLemmas.{any_in}
+use Rattle.srm_report.specs.Courses.{detects, row_time}
+use Rattle.srm_report.specs.Tallies.{all_losses, named}
 
 -- ---- the least of some times
 
@@ -59,7 +61,7 @@ least t a (u ∷ us) h k (inr (inl e)) =
     least t (sooner a u) us (sooner_least t a u h k.0) k.1 (inl (ap (sooner a) e ∙ second_stays t a h))
 least t a (u ∷ us) h k (inr (inr f)) = least t (sooner a u) us (sooner_least t a u h k.0) k.1 (inr f)
 
-earliest_is : (t : ℕ) (ts : List (Option ℕ)) → AllAtLeast t ts → Has t ts → earliest ts ≡ Some t
+earliest_is : (t : ℕ) (ts : List (Option ℕ)) → AllAtLeast t ts → Has t ts → fold sooner None ts ≡ Some t
 earliest_is t ts h k = least t None ts tt h (inr k)
 
 -- ---- rows by rising time
@@ -140,10 +142,10 @@ module _ (p : Row → Bool) where
       ap (λ b. fold sooner (sooner a (cond b (Some x.key.time) None)) (map time_if xs)) (first_false (p x) (list_any p xs) h)
       ∙ no_times a xs (second_false (p x) (list_any p xs) h)
 
-  first_time : (rows : List Row) → Rising rows → earliest (map time_if rows) ≡ row_time (find p rows)
+  first_time : (rows : List Row) → Rising rows → fold sooner None (map time_if rows) ≡ row_time (find p rows)
   first_time rows o = by (find p rows) refl
     where
-      by : (found : Option Row) → find p rows ≡ found → earliest (map time_if rows) ≡ row_time found
+      by : (found : Option Row) → find p rows ≡ found → fold sooner None (map time_if rows) ≡ row_time found
       by None e = no_times None rows (none_found p rows e)
       by (Some q) e =
           let f = found_first p rows o q e in
@@ -196,13 +198,13 @@ module _ (rows : List Row) (o : Rising rows) (n : Name) where
       ap (λ b. cond b (k ∷ named n ks) (named n ks)) (first_false (is_name n k.name) _ h)
       ∙ none_named ks (second_false (is_name n k.name) _ h)
 
-  first_loss : earliest (map (detected_at rows) (losses_of rows n)) ≡ row_time (find (loses n) rows)
+  first_loss : fold sooner None (map (detected_at rows) (losses_of rows n)) ≡ row_time (find (loses n) rows)
   first_loss = by (find (loses n) rows) refl
     where
-      by : (found : Option Row) → find (loses n) rows ≡ found → earliest (map (detected_at rows) (losses_of rows n)) ≡ row_time found
+      by : (found : Option Row) → find (loses n) rows ≡ found → fold sooner None (map (detected_at rows) (losses_of rows n)) ≡ row_time found
       by None e =
           let none : losses_of rows n ≡ [] = none_named (all_losses rows) (any_named n rows ∙ none_found (loses n) rows e) in
-          ap (λ ks. earliest (map (detected_at rows) ks)) none
+          ap (λ ks. fold sooner None (map (detected_at rows) ks)) none
       by (Some q) e = earliest_is q.key.time (map (detected_at rows) (losses_of rows n))
           (all_detected q.key.time first.earliest (all_losses rows))
           (has_detected q.key.time k (name_is n) detected (all_losses rows) among)

@@ -17,21 +17,12 @@ use Rattle.srm_report.specs.declared.course.Course.{Course}
 use Rattle.srm_report.specs.declared.loss.Loss.{Loss}
 use Rattle.srm_report.specs.declared.member_operations.MemberOperations.{MemberOperations}
 use Rattle.srm_report.specs.declared.sending.Sending.{Sending}
-use Rattle.srm_report.specs.KeptOperations.{KeepsMore, KeepsOperations}
+use Rattle.srm_report.specs.KeptOperations.{KeepsOperations}
 use Rattle.srm_report.specs.Operations.{has_left}
 use Rattle.srm_report.specs.OperationsSinks.{TellOperations}
 use Rattle.srm_report.specs.Sendings.{TellLeft, TellSent}
 use Rattle.srm_report.proofs.KeptLossLemmas.{all_few, entries_of, kept_losses, Lost, none_own}
 use Rattle.srm_report.proofs.SendingLemmas.{tell_sent_alike}
-
--- ---- more rows of a member
-
-pub keeps_none : (a : MemberOperations) → KeepsMore a [] a
-keeps_none a before h = subst (λ (l : List Row). KeepsOperations l a) (sym (append-nil before)) h
-
-pub keeps_more : (a b c : MemberOperations) (xs ys : List Row) → KeepsMore a xs b → KeepsMore b ys c → KeepsMore a (xs ++ ys) c
-keeps_more a b c xs ys h k before was =
-    subst (λ (l : List Row). KeepsOperations l c) (append_assoc before xs ys) (k (before ++ xs) (h before was))
 
 -- ---- each member
 

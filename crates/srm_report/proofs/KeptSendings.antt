@@ -14,9 +14,9 @@ use Rattle.srm_member.proofs.TableChanges.{same_names}
 use Rattle.srm_member.specs.declared.row.Row.{Row}
 use Rattle.srm_member.specs.Kinds.{is_ask, is_answer}
 use Rattle.srm_report.specs.declared.sending.Sending.{Sending}
-use Rattle.srm_report.specs.Operations.{asked_in, sending_of, sends_for, sooner}
+use Rattle.srm_report.specs.Operations.{sending_of, sends_for, sooner}
 use Rattle.srm_report.specs.Rows.{is_name}
-use Rattle.srm_report.specs.Sendings.{sending_in, TellSent, together}
+use Rattle.srm_report.specs.Sendings.{sending_in, TellSent, together, asked_in}
 use Rattle.srm_report.proofs.EntryLemmas.{found, not_before}
 use Rattle.srm_report.proofs.SendingLemmas.{sooner_out}
 

@@ -21,6 +21,7 @@ pub mod SeedLemmas
 pub mod SendingLemmas
 pub mod SinkLemmas
 pub mod TableLemmas
+mod TakingLemmas
 pub mod TallyLemmas
 mod SumLemmas
 mod TurnLemmas

@@ -1,5 +1,5 @@
 -- The law of a line none of whose fields calls for quotes: it is the fields with commas between, and a line feed.
-use Rattle.std.proofs.Common.{◌≡◌, ◌∙◌, ℕ, zero, suc, ◌/◌, ◌%◌, ◌<◌, ◌==◌, true, false, ◌||◌, List, [], ◌∷◌, ◌++◌, Option, Some, None}
+use Rattle.std.proofs.Common.{◌≡◌, ◌∙◌, ℕ, zero, suc, ◌-◌, ◌/◌, ◌%◌, ◌<◌, ◌==◌, true, false, ◌||◌, List, [], ◌∷◌, ◌++◌, Option, Some, None}
 use Rattle.std.proofs.Common.{refl, ap, sym, append_assoc, codes, decimal, drop, arith}
 use Rattle.std.specs.Prelude.{if◌then◌else◌}
 use Rattle.std.specs.Fmt.{digits, digits_onto, digit_glyph}
@@ -21,10 +21,10 @@ use Rattle.srm_report.specs.declared.recovery.Recovery.{Recovery}
 use Rattle.srm_report.specs.Lines.{line_text, line_written}
 use Rattle.srm_report.specs.Losses.{delay_text, ratio}
 use Rattle.srm_report.specs.Members.{role_word}
-use Rattle.srm_report.specs.Operations.{last_delay_text, last_text}
-use Rattle.srm_report.specs.Rows.{time_text}
 pub use Rattle.srm_report.specs.Seeds.{IsPlain, ArePlain}
-use Rattle.srm_report.specs.Trace.{cause_word, name_text, packet_text, ref_text, sent_text, told_word}
+use Rattle.srm_report.specs.Trace.{cause_word, name_text, packet_text, ref_text, told_word}
+use Rattle.srm_report.specs.Operations.{delay_of}
+use Rattle.srm_report.specs.Rows.{or_dash}
 
 -- ---- lines
 
@@ -104,24 +104,24 @@ name_is_plain n = grind (arith, joined_is_plain, decimal_is_plain)
 pub ref_is_plain : (a : About) → IsPlain (ref_text a)
 ref_is_plain a = grind (arith, packet_is_plain, name_is_plain)
 
-pub sent_is_plain : (o : Option Packet) → IsPlain (sent_text o)
+pub sent_is_plain : (o : Option Packet) → IsPlain (or_dash (λ p. packet_text p.id) o)
 sent_is_plain None = refl
 sent_is_plain (Some packet) = packet_is_plain packet.id
 
-pub time_is_plain : (o : Option ℕ) → IsPlain (time_text o)
+pub time_is_plain : (o : Option ℕ) → IsPlain (or_dash decimal o)
 time_is_plain None = refl
 time_is_plain (Some at) = decimal_is_plain at
 
 pub delay_is_plain : (trip : ℕ) (detected recovered : Option ℕ) → IsPlain (delay_text trip detected recovered)
 delay_is_plain trip detected recovered = grind (arith, ratio_is_plain)
 
-pub last_is_plain : (o : Option Recovery) → IsPlain (last_text o)
+pub last_is_plain : (o : Option Recovery) → IsPlain (or_dash (λ r. decimal r.member) o)
 last_is_plain None = refl
 last_is_plain (Some r) = decimal_is_plain r.member
 
-pub last_delay_is_plain : (net : Network) (source : ℕ) (o : Option Recovery) → IsPlain (last_delay_text net source o)
+pub last_delay_is_plain : (net : Network) (source : ℕ) (o : Option Recovery) → IsPlain (or_dash (delay_of net source) o)
 last_delay_is_plain net source None = refl
-last_delay_is_plain net source (Some r) = delay_is_plain (round net r.member source) (Some r.detected) (Some r.recovered)
+last_delay_is_plain net source (Some r) = ratio_is_plain (r.recovered - r.detected) (round net r.member source)
 
 pub role_is_plain : (r : Role) → IsPlain (role_word r)
 role_is_plain r = grind arith

@@ -1,12 +1,12 @@
 -- The table of links, link by link.
-use Rattle.std.proofs.Common.{◌≡◌, ◌∙◌, ℕ, ◌<◌, ◌+◌, List, ◌++◌, length, map, ap, sym, arith, slice_index, slice_index_or}
+use Rattle.std.proofs.Common.{◌≡◌, ◌∙◌, ℕ, ◌<◌, ◌+◌, ◌/◌, List, ◌++◌, length, map, ap, sym, arith, slice_index, slice_index_or}
 use Rattle.std.specs.List.{range_with_len, concat}
 use Rattle.std.proofs.lemmas.List.FromFn.{map-range_with_len_more}
 use Rattle.csv.specs.Writing.{default_writer, row_text}
 use Rattle.srm_ledger.specs.declared.kind.Kind.{Kind}
 use Rattle.srm_ledger.specs.Counts.{place_of, counted_at}
 use Rattle.srm_report.proofs.Fives.{FiveEach, length_joined, index_joined}
-use Rattle.srm_report.specs.Links.{link_columns, link_fields, links_counted, links_table}
+use Rattle.srm_report.specs.Links.{link_columns, link_fields, links_table}
 use Rattle.srm_report.specs.Tables.{table_lines}
 use Rattle.srm_report.proofs.TableLemmas.{table_first, table_more}
 
@@ -19,7 +19,7 @@ module _ (ls : List (List ℕ)) (five : FiveEach ls) (totals : List ℕ) (joined
   numbers_are : (i : ℕ) (d : List ℕ) → i < length ls → (k : Kind) → slice_index (slice_index_or ls i d) (place_of k) ≡ counted_at totals i k
   numbers_are i d lt k = grind (arith, index_joined)
 
-  pub links_are : links_counted totals ≡ length ls
+  pub links_are : length totals / 5 ≡ length ls
   links_are = let long = length_joined ls five in let same : length (concat ls) ≡ length totals = ap length joined in omega arith
 
   pub text_more : (i : ℕ) (d : List ℕ) (old new line : List ℕ) → i < length ls

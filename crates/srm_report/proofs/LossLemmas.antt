@@ -16,9 +16,8 @@ use Rattle.srm_member.specs.Orderly.{IsOrderly, IsAmong, LostIn, FixedIn, brough
 use Rattle.srm_member.specs.Kinds.{is_fixed}
 use Rattle.srm_report.specs.declared.course.Course.{Course}
 use Rattle.srm_report.specs.declared.loss.Loss.{Loss}
-use Rattle.srm_report.specs.Courses.{TellLosses, LoseInTurn, course_of, losing, name_fixed}
-use Rattle.srm_report.specs.Losses.{loss_cmp, detects, detected_at, recovered_at, loss_columns, loss_fields, loss_row, losses_table}
-use Rattle.srm_report.specs.Rows.{row_time}
+use Rattle.srm_report.specs.Courses.{TellLosses, LoseInTurn, course_of, losing, name_fixed, detects, row_time}
+use Rattle.srm_report.specs.Losses.{loss_cmp, detected_at, recovered_at, loss_columns, loss_fields, loss_row, losses_table}
 use Rattle.srm_report.specs.Tables.{table_lines}
 use Rattle.srm_report.proofs.CourseLemmas.{loss_total, named_in, first_true, second_true, told_is, one_more}
 use Rattle.srm_report.proofs.EntryLemmas.{found}

@@ -4,7 +4,8 @@ use Rattle.std.specs.List.{count_by}
 use Rattle.std.proofs.lemmas.List.Sums.{sum_by-cons}
 use Rattle.srm_member.specs.declared.row.Row.{Row}
 use Rattle.srm_report.specs.declared.loss.Loss.{Loss}
-use Rattle.srm_report.specs.Operations.{has_left, is_left, is_open, is_recovered}
+use Rattle.srm_report.specs.Operations.{has_left, is_open, is_recovered}
+use Rattle.srm_report.specs.Tallies.{is_left}
 
 one_of : (b g : Bool) → cond b 1 0 + cond (not b && g) 1 0 + cond (not b && not g) 1 0 ≡ 1
 one_of true g = refl

@@ -24,11 +24,12 @@ use Rattle.srm_report.specs.declared.loss.Loss.{Loss}
 use Rattle.srm_report.specs.Losses.{loss_cmp, losses_in}
 use Rattle.srm_report.specs.Members.{counts_of}
 use Rattle.srm_report.specs.OperationLaws.{AddUp, loses, SendingsAddUp}
-use Rattle.srm_report.specs.Operations.{all_losses, is_about, names_lost, sends_for}
+use Rattle.srm_report.specs.Operations.{is_about, names_lost, sends_for}
 use Rattle.srm_report.specs.Rows.{is_name, sent_rows}
 use Rattle.srm_report.proofs.CourseLemmas.{first_true, loss_total, second_true}
 use Rattle.srm_report.proofs.EntryLemmas.{any_ordered}
 use Rattle.srm_report.proofs.SumLemmas.{any_in, count_once, name_turned, sum_none, sum_of_members, sum_same, sums_turned}
+use Rattle.srm_report.specs.Tallies.{all_losses}
 
 -- ---- names that some member lost
 

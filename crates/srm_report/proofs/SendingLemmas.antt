@@ -1,5 +1,5 @@
 -- What was sent for names, and who left, row by row.
-use Rattle.std.proofs.Common.{◌≡◌, ◌∙◌, ℕ, ◌+◌, Bool, true, false, cond, ◌&&◌, ◌||◌, List, [], ◌∷◌, ◌++◌, map, Option, Some, None}
+use Rattle.std.proofs.Common.{◌≡◌, ◌∙◌, ℕ, ◌+◌, Bool, true, false, cond, ◌&&◌, List, [], ◌∷◌, ◌++◌, map, Option, Some, None}
 use Rattle.std.proofs.Common.{refl, ap, sym, subst, append-nil, arith, ◌⊎◌, inl, inr, Result, Ok, Err, OnOk}
 use Rattle.std.specs.List.{count_by, fold}
 use Rattle.std.specs.Option.{unwrap_or}
@@ -7,7 +7,6 @@ use Rattle.std.specs.FinMap.Entries.{put, find, find-put, is_sorted-put}
 use Rattle.std.proofs.lemmas.List.Sums.{sum_by-append, sum_by-cons}
 use Rattle.srm_net.specs.declared.packet.Name.{Name}
 use Rattle.srm_net.specs.Names.{name_cmp}
-use Rattle.srm_net.proofs.Basics.{or_turn}
 use Rattle.srm_net.proofs.TotalOrders.{name_total}
 use Rattle.srm_member.specs.ByMember.{AreAlike}
 use Rattle.srm_member.specs.declared.row.About.{About}
@@ -20,9 +19,9 @@ use Rattle.srm_member.specs.Kinds.{is_ask, is_answer, is_sent}
 use Rattle.srm_member.proofs.ByMemberLemmas.{same_of_alike}
 use Rattle.srm_member.proofs.TableChanges.{same_names}
 use Rattle.srm_report.specs.declared.sending.Sending.{Sending}
-use Rattle.srm_report.specs.Operations.{asked_in, has_left, is_about, leaves, sending_of, sends_for, sooner}
+use Rattle.srm_report.specs.Operations.{is_about, sending_of, sends_for, sooner}
 use Rattle.srm_report.specs.Rows.{is_name}
-use Rattle.srm_report.specs.Sendings.{repaired, requested, sending_in, TellSent}
+use Rattle.srm_report.specs.Sendings.{repaired, requested, sending_in, TellSent, asked_in}
 
 -- ---- a row anywhere
 
@@ -196,16 +195,6 @@ caused_other rows r es was h k = sent_none rows r es was (λ m. (fails is_ask m 
 pub on_ok : {A E : Type 0} (r : Result A E) (P Q : Type 0) → OnOk r P → (P → Q) → OnOk r Q
 on_ok (Ok v) P Q p f = f p
 on_ok (Err e) P Q p f = tt
-
--- ---- who left
-
-left_within : (m : ℕ) (pre : List Row) (x : Row) (post : List Row) → has_left (pre ++ x ∷ post) m ≡ (leaves m x || has_left (pre ++ post) m)
-left_within m [] x post = refl
-left_within m (p ∷ pre) x post =
-    ap (λ b. leaves m p || b) (left_within m pre x post) ∙ or_turn (leaves m p) (leaves m x) (has_left (pre ++ post) m)
-
-pub left_alike : (m : ℕ) (xs ys : List Row) → AreAlike xs ys → has_left xs m ≡ has_left ys m
-left_alike m = same_of_alike (λ rows. has_left rows m) (λ r b. leaves m r || b) (left_within m)
 
 -- ---- answers
 

@@ -25,12 +25,12 @@ use Rattle.srm_report.specs.declared.sending.Sending.{Sending}
 use Rattle.srm_report.specs.declared.tally.Tally.{Tally}
 use Rattle.srm_report.specs.Courses.{TellLosses}
 use Rattle.srm_report.specs.Losses.{detected_at, loss_cmp, recovered_at}
-use Rattle.srm_report.specs.Operations.{all_losses, each_once, has_left, is_left, is_open, is_recovered, last_told, later, losses_of, named}
-use Rattle.srm_report.specs.Operations.{operation_columns, operation_fields, operations_table, recovery_by, recovery_of, sooner, tally_of}
+use Rattle.srm_report.specs.Operations.{each_once, has_left, is_open, is_recovered, last_told, later, losses_of}
+use Rattle.srm_report.specs.Operations.{operation_columns, operation_fields, operations_table, recovery_by, sooner, tally_of}
 use Rattle.srm_report.specs.Rows.{is_name}
 use Rattle.srm_report.specs.Sendings.{TellLeft, TellSent, sending_in}
 use Rattle.srm_report.specs.Tables.{table_lines}
-use Rattle.srm_report.specs.Tallies.{AreTallies, tallied, tally_in}
+use Rattle.srm_report.specs.Tallies.{AreTallies, tallied, tally_in, all_losses, is_left, named, recovery_of}
 use Rattle.srm_report.proofs.CourseLemmas.{loss_total}
 use Rattle.srm_report.proofs.EntryLemmas.{any_ordered, found, keys_put, keys_same, ordered_push}
 use Rattle.srm_report.proofs.LossLemmas.{next_among, told}

@@ -1,6 +1,7 @@
 -- Losses and what became of them, as they are found row by row.
-use Rattle.std.specs.Prelude.{◌≡◌, ℕ, T, List, map, Option, Some, None, cond}
-use Rattle.std.specs.Option.{option_map}
+use Rattle.std.specs.Prelude.{◌≡◌, ℕ, ◌==◌, Bool, false, ◌&&◌, T, List, map, Option, Some, None, cond}
+use Rattle.std.specs.List.{list_any}
+use Rattle.std.specs.Option.{option_map, option_map_or}
 use Rattle.std.specs.FinMap.Entries.{put, find, is_sorted}
 use Rattle.srm_net.specs.declared.packet.Name.{Name}
 use Rattle.srm_net.specs.Orders.{ordered}
@@ -12,6 +13,19 @@ use Rattle.srm_member.specs.Kinds.{is_fixed}
 use Rattle.srm_report.specs.declared.course.Course.{Course}
 use Rattle.srm_report.specs.declared.loss.Loss.{Loss}
 use Rattle.srm_report.specs.Losses.{loss_cmp, losses_in, detected_at, recovered_at}
+use Rattle.srm_report.specs.Rows.{is_name}
+
+-- when a row is, if there is one
+abbrev pub row_time : Option Row → Option ℕ
+row_time row = option_map (λ r. r.key.time) row
+
+-- whether the member lost the name in this row
+abbrev pub detects : Loss → Row → Bool
+detects k r = (r.key.member == k.member) && list_any (is_name k.name) r.lost
+
+-- whether the member took in the name as `fixed` in this row
+abbrev pub fixes : Loss → Row → Bool
+fixes k r = (r.key.member == k.member) && (is_fixed r.told && option_map_or (is_name k.name) (brought r.about) false)
 
 -- the entries after this loss was fixed at this time, if it is among them
 abbrev pub fixed_at : ℕ → Loss → List (Loss × Course) → Option Course → List (Loss × Course)

@@ -6,6 +6,7 @@ use Rattle.srm_member.specs.Kinds.{is_leave}
 use Rattle.srm_report.specs.declared.member_operations.MemberOperations.{MemberOperations}
 use Rattle.srm_report.specs.Courses.{LoseInTurn, TellLosses}
 use Rattle.srm_report.specs.Sendings.{TellSent}
+use Rattle.srm_report.specs.Taking.{TakesIn}
 
 -- exactly this is what a member's rows tell of operations: of its losses, if it loses in turn in them and in whatever
 -- comes after; of what it sent; and whether it left
@@ -16,4 +17,4 @@ pub record KeepsOperations (rows : List Row) (k : MemberOperations) : Type 0 whe
 
 -- these rows were taken in, after those before
 abbrev pub KeepsMore : MemberOperations → List Row → MemberOperations → Type 0
-KeepsMore a rows b = (before : List Row) → KeepsOperations before a → KeepsOperations (before ++ rows) b
+KeepsMore = TakesIn KeepsOperations

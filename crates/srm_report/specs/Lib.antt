@@ -22,6 +22,7 @@ pub mod Seeds
 pub mod Sendings
 pub mod Standings
 pub mod Tables
+pub mod Taking
 pub mod Tallies
 pub mod Timers
 pub mod Trace

@@ -23,13 +23,9 @@ link_fields l number =
     ∷ decimal (number Dropped)
     ∷ []
 
--- how many links these totals count, each by five numbers
-abbrev pub links_counted : List ℕ → ℕ
-links_counted totals = length totals / 5
-
--- the rows of all links
+-- the rows of all links that these totals count, each by five numbers
 abbrev pub link_rows : List ℕ → List (List (List ℕ))
-link_rows totals = map (λ l. link_fields l (counted_at totals l)) (range_with_len 0 (links_counted totals))
+link_rows totals = map (λ l. link_fields l (counted_at totals l)) (range_with_len 0 (length totals / 5))
 
 -- the table of links with these totals
 unfoldable pub links_table : List ℕ → List ℕ

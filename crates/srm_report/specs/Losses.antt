@@ -1,9 +1,9 @@
 -- The table of losses: of each name that a member lost, when that was detected, and when it was fixed.
-use Rattle.std.specs.Prelude.{ℕ, ◌-◌, Bool, false, ◌&&◌, List, [], ◌∷◌, ◌++◌, map, Option, Some, ◌==◌, codes, decimal}
+use Rattle.std.specs.Prelude.{ℕ, ◌-◌, false, ◌&&◌, List, [], ◌∷◌, ◌++◌, map, Option, Some, ◌==◌, codes, decimal}
 use Rattle.std.specs.declared.cmp.Ordering.{Ordering}
 use Rattle.std.specs.Ordering.{nat_cmp}
 use Rattle.std.specs.Cmp.Lexicographic.{slice_cmp}
-use Rattle.std.specs.List.{find, flat_map, list_any}
+use Rattle.std.specs.List.{flat_map, list_any}
 use Rattle.std.specs.Option.{option_map_or}
 use Rattle.srm_net.specs.Network.{Network}
 use Rattle.srm_net.specs.Orders.{ordered}
@@ -12,36 +12,28 @@ use Rattle.srm_member.specs.declared.row.Row.{Row}
 use Rattle.srm_member.specs.Orderly.{brought}
 use Rattle.srm_member.specs.Kinds.{is_fixed}
 use Rattle.srm_report.specs.declared.loss.Loss.{Loss}
-use Rattle.srm_report.specs.Rows.{is_name, row_time, time_text}
+use Rattle.srm_report.specs.Rows.{is_name, or_dash, time_of_first}
 use Rattle.srm_report.specs.Tables.{table_lines}
 
 -- losses are compared by member, source, page and number
-abbrev pub numbers_of_loss : Loss → List ℕ
-numbers_of_loss k = k.member ∷ k.name.source ∷ k.name.page ∷ k.name.number ∷ []
-
--- number by number
 abbrev pub loss_cmp : Loss → Loss → Ordering
-loss_cmp k l = slice_cmp nat_cmp (numbers_of_loss k) (numbers_of_loss l)
+loss_cmp k l =
+    slice_cmp nat_cmp (k.member ∷ k.name.source ∷ k.name.page ∷ k.name.number ∷ [])
+    (l.member ∷ l.name.source ∷ l.name.page ∷ l.name.number ∷ [])
 
 -- the losses of these rows, in the order in which they were detected
 abbrev pub losses_in : List Row → List Loss
 losses_in rows = flat_map (λ r. map (λ n. record { member = r.key.member; name = n }) r.lost) rows
 
--- whether the member lost the name in this row
-abbrev pub detects : Loss → Row → Bool
-detects k r = (r.key.member == k.member) && list_any (is_name k.name) r.lost
-
--- whether the member took in the name as `fixed` in this row
-abbrev pub fixes : Loss → Row → Bool
-fixes k r = (r.key.member == k.member) && (is_fixed r.told && option_map_or (is_name k.name) (brought r.about) false)
-
--- when the loss was detected
+-- when the loss was detected: in the first row in which the member lost the name
 abbrev pub detected_at : List Row → Loss → Option ℕ
-detected_at rows k = row_time (find (detects k) rows)
+detected_at rows k = time_of_first (λ r. (r.key.member == k.member) && list_any (is_name k.name) r.lost) rows
 
--- when it was fixed
+-- when it was fixed: in the first in which the member took in the name as `fixed`
 abbrev pub recovered_at : List Row → Loss → Option ℕ
-recovered_at rows k = row_time (find (fixes k) rows)
+recovered_at rows k =
+    time_of_first
+    (λ r. (r.key.member == k.member) && (is_fixed r.told && option_map_or (is_name k.name) (brought r.about) false)) rows
 
 -- a time over another, not reduced
 abbrev pub ratio : ℕ → ℕ → List ℕ
@@ -62,7 +54,7 @@ loss_columns =
 abbrev pub loss_fields : Network → Loss → Option ℕ → Option ℕ → List (List ℕ)
 loss_fields net k detected recovered =
     decimal k.member ∷ decimal k.name.source ∷ decimal k.name.page ∷ decimal k.name.number
-    ∷ time_text detected ∷ time_text recovered
+    ∷ or_dash decimal detected ∷ or_dash decimal recovered
     ∷ delay_text (round net k.member k.name.source) detected recovered ∷ []
 
 -- the row of a loss, as these rows tell of it

@@ -1,11 +1,11 @@
 -- What was counted of the rows of one member, and of each.
-use Rattle.std.specs.Prelude.{◌≡◌, ◌<◌, ℕ, List, [], ◌++◌, map, slice_index_or}
-use Rattle.std.proofs.Common.{sym, subst, append_assoc, append-nil}
+use Rattle.std.specs.Prelude.{◌≡◌, ◌<◌, ℕ, List, [], map, slice_index_or}
 use Rattle.srm_member.specs.declared.row.Row.{Row}
 use Rattle.srm_member.specs.ByMember.{rows_of_member}
 use Rattle.srm_report.specs.declared.counts.Counts.{Counts}
 use Rattle.srm_report.specs.declared.member_count.MemberCount.{MemberCount}
 use Rattle.srm_report.specs.Members.{counts_of}
+use Rattle.srm_report.specs.Taking.{TakesIn}
 
 -- exactly these rows were counted
 abbrev pub IsCountOf : List Row → MemberCount → Type 0
@@ -13,7 +13,7 @@ IsCountOf rows k = k.counts ≡ counts_of rows
 
 -- these rows were counted, after those before
 abbrev pub CountsOn : MemberCount → List Row → MemberCount → Type 0
-CountsOn a rows b = (before : List Row) → IsCountOf before a → IsCountOf (before ++ rows) b
+CountsOn = TakesIn IsCountOf
 
 -- the counts of member m: those of no row, where the list ends before
 abbrev pub counts_at : List MemberCount → ℕ → Counts
@@ -26,11 +26,3 @@ IsCounted rows ks m = counts_at ks m ≡ counts_of (rows_of_member m rows)
 -- so of each of so many members
 abbrev pub AreCounts : ℕ → List Row → List MemberCount → Type 0
 AreCounts members rows ks = (m : ℕ) → m < members → IsCounted rows ks m
-
-pub counts_on_none : (a : MemberCount) → CountsOn a [] a
-counts_on_none a before h = subst (λ (l : List Row). IsCountOf l a) (sym (append-nil before)) h
-
-pub counts_on_more :
-    (a b c : MemberCount) (xs ys : List Row) → CountsOn a xs b → CountsOn b ys c → CountsOn a (xs ++ ys) c
-counts_on_more a b c xs ys h k before counted =
-    subst (λ (l : List Row). IsCountOf l c) (append_assoc before xs ys) (k (before ++ xs) (h before counted))

@@ -9,7 +9,7 @@ use Rattle.srm_scenario.specs.Plain.{PlainScenario}
 use Rattle.srm_member.specs.declared.row.Row.{Row}
 use Rattle.srm_member.specs.Kinds.{is_join, is_leave, is_draw, is_ask, is_answer, is_report, is_arrival, is_fixed}
 use Rattle.srm_report.specs.declared.counts.Counts.{Counts}
-use Rattle.srm_report.specs.Rows.{sent_rows, time_of_kind, time_text}
+use Rattle.srm_report.specs.Rows.{or_dash, sent_rows, time_of_first}
 use Rattle.srm_report.specs.Tables.{table_lines}
 
 -- the word of a role
@@ -23,8 +23,8 @@ role_word Listener = codes "listener"
 -- many names it lost, and how many of these it fixed; and how many requests, repairs and session messages it sent
 unfoldable pub counts_of : List Row → Counts
 counts_of rows = record {
-  joined = time_of_kind is_join rows;
-  left = time_of_kind is_leave rows;
+  joined = time_of_first (λ r. is_join r.cause) rows;
+  left = time_of_first (λ r. is_leave r.cause) rows;
   drawn = sent_rows is_draw rows;
   heard = count_by (λ r. is_arrival r.cause) rows;
   lost = sum_by (λ r. length r.lost) rows;
@@ -43,7 +43,7 @@ member_columns =
 -- the row of member m. What is open it lost and has not fixed
 abbrev pub member_fields : ℕ → MemberSpec → Counts → List (List ℕ)
 member_fields m k c =
-    decimal m ∷ role_word k.role ∷ decimal k.node ∷ time_text c.joined ∷ time_text c.left
+    decimal m ∷ role_word k.role ∷ decimal k.node ∷ or_dash decimal c.joined ∷ or_dash decimal c.left
     ∷ decimal c.drawn ∷ decimal c.heard ∷ decimal c.lost ∷ decimal c.fixed ∷ decimal (c.lost - c.fixed)
     ∷ decimal c.requests ∷ decimal c.repairs ∷ decimal c.sessions ∷ []
 

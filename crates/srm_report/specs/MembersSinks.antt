@@ -1,11 +1,11 @@
 -- Rows of members that are counted as they come.
-use Rattle.std.specs.Prelude.{ℕ, List, [], ◌++◌}
-use Rattle.std.proofs.Common.{sym, subst, append_assoc, append-nil}
+use Rattle.std.specs.Prelude.{ℕ, List}
 use Rattle.srm_member.specs.declared.row.Row.{Row}
 use Rattle.srm_interfaces.specs.declared.sink.Stage.{Stage}
 use Rattle.srm_report.specs.declared.member_count.MemberCount.{MemberCount}
 use Rattle.srm_report.specs.declared.members_sink.MembersSink.{MembersSink}
 use Rattle.srm_report.specs.MemberCounts.{IsCounted}
+use Rattle.srm_report.specs.Taking.{TakesIn}
 
 -- where the sink stands
 abbrev pub stage_of_members : MembersSink → Stage
@@ -21,14 +21,4 @@ HasCountedRows rows s = (m : ℕ) → IsCounted rows (counts_in s) m
 
 -- between these two values exactly these rows were counted, after those before
 abbrev pub CountsRows : MembersSink → List Row → MembersSink → Type 0
-CountsRows a rows b = (before : List Row) → HasCountedRows before a → HasCountedRows (before ++ rows) b
-
--- ---- how counts compose over calls
-
-pub counts_none : (a : MembersSink) → CountsRows a [] a
-counts_none a before h = subst (λ (l : List Row). HasCountedRows l a) (sym (append-nil before)) h
-
-pub counts_more :
-    (a b c : MembersSink) (xs ys : List Row) → CountsRows a xs b → CountsRows b ys c → CountsRows a (xs ++ ys) c
-counts_more a b c xs ys h k before counted =
-    subst (λ (l : List Row). HasCountedRows l c) (append_assoc before xs ys) (k (before ++ xs) (h before counted))
+CountsRows = TakesIn HasCountedRows

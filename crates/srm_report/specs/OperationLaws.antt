@@ -1,6 +1,6 @@
 -- Laws of the table of operations.
 use Rattle.std.specs.Prelude.{◌≡◌, ◌+◌, ℕ, Bool, List, length}
-use Rattle.std.specs.List.{count_by, find, list_any, range_with_len, sum_by}
+use Rattle.std.specs.List.{count_by, list_any, range_with_len, sum_by}
 use Rattle.srm_net.specs.declared.packet.Name.{Name}
 use Rattle.srm_member.specs.ByMember.{rows_of_member}
 use Rattle.srm_member.specs.declared.row.Row.{Row}
@@ -12,7 +12,7 @@ use Rattle.srm_scenario.specs.Accepted.{IsAccepted}
 use Rattle.srm_scenario.specs.Plain.{network_of, PlainScenario}
 use Rattle.srm_report.specs.Members.{counts_of}
 use Rattle.srm_report.specs.Operations.{is_open, losses_of, names_lost, sending_of, sends_for, tally_of}
-use Rattle.srm_report.specs.Rows.{is_name, row_time}
+use Rattle.srm_report.specs.Rows.{is_name, time_of_first}
 
 -- of the losers of an operation each has recovered, or left, or is open
 abbrev pub LosersAddUp : Type 0
@@ -45,5 +45,5 @@ loses n r = list_any (is_name n) r.lost
 -- an operation is detected in the first row in which a member lost it, and asked for in the first that sent a request
 abbrev pub FirstsAreLeast : Type 0
 FirstsAreLeast = (members : ℕ) (rows : List Row) → IsOrderly members rows → (n : Name)
-    → ((tally_of rows (losses_of rows n)).detected ≡ row_time (find (loses n) rows))
-    × ((sending_of rows n).asked ≡ row_time (find (sends_for is_ask n) rows))
+    → ((tally_of rows (losses_of rows n)).detected ≡ time_of_first (loses n) rows)
+    × ((sending_of rows n).asked ≡ time_of_first (sends_for is_ask n) rows)

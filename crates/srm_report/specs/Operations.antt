@@ -1,7 +1,6 @@
 -- The table of operations: of each name that some member lost, how many lost it and have it again, and what was sent
 -- for it.
-use Rattle.std.specs.Prelude.{ℕ, ◌==◌, Bool, false, not, ◌&&◌, List, [], ◌∷◌, ◌++◌, length, map, min, Option, Some}
-use Rattle.std.specs.Prelude.{None}
+use Rattle.std.specs.Prelude.{ℕ, ◌-◌, ◌==◌, Bool, false, not, ◌&&◌, List, [], ◌∷◌, ◌++◌, length, map, min, Option, Some, None}
 use Rattle.std.specs.Prelude.{is_some, nat_lt, cond, codes, decimal}
 use Rattle.std.specs.List.{count_by, filter, fold, list_any}
 use Rattle.srm_net.specs.declared.packet.Name.{Name}
@@ -18,8 +17,8 @@ use Rattle.srm_report.specs.declared.loss.Loss.{Loss}
 use Rattle.srm_report.specs.declared.recovery.Recovery.{Recovery}
 use Rattle.srm_report.specs.declared.sending.Sending.{Sending}
 use Rattle.srm_report.specs.declared.tally.Tally.{Tally}
-use Rattle.srm_report.specs.Losses.{loss_cmp, losses_in, detected_at, recovered_at, delay_text}
-use Rattle.srm_report.specs.Rows.{is_name, time_text}
+use Rattle.srm_report.specs.Losses.{loss_cmp, losses_in, detected_at, recovered_at, ratio}
+use Rattle.srm_report.specs.Rows.{is_name, or_dash}
 use Rattle.srm_report.specs.Tables.{table_lines}
 
 -- ---- times
@@ -29,10 +28,6 @@ abbrev pub sooner : Option ℕ → Option ℕ → Option ℕ
 sooner a None = a
 sooner None (Some b) = Some b
 sooner (Some a) (Some b) = Some (min a b)
-
--- the least of these times, where there are
-abbrev pub earliest : List (Option ℕ) → Option ℕ
-earliest ts = fold sooner None ts
 
 -- ---- what was sent
 
@@ -46,58 +41,37 @@ is_about n (Named k) = is_name n k
 abbrev pub sends_for : (Word → Bool) → Name → Row → Bool
 sends_for is_kind n r = is_kind r.cause && (is_sent r.told && is_about n r.about)
 
--- when a request for the name was sent, if this row tells of one
-abbrev pub asked_in : Name → Row → Option ℕ
-asked_in n r = cond (sends_for is_ask n r) (Some r.key.time) None
-
 -- what all members sent for the name: when the first request was, and how many requests and repairs there were
 abbrev pub sending_of : List Row → Name → Sending
 sending_of rows n = record {
-  asked = earliest (map (asked_in n) rows);
+  asked = fold sooner None (map (λ r. cond (sends_for is_ask n r) (Some r.key.time) None) rows);
   requests = count_by (sends_for is_ask n) rows;
   repairs = count_by (sends_for is_answer n) rows;
 }
 
 -- ---- who lost it
 
--- all losses, by rising member
-abbrev pub all_losses : List Row → List Loss
-all_losses rows = ordered loss_cmp (losses_in rows)
-
--- of these losses those of the name
-abbrev pub named : Name → List Loss → List Loss
-named n ks = filter (λ k. is_name n k.name) ks
-
 -- the losses of the name, by rising member
 abbrev pub losses_of : List Row → Name → List Loss
-losses_of rows n = named n (all_losses rows)
+losses_of rows n = filter (λ k. is_name n k.name) (ordered loss_cmp (losses_in rows))
 
 -- each of these names once, where it stands first
 abbrev pub each_once : List Name → List Name
 each_once ns = fold (λ known n. cond (list_any (is_name n) known) known (known ++ n ∷ [])) [] ns
 
--- the names of these losses, rising, each once
-abbrev pub names_of : List Loss → List Name
-names_of ks = ordered name_cmp (each_once (map (λ k. k.name) ks))
-
 -- the names that some member lost, rising, each once
 abbrev pub names_lost : List Row → List Name
-names_lost rows = names_of (all_losses rows)
+names_lost rows = ordered name_cmp (each_once (map (λ k. k.name) (ordered loss_cmp (losses_in rows))))
 
--- whether the member left in this row
-abbrev pub leaves : ℕ → Row → Bool
-leaves m r = (r.key.member == m) && is_leave r.cause
-
+-- whether the member left
 abbrev pub has_left : List Row → ℕ → Bool
-has_left rows m = list_any (leaves m) rows
+has_left rows m = list_any (λ r. (r.key.member == m) && is_leave r.cause) rows
 
--- what became of a loss: it was fixed; or it was not, and its member left; or it is open
+-- whether a loss was fixed
 abbrev pub is_recovered : List Row → Loss → Bool
 is_recovered rows k = is_some (recovered_at rows k)
 
-abbrev pub is_left : List Row → Loss → Bool
-is_left rows k = not (is_recovered rows k) && has_left rows k.member
-
+-- whether it is open: it was not fixed, and its member did not leave
 abbrev pub is_open : List Row → Loss → Bool
 is_open rows k = not (is_recovered rows k) && not (has_left rows k.member)
 
@@ -109,18 +83,11 @@ recovery_by m (Some detected) (Some recovered) =
     Some (record { member = m; detected = detected; recovered = recovered })
 recovery_by m _ _ = None
 
-abbrev pub recovery_of : List Row → Loss → Option Recovery
-recovery_of rows k = recovery_by k.member (detected_at rows k) (recovered_at rows k)
-
 -- the later of two recoveries, and the former of two at one time
 abbrev pub later : Option Recovery → Option Recovery → Option Recovery
 later last None = last
 later None (Some next) = Some next
 later (Some last) (Some next) = cond (nat_lt last.recovered next.recovered) (Some next) (Some last)
-
--- the last of the recoveries from these losses
-abbrev pub last_recovery : List Row → List Loss → Option Recovery
-last_recovery rows ks = fold later None (map (recovery_of rows) ks)
 
 -- ---- the table
 
@@ -129,24 +96,19 @@ abbrev pub tally_of : List Row → List Loss → Tally
 tally_of rows ks = record {
   losers = length ks;
   recovered = count_by (is_recovered rows) ks;
-  left = count_by (is_left rows) ks;
+  left = count_by (λ k. not (is_recovered rows k) && has_left rows k.member) ks;
   is_pending = list_any (is_open rows) ks;
-  detected = earliest (map (detected_at rows) ks);
-  last = last_recovery rows ks;
+  detected = fold sooner None (map (detected_at rows) ks);
+  last = fold later None (map (λ k. recovery_by k.member (detected_at rows k) (recovered_at rows k)) ks);
 }
 
 -- the last recovery as it is told: where no loss is open
 abbrev pub last_told : Tally → Option Recovery
 last_told t = cond t.is_pending None t.last
 
-abbrev pub last_text : Option Recovery → List ℕ
-last_text None = codes "-"
-last_text (Some r) = decimal r.member
-
--- its delay, over the round trip to the source
-abbrev pub last_delay_text : Network → ℕ → Option Recovery → List ℕ
-last_delay_text net source None = codes "-"
-last_delay_text net source (Some r) = delay_text (round net r.member source) (Some r.detected) (Some r.recovered)
+-- how long a recovery took, over the round trip to the source
+abbrev pub delay_of : Network → ℕ → Recovery → List ℕ
+delay_of net source r = ratio (r.recovered - r.detected) (round net r.member source)
 
 -- the columns of the table
 abbrev pub operation_columns : List (List ℕ)
@@ -159,8 +121,8 @@ abbrev pub operation_fields : Network → Name → Tally → Sending → List (L
 operation_fields net n t s =
     decimal n.source ∷ decimal n.page ∷ decimal n.number
     ∷ decimal t.losers ∷ decimal t.recovered ∷ decimal t.left
-    ∷ time_text t.detected ∷ time_text s.asked ∷ decimal s.requests ∷ decimal s.repairs
-    ∷ last_text (last_told t) ∷ last_delay_text net n.source (last_told t) ∷ []
+    ∷ or_dash decimal t.detected ∷ or_dash decimal s.asked ∷ decimal s.requests ∷ decimal s.repairs
+    ∷ or_dash (λ r. decimal r.member) (last_told t) ∷ or_dash (delay_of net n.source) (last_told t) ∷ []
 
 -- the row of a name, as these rows tell of it
 abbrev pub operation_row : Network → List Row → Name → List (List ℕ)

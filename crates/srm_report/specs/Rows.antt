@@ -1,5 +1,5 @@
 -- Which rows of a trace a table counts.
-use Rattle.std.specs.Prelude.{ℕ, Bool, ◌&&◌, List, Option, Some, None, codes, decimal}
+use Rattle.std.specs.Prelude.{ℕ, Bool, ◌&&◌, List, Option, Some, None, codes}
 use Rattle.std.specs.List.{find, count_by}
 use Rattle.std.specs.Option.{option_map}
 use Rattle.std.specs.Ordering.{eq_by_cmp}
@@ -21,15 +21,13 @@ is_name n k = eq_by_cmp name_cmp n k
 abbrev pub sent_rows : (Word → Bool) → List Row → ℕ
 sent_rows is_kind rows = count_by (λ r. is_kind r.cause && is_sent r.told) rows
 
--- when a row is, if there is one
-abbrev pub row_time : Option Row → Option ℕ
-row_time row = option_map (λ r. r.key.time) row
+-- when the first row of which this holds is, if there is one
+abbrev pub time_of_first : (Row → Bool) → List Row → Option ℕ
+time_of_first is_one rows = option_map (λ r. r.key.time) (find is_one rows)
 
--- when the event of this kind is, if there is one
-abbrev pub time_of_kind : (Word → Bool) → List Row → Option ℕ
-time_of_kind is_kind rows = row_time (find (λ r. is_kind r.cause) rows)
+-- ---- fields
 
--- a time, or `-`
-abbrev pub time_text : Option ℕ → List ℕ
-time_text None = codes "-"
-time_text (Some at) = decimal at
+-- a field of what is there, or `-`
+abbrev pub or_dash : {A : Type 0} → (A → List ℕ) → Option A → List ℕ
+or_dash text None = codes "-"
+or_dash text (Some x) = text x

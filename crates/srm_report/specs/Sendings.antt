@@ -1,12 +1,17 @@
 -- Requests and repairs that are counted as the rows come, and members that leave.
-use Rattle.std.specs.Prelude.{◌≡◌, ℕ, ◌+◌, Bool, false, T, List, [], Some, get_or}
+use Rattle.std.specs.Prelude.{◌≡◌, ℕ, ◌+◌, Bool, false, T, List, [], Option, Some, None, cond, get_or}
 use Rattle.std.specs.Option.{unwrap_or}
 use Rattle.std.specs.FinMap.Entries.{find, is_sorted}
 use Rattle.srm_net.specs.declared.packet.Name.{Name}
 use Rattle.srm_net.specs.Names.{name_cmp}
 use Rattle.srm_member.specs.declared.row.Row.{Row}
+use Rattle.srm_member.specs.Kinds.{is_ask}
 use Rattle.srm_report.specs.declared.sending.Sending.{Sending}
-use Rattle.srm_report.specs.Operations.{has_left, sending_of, sooner}
+use Rattle.srm_report.specs.Operations.{has_left, sending_of, sends_for, sooner}
+
+-- when a request for the name was sent, if this row tells of one
+abbrev pub asked_in : Name → Row → Option ℕ
+asked_in n r = cond (sends_for is_ask n r) (Some r.key.time) None
 
 -- what these entries tell of a name
 abbrev pub sending_in : List (Name × Sending) → Name → Sending

@@ -5,24 +5,21 @@ use Rattle.srm_member.specs.declared.intervals.Intervals.{Intervals}
 use Rattle.srm_member.specs.declared.row.Row.{Row}
 use Rattle.srm_report.specs.Listings.{Form, text_in}
 use Rattle.srm_report.specs.Trace.{cause_word, ref_text}
-use Rattle.srm_report.specs.Rows.{time_text as number_text}
+use Rattle.srm_report.specs.Rows.{or_dash}
 
 -- the columns of the table of timers
 abbrev pub timers_columns : List (List ℕ)
 timers_columns = codes "time" ∷ codes "member" ∷ codes "cause" ∷ codes "ref" ∷ codes "c1" ∷ codes "c2" ∷ codes "d1"
     ∷ codes "d2" ∷ codes "ave_dup_req" ∷ codes "ave_req_delay" ∷ codes "ave_dup_rep" ∷ codes "ave_rep_delay" ∷ []
 
--- the fields of a member's intervals after a row's event: its four constants, and four averages, `-` where there is
--- none
-abbrev pub interval_fields : Intervals → List (List ℕ)
-interval_fields i = decimal i.request.start ∷ decimal i.request.width ∷ decimal i.repair.start ∷ decimal i.repair.width
-    ∷ number_text i.request.average_duplicates ∷ number_text i.request.average_delay
-    ∷ number_text i.repair.average_duplicates ∷ number_text i.repair.average_delay ∷ []
-
--- the fields of a row that tells of intervals
+-- the fields of a row that tells of its member's intervals after the event: their four constants, and four averages,
+-- `-` where there is none
 abbrev pub timers_fields : Row → Intervals → List (List ℕ)
 timers_fields r i =
-    decimal r.key.time ∷ decimal r.key.member ∷ cause_word r.cause ∷ ref_text r.about ∷ interval_fields i
+    decimal r.key.time ∷ decimal r.key.member ∷ cause_word r.cause ∷ ref_text r.about
+    ∷ decimal i.request.start ∷ decimal i.request.width ∷ decimal i.repair.start ∷ decimal i.repair.width
+    ∷ or_dash decimal i.request.average_duplicates ∷ or_dash decimal i.request.average_delay
+    ∷ or_dash decimal i.repair.average_duplicates ∷ or_dash decimal i.repair.average_delay ∷ []
 
 -- the row of the table for a row of the trace, which has one where it tells of intervals
 abbrev pub timers_rows_by : Row → Option Intervals → List (List (List ℕ))

@@ -1,8 +1,7 @@
 -- The trace of a run as text: a header, and a line for each row.
-use Rattle.std.specs.Prelude.{ℕ, List, [], ◌∷◌, ◌++◌, length, Option, Some, None, codes, decimal}
+use Rattle.std.specs.Prelude.{ℕ, List, [], ◌∷◌, ◌++◌, length, codes, decimal}
 use Rattle.csv.specs.Writing.{row_text, default_writer}
 use Rattle.srm_net.specs.declared.packet.PacketId.{PacketId}
-use Rattle.srm_net.specs.declared.packet.Packet.{Packet}
 use Rattle.srm_net.specs.declared.packet.Name.{Name}
 use Rattle.srm_member.specs.declared.told.Told.{Told}
 use Rattle.srm_member.specs.declared.told.Told.TheVariants as told
@@ -12,6 +11,7 @@ use Rattle.srm_member.specs.declared.row.About.{About}
 use Rattle.srm_member.specs.declared.row.About.TheVariants.{Nothing, Of, Named}
 use Rattle.srm_member.specs.declared.row.Row.{Row}
 use Rattle.srm_report.specs.Listings.{Form, text_in}
+use Rattle.srm_report.specs.Rows.{or_dash}
 
 -- the word of an event's kind
 abbrev pub cause_word : Word → List ℕ
@@ -56,11 +56,6 @@ ref_text Nothing = codes "-"
 ref_text (Of packet) = packet_text packet.id
 ref_text (Named name) = name_text name
 
--- the packet that an event sent, `-` where there is none
-abbrev pub sent_text : Option Packet → List ℕ
-sent_text None = codes "-"
-sent_text (Some packet) = packet_text packet.id
-
 -- the columns of a trace
 abbrev pub trace_columns : List (List ℕ)
 trace_columns = codes "time" ∷ codes "member" ∷ codes "cause" ∷ codes "ref" ∷ codes "result" ∷ codes "lost"
@@ -69,7 +64,7 @@ trace_columns = codes "time" ∷ codes "member" ∷ codes "cause" ∷ codes "ref
 -- the fields of a row of a trace
 abbrev pub trace_fields : Row → List (List ℕ)
 trace_fields r = decimal r.key.time ∷ decimal r.key.member ∷ cause_word r.cause ∷ ref_text r.about ∷ told_word r.told
-    ∷ decimal (length r.lost) ∷ sent_text r.sent ∷ []
+    ∷ decimal (length r.lost) ∷ or_dash (λ p. packet_text p.id) r.sent ∷ []
 
 -- the line of the columns
 unfoldable pub trace_header : List ℕ

@@ -3,7 +3,7 @@ ghost use Rattle.std.specs.Prelude.{◌≡◌, ◌+◌, ◌<◌, ◌≤◌, ◌�
 ghost use Rattle.csv.specs.Writing.{comma};
 ghost use Rattle.srm_report.specs.Lines.{line_room, line_written};
 ghost use Rattle.srm_report.specs.Losses.{ratio};
-ghost use Rattle.srm_report.specs.Rows.{time_text};
+ghost use Rattle.srm_report.specs.Rows.{or_dash};
 ghost use Rattle.srm_report.specs.Trace.{name_text, packet_text};
 
 use crate::line::Line;
@@ -56,7 +56,7 @@ pub(crate) fn put_sum(line: &mut Line, sum: u128)
 pub(crate) fn put_time(line: &mut Line, time: Option<u64>)
     requires { 21 ≤ line_room line.old }
     ensures room { line_room line.old ≤ line_room line.new + 21 }
-    ensures written { line_written line.new ≡ comma ∷ (time_text time ++ line_written line.old) }
+    ensures written { line_written line.new ≡ comma ∷ (or_dash decimal time ++ line_written line.old) }
 {
     match time {
         None => put_dash(line),

@@ -7,8 +7,11 @@ ghost use Rattle.srm_report.specs.KeptLines.{AreLinesOf, turn_of, turn_at, turns
 use crate::lines::Lines;
 use std::alloc::{AllocError, Global};
 
-/// The text of the lines of all members, in order of their rows' keys: whatever the rows are, where each member's lines are those of
-/// its rows. A key is compared by its time and then its member, so a member's own lines stand as they are.
+// How many bytes most lines have at most, to make room for them at once.
+const USUAL_LINE: usize = 40;
+
+/// The text of the lines of all members, in order of their rows' keys: whatever the rows are, where each member's lines are those
+/// of its rows. A key is compared by its time and then its member, so a member's own lines stand as they are.
 ///
 /// # Errors
 /// [`AllocError`].
@@ -59,7 +62,7 @@ fn in_turn(alloc: Global, lists: &[Lines], turns: &[u64]) -> Result<Vec<u8>, All
         → IfOk result (λ text. text.items ≡ lines_in f rows) }
 {
     let mut next: Vec<usize> = Vec::from_elem(alloc, 0, lists.len())?;
-    let mut text = Vec::new(alloc);
+    let mut text = Vec::with_capacity(alloc, turns.len().saturating_mul(USUAL_LINE))?;
     for turn in turns {
         let member = (*turn % (1 << 16)) as usize;
         if member < lists.len() && member < next.len() {

@@ -4,7 +4,6 @@ use crate::listing::Listing;
 use srm_interfaces::watch::Watch;
 use srm_member::row::Row;
 use std::alloc::{AllocError, Global};
-use std::mem::replace;
 
 /// Keeps the lines that the rows of a member have in a table which lists rows, and no row.
 #[derive(Clone, Copy)]
@@ -26,11 +25,10 @@ impl<L: Listing> Watch<Lines> for KeepLines<L> {
     }
 
     fn add(&self, kept: &mut Lines, rows: &[Row]) -> Result<(), AllocError> {
-        let mut lines = replace(kept, Lines::new(self.alloc));
+        kept.reserve(rows.len())?;
         for row in rows {
-            lines = lines.put::<L>(row)?;
+            kept.put::<L>(row)?;
         }
-        *kept = lines;
         Ok(())
     }
 }

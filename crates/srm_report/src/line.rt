@@ -83,7 +83,12 @@ impl Line {
         ensures room { line_room self.old ≤ line_room self.new + 20 }
         ensures written { line_written self.new ≡ decimal number ++ line_written self.old }
     {
-        self.start = write_digits(number, &mut self.bytes, self.start);
+        // Most numbers of a trace have one digit.
+        if number < 10 {
+            self.put_byte(b'0' + number as u8);
+        } else {
+            self.start = write_digits(number, &mut self.bytes, self.start);
+        }
     }
 
     // Writes a number of up to 128 bits in digits before the others.

@@ -1,5 +1,5 @@
 //! Lines of rows, kept as one text and where each line ends.
-ghost use Rattle.std.specs.Prelude.{◌≡◌, ◌<◌, ◌≤◌, ◌++◌, ◌∷◌, [], length, IfOk};
+ghost use Rattle.std.specs.Prelude.{◌≡◌, ◌<◌, ◌≤◌, ◌++◌, ◌∷◌, [], length, is_ok, if◌then◌else◌};
 ghost use Rattle.std.proofs.Math.ListN.{get_or};
 ghost use Rattle.srm_report.specs.KeptLines.{start_at};
 
@@ -54,20 +54,30 @@ impl Lines {
         }
     }
 
-    /// The lines, and behind them those of a row in a table.
+    /// Makes room for so many lines more.
     ///
     /// # Errors
-    /// [`AllocError`]: the lines are gone.
-    pub fn put<L: Listing>(self, row: &Row) -> Result<Lines, AllocError>
-        ensures { IfOk result (λ lines. lines ≡ self ++ (row.now.key.time, L.form.line row.now) ∷ []) }
+    /// [`AllocError`]: the lines are as they were.
+    pub fn reserve(&mut self, more: usize) -> Result<(), AllocError>
+        ensures { self.new ≡ self.old }
     {
-        let Lines { mut ends, mut text } = self;
-        L::put_line(&mut text, row)?;
-        ends.push(LineEnd {
+        self.ends.reserve(more)
+    }
+
+    /// Puts the lines of a row in a table behind the others.
+    ///
+    /// # Errors
+    /// [`AllocError`]: the lines are as they were.
+    pub fn put<L: Listing>(&mut self, row: &Row) -> Result<(), AllocError>
+        ensures { self.new ≡ (if is_ok result then self.old ++ (row.now.key.time, L.form.line row.now) ∷ [] else self.old) }
+    {
+        self.ends.reserve(1)?;
+        L::put_line(&mut self.text, row)?;
+        self.ends.push(LineEnd {
             time: row.key.time,
-            end: text.len(),
+            end: self.text.len(),
         })?;
-        Ok(Lines { ends, text })
+        Ok(())
     }
 
     /// How many lines there are.

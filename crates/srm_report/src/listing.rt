@@ -1,5 +1,5 @@
 //! Tables that list rows.
-ghost use Rattle.std.specs.Prelude.{◌≡◌, ◌++◌, IfOk, OnOk};
+ghost use Rattle.std.specs.Prelude.{◌≡◌, ◌++◌, is_ok, IfOk, if◌then◌else◌};
 ghost use Rattle.srm_report.specs.Listings.{Form, lines_in, text_in};
 
 use crate::fault::ReportFault;
@@ -28,7 +28,7 @@ pub trait Listing: Drop {
     /// Puts the lines of a row behind a text.
     ///
     /// # Errors
-    /// [`AllocError`].
+    /// [`AllocError`]: the text is as it was.
     fn put_line(text: &mut Vec<u8>, row: &Row) -> Result<(), AllocError>
-        ensures { OnOk result (text.new.items ≡ text.old.items ++ form.line row.now) };
+        ensures { text.new.items ≡ (if is_ok result then text.old.items ++ form.line row.now else text.old.items) };
 }

@@ -296,12 +296,12 @@ impl<'a, L: Listing, O: Outlet> RowSink for ListingSink<'a, L, O> {
     ghost part_longer = { part_longer O.taken L.form };
 
     /// Writes the rows after those before, or gathers them. The first call puts the header before its rows, also where it has
-    /// none. Where it answers `Ok`, it wrote all that was gathered, and these rows; or it wrote nothing, and gathers these rows too,
-    /// which is so only of a sink that was given rows before.
+    /// none. Where it answers `Ok`, it wrote all that was gathered, and these rows; or it wrote nothing, and gathers these rows
+    /// too, which is so only of a sink that was given rows before.
     ///
     /// # Errors
-    /// `Stopped` exactly where the outlet failed, with how many bytes it took by this sink in all, the header's too, up to 2^64 - 1.
-    /// `NoMemory`: then the outlet took nothing in this call.
+    /// `Stopped` exactly where the outlet failed, with how many bytes it took by this sink in all, the header's too, up to 2^64 -
+    /// 1. `NoMemory`: then the outlet took nothing in this call.
     fn rows(&mut self, alloc: Global, rows: Vec<Row>) -> Result<(), SinkFault>
         requires open { IsOpen (stage_of self.old) }
         requires failures { O.failures (outlet_under self.old) < 2 ^ 64 - 1 }

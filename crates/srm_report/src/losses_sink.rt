@@ -65,7 +65,8 @@ impl LossesSink {
 impl RowSink for LossesSink {
     ghost use Rattle.std.specs.Prelude.{refl, List, ◌++◌, ◌<◌, length, OnOk, IfErr};
     ghost use Rattle.srm_interfaces.specs.Sinks.{stage_after};
-    ghost use Rattle.srm_report.specs.LossesSinks.{stage_of_losses, FindsLosses, finds_none, finds_more};
+    ghost use Rattle.srm_report.specs.LossesSinks.{stage_of_losses, FindsLosses, HasFound};
+    ghost use Rattle.srm_report.specs.Taking.{in_turn_none, in_turn_more};
 
     ghost stage = { stage_of_losses };
 
@@ -81,9 +82,9 @@ impl RowSink for LossesSink {
 
     ghost same_more = { λ a b c p q. tt };
 
-    ghost took_none = { finds_none };
+    ghost took_none = { in_turn_none HasFound };
 
-    ghost took_more = { finds_more };
+    ghost took_more = { in_turn_more HasFound };
 
     ghost part_none = { λ a. tt };
 

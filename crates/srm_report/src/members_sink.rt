@@ -82,7 +82,8 @@ impl MembersSink {
 impl RowSink for MembersSink {
     ghost use Rattle.std.specs.Prelude.{refl, List, ◌++◌, ◌<◌, length, OnOk, IfErr};
     ghost use Rattle.srm_interfaces.specs.Sinks.{stage_after};
-    ghost use Rattle.srm_report.specs.MembersSinks.{stage_of_members, CountsRows, counts_none, counts_more};
+    ghost use Rattle.srm_report.specs.MembersSinks.{stage_of_members, CountsRows, HasCountedRows};
+    ghost use Rattle.srm_report.specs.Taking.{takes_none, takes_more};
 
     ghost stage = { stage_of_members };
 
@@ -98,9 +99,9 @@ impl RowSink for MembersSink {
 
     ghost same_more = { λ a b c p q. tt };
 
-    ghost took_none = { counts_none };
+    ghost took_none = { takes_none HasCountedRows };
 
-    ghost took_more = { counts_more };
+    ghost took_more = { takes_more HasCountedRows };
 
     ghost part_none = { λ a. tt };
 

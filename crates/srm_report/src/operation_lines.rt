@@ -31,8 +31,8 @@ use std::alloc::Global;
 const HEADER: &[u8] =
     b"source,page,number,losers,recovered,left,detected,asked,requests,repairs,last,delay\n";
 
-// The table of orderly rows of which this was found: their losses, in rising order, with what became of each; what was sent for each
-// name; and of each member whether it left.
+// The table of orderly rows of which this was found: their losses, in rising order, with what became of each; what was sent for
+// each name; and of each member whether it left.
 pub(crate) fn found_text(
     alloc: Global,
     net: &Net,

@@ -14,8 +14,8 @@ use srm_member::row::Row;
 use srm_net::net::Net;
 use std::alloc::{AllocError, Global};
 
-/// Keeps what became of each loss, what was sent for each name, and who left, and no row. It has no device that fails. Its room grows
-/// with the losses, with the names for which something was sent, and with the greatest number of a member that left.
+/// Keeps what became of each loss, what was sent for each name, and who left, and no row. It has no device that fails. Its room
+/// grows with the losses, with the names for which something was sent, and with the greatest number of a member that left.
 #[derive(Drop)]
 pub struct OperationsSink {
     losses: ByLoss<Course>,
@@ -90,7 +90,8 @@ impl OperationsSink {
 impl RowSink for OperationsSink {
     ghost use Rattle.std.specs.Prelude.{refl, List, ◌++◌, ◌<◌, length, OnOk, IfErr};
     ghost use Rattle.srm_interfaces.specs.Sinks.{stage_after};
-    ghost use Rattle.srm_report.specs.OperationsSinks.{stage_of_operations, FindsOperations, operations_none, operations_more};
+    ghost use Rattle.srm_report.specs.OperationsSinks.{stage_of_operations, FindsOperations, HasOperations};
+    ghost use Rattle.srm_report.specs.Taking.{in_turn_none, in_turn_more};
 
     ghost stage = { stage_of_operations };
 
@@ -106,9 +107,9 @@ impl RowSink for OperationsSink {
 
     ghost same_more = { λ a b c p q. tt };
 
-    ghost took_none = { operations_none };
+    ghost took_none = { in_turn_none HasOperations };
 
-    ghost took_more = { operations_more };
+    ghost took_more = { in_turn_more HasOperations };
 
     ghost part_none = { λ a. tt };
 

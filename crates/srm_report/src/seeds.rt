@@ -10,8 +10,8 @@ use itoa::Buffer;
 use memchr::memchr;
 use std::alloc::{AllocError, Global};
 
-/// The lines of a table's rows, without that of its columns, each with the seed of the run in front. No field of the table calls for
-/// quotes.
+/// The lines of a table's rows, without that of its columns, each with the seed of the run in front. No field of the table calls
+/// for quotes.
 ///
 /// # Errors
 /// `NoMemory`.

@@ -13,7 +13,8 @@ use srm_member::told::Told;
 use srm_net::packet::Name;
 use std::alloc::{AllocError, Global};
 
-// Takes in what one more row says of requests and repairs. It answers no memory also where a count would be too great for its number.
+// Takes in what one more row says of requests and repairs. It answers no memory also where a count would be too great for its
+// number.
 pub(crate) fn note_sent(sent: &mut Named<Sending>, row: &Row) -> Result<(), AllocError>
     ensures { (rows : List R) → TellSent rows sent.old → OnOk result (TellSent (rows ++ row.now ∷ []) sent.new) }
 {

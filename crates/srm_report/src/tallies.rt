@@ -2,9 +2,9 @@
 ghost use Rattle.std.specs.Prelude.{◌≡◌, List, Some, IfOk, IfSome, false, get_or};
 ghost use Rattle.srm_member.specs.declared.row.Row.{Row as R};
 ghost use Rattle.srm_report.specs.Courses.{TellLosses};
-ghost use Rattle.srm_report.specs.Operations.{all_losses, later, recovery_by};
+ghost use Rattle.srm_report.specs.Operations.{later, recovery_by};
 ghost use Rattle.srm_report.specs.Sendings.{TellLeft};
-ghost use Rattle.srm_report.specs.Tallies.{AreTallies, tallied as tallied_by, tally_in};
+ghost use Rattle.srm_report.specs.Tallies.{AreTallies, tallied as tallied_by, tally_in, all_losses};
 
 use crate::course::Course;
 use crate::loss::Loss;

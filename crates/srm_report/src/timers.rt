@@ -1,10 +1,10 @@
 //! The table of timers as CSV.
-ghost use Rattle.std.specs.Prelude.{◌≡◌, ◌≤◌, ◌+◌, [], ◌∷◌, ◌++◌, decimal, IfOk, OnOk};
+ghost use Rattle.std.specs.Prelude.{◌≡◌, ◌≤◌, ◌+◌, [], ◌∷◌, ◌++◌, decimal, is_ok, IfOk, OnOk, if◌then◌else◌};
 ghost use Rattle.csv.specs.Machine.{line_feed};
 ghost use Rattle.csv.specs.Writing.{comma, default_writer, row_text};
 ghost use Rattle.srm_report.specs.Listings.{lines_in};
 ghost use Rattle.srm_report.specs.Lines.{full_room, line_room, line_text, line_written};
-ghost use Rattle.srm_report.specs.Rows.{time_text};
+ghost use Rattle.srm_report.specs.Rows.{or_dash};
 ghost use Rattle.srm_report.specs.Timers.{timers_fields, timers_form, timers_line, timers_table};
 
 use crate::fault::ReportFault;
@@ -44,8 +44,8 @@ impl Listing for TimersListing {
     }
 }
 
-/// The table of timers, as CSV with line feeds: a header, and a line for each join of a member that is no listener and for each event
-/// after which one of the member's four constants is another than before. Lines are in the order of the trace.
+/// The table of timers, as CSV with line feeds: a header, and a line for each join of a member that is no listener and for each
+/// event after which one of the member's four constants is another than before. Lines are in the order of the trace.
 ///
 /// | column | what it has |
 /// |---|---|
@@ -88,7 +88,7 @@ fn put_rows(text: &mut Vec<u8>, rows: &[Row]) -> Result<(), AllocError>
 
 // Appends the line of a row, if it has one.
 fn append_row(text: &mut Vec<u8>, line: &mut Line, row: &Row) -> Result<(), AllocError>
-    ensures { OnOk result (text.new.items ≡ text.old.items ++ timers_line row.now) }
+    ensures { text.new.items ≡ (if is_ok result then text.old.items ++ timers_line row.now else text.old.items) }
 {
     let Some(intervals) = row.adapted.get() else {
         return Ok(());
@@ -119,8 +119,8 @@ fn put_row(line: &mut Line, row: &Row, intervals: Intervals)
 fn put_averages(line: &mut Line, interval: Interval)
     requires { 42 ≤ line_room line.old }
     ensures room { line_room line.old ≤ line_room line.new + 42 }
-    ensures written { line_written line.new ≡ comma ∷ (time_text interval.average_duplicates
-        ++ comma ∷ (time_text interval.average_delay ++ line_written line.old)) }
+    ensures written { line_written line.new ≡ comma ∷ (or_dash decimal interval.average_duplicates
+        ++ comma ∷ (or_dash decimal interval.average_delay ++ line_written line.old)) }
 {
     put_time(line, interval.average_delay());
     put_time(line, interval.average_duplicates());

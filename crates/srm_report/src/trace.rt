@@ -4,7 +4,8 @@ ghost use Rattle.csv.specs.Machine.{line_feed};
 ghost use Rattle.csv.specs.Writing.{comma, default_writer, row_text};
 ghost use Rattle.srm_report.specs.Listings.{lines_in};
 ghost use Rattle.srm_report.specs.Lines.{full_room, line_room, line_text, line_written};
-ghost use Rattle.srm_report.specs.Trace.{cause_word, told_word, ref_text, sent_text, trace_fields, trace_form, trace_of_rows};
+ghost use Rattle.srm_report.specs.Rows.{or_dash};
+ghost use Rattle.srm_report.specs.Trace.{cause_word, packet_text, told_word, ref_text, trace_fields, trace_form, trace_of_rows};
 
 use crate::fault::ReportFault;
 use crate::fields::{put_dash, put_name, put_number, put_packet, put_word};
@@ -126,7 +127,7 @@ pub(crate) fn put_ref(line: &mut Line, about: &About)
 fn put_sent(line: &mut Line, sent: &Option<Packet>)
     requires { 42 ≤ line_room line.old }
     ensures room { line_room line.old ≤ line_room line.new + 42 }
-    ensures written { line_written line.new ≡ comma ∷ (sent_text sent.now ++ line_written line.old) }
+    ensures written { line_written line.new ≡ comma ∷ (or_dash (λ p. packet_text p.id) sent.now ++ line_written line.old) }
 {
     match sent {
         None => put_dash(line),

@@ -6,15 +6,15 @@ use Rattle.srm_report.proofs.TurnLemmas.{any_default}
 use Rattle.srm_report.proofs.keep_lines.KeepLinesWatchLines.add.Goals as goal
 
 pub loop-row-init : goal.loop-row-init
-loop-row-init g c before was = c.replace-lines.ensures.value ∙ was ∙ ap (lines_of g.L.Listing.form) (sym (append-nil before))
+loop-row-init g c before was = c.in_ok-reserve.ensures ∙ was ∙ ap (lines_of g.L.Listing.form) (sym (append-nil before))
 
 pub loop-row-preserved : goal.loop-row-preserved
 loop-row-preserved g c before was =
     let rows = c.args.rows.now in
     let i = c.loop-row.row-index in
     let lt : i < length rows = c.loop-row-test.true in
-    kept-more g.L.Listing.form before rows i c.row-item.result c.loop-row.lines c.in_ok-lines.lines _ lt
-    (c.row-item.is ∙ any_default rows i _ _ lt) (c.loop-row.invariant before was) refl c.in_ok-lines.ensures
+    kept-more g.L.Listing.form before rows i c.row-item.result c.loop-row.kept c.put.new.self _ lt
+    (c.row-item.is ∙ any_default rows i _ _ lt) (c.loop-row.invariant before was) refl c.in_ok-put.ensures
 
 pub returns : goal.returns
 returns g c before was =

@@ -6,4 +6,4 @@ use Rattle.srm_report.proofs.keep_lines.KeepLinesWatchLines.add.Given as goal
 -- the lines of the rows so far are kept, after those before
 abbrev pub invariant-loop-row : goal.invariant-loop-row
 invariant-loop-row g l = (before : List Row) → l.fn.kept ≡ lines_of g.L.Listing.form before
-    → l.lines ≡ lines_of g.L.Listing.form (before ++ take l.row-index l.rows)
+    → l.kept ≡ lines_of g.L.Listing.form (before ++ take l.row-index l.rows)

@@ -1,21 +1,15 @@
-use Rattle.std.proofs.Common.{◌≡◌, ◌∙◌, ◌<◌, length, ap, sym, subst, take, ◌++◌, ◌∷◌, [], arith}
-use Rattle.std.proofs.Math.Seq.{take-length}
-use Rattle.std.proofs.lemmas.List.{take_more}
-use Rattle.srm_report.specs.MembersSinks.{CountsRows, counts_more}
+use Rattle.std.proofs.Common.{◌≡◌, length, arith}
+use Rattle.srm_report.specs.MembersSinks.{CountsRows, HasCountedRows}
+use Rattle.srm_report.specs.Taking.{takes_more}
+use Rattle.srm_report.proofs.TakingLemmas.{next_row, all_rows}
 use Rattle.srm_report.proofs.members_sink.MembersSink.take.Goals as goal
 
 pub loop-row-preserved : goal.loop-row-preserved
 loop-row-preserved c =
-    let rows = c.args.rows.now in
-    let i = c.loop-row.row-index in
-    let r = c.row-item.result in
-    let lt : i < length rows = c.loop-row-test.true in
-    let one = take_more rows i r lt ∙ ap (λ q. take i rows ++ q ∷ []) (sym c.row-item.is) in
-    subst (λ l. CountsRows c.args.self.now l c.count.new.self) (sym one)
-    (counts_more c.args.self.now c.loop-row.self c.count.new.self (take i rows) (r ∷ []) c.loop-row.invariant c.in_ok-count.ensures)
+    next_row CountsRows (takes_more HasCountedRows) c.args.self.now c.loop-row.self c.count.new.self c.args.rows.now c.loop-row.row-index
+    c.row-item.result c.loop-row-test.true c.row-item.is c.loop-row.invariant c.in_ok-count.ensures
 
 pub returns-clause-taken : goal.returns-clause-taken
 returns-clause-taken c =
     let whole : c.loop-row.row-index ≡ length c.args.rows.now = omega arith in
-    subst (λ l. CountsRows c.args.self.now l c.loop-row.self)
-    (ap (λ n. take n c.args.rows.now) whole ∙ take-length c.args.rows.now) c.loop-row.invariant
+    all_rows CountsRows c.args.self.now c.loop-row.self c.args.rows.now c.loop-row.row-index whole c.loop-row.invariant

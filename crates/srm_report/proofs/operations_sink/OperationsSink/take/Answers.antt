@@ -1,22 +1,15 @@
-use Rattle.std.proofs.Common.{◌≡◌, ◌∙◌, ◌<◌, length, ap, sym, subst, take, ◌++◌, ◌∷◌, [], arith}
-use Rattle.std.proofs.Math.Seq.{take-length}
-use Rattle.std.proofs.lemmas.List.{take_more}
-use Rattle.srm_report.specs.OperationsSinks.{FindsOperations, operations_more}
+use Rattle.std.proofs.Common.{◌≡◌, length, arith}
+use Rattle.srm_report.specs.OperationsSinks.{FindsOperations, HasOperations}
+use Rattle.srm_report.specs.Taking.{in_turn_more}
+use Rattle.srm_report.proofs.TakingLemmas.{next_row, all_rows}
 use Rattle.srm_report.proofs.operations_sink.OperationsSink.take.Goals as goal
 
 pub loop-row-preserved : goal.loop-row-preserved
 loop-row-preserved c =
-    let rows = c.args.rows.now in
-    let i = c.loop-row.row-index in
-    let r = c.row-item.result in
-    let lt : i < length rows = c.loop-row-test.true in
-    let one = take_more rows i r lt ∙ ap (λ q. take i rows ++ q ∷ []) (sym c.row-item.is) in
-    subst (λ l. FindsOperations c.args.self.now l c.take_row.new.self) (sym one)
-    (operations_more c.args.self.now c.loop-row.self c.take_row.new.self (take i rows) (r ∷ []) c.loop-row.invariant
-    c.in_ok-take_row.ensures)
+    next_row FindsOperations (in_turn_more HasOperations) c.args.self.now c.loop-row.self c.take_row.new.self c.args.rows.now c.loop-row.row-index
+    c.row-item.result c.loop-row-test.true c.row-item.is c.loop-row.invariant c.in_ok-take_row.ensures
 
 pub returns-clause-taken : goal.returns-clause-taken
 returns-clause-taken c =
     let whole : c.loop-row.row-index ≡ length c.args.rows.now = omega arith in
-    subst (λ l. FindsOperations c.args.self.now l c.loop-row.self)
-    (ap (λ n. take n c.args.rows.now) whole ∙ take-length c.args.rows.now) c.loop-row.invariant
+    all_rows FindsOperations c.args.self.now c.loop-row.self c.args.rows.now c.loop-row.row-index whole c.loop-row.invariant
