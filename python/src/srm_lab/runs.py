@@ -1,4 +1,5 @@
 """Runs of the program: its tables of many seeds and scenarios, kept in a cache."""
+import gc
 import hashlib
 import json
 import os
@@ -159,6 +160,12 @@ def move(bar: tqdm.tqdm, before: int, made: int) -> None:
 _work: list[Callable[[Any], Any]] = []  # what this process does, where it is a worker
 
 
+def _begin(work: Callable[[Any], Any]) -> None:
+    """Makes this process a worker; what it was forked with is never searched for garbage, which would copy it."""
+    gc.freeze()
+    _work.insert(0, work)
+
+
 def _do(chunk: Any) -> Any:
     return _work[0](chunk)
 
@@ -171,7 +178,7 @@ def _mapped(work: Callable[[Any], Any], chunks: Sequence[Any], several: int) -> 
     if several == 1:
         yield from map(work, chunks)
         return
-    with ProcessPoolExecutor(several, get_context("fork"), _work.insert, (0, work)) as pool:
+    with ProcessPoolExecutor(several, get_context("fork"), _begin, (work,)) as pool:
         try:
             yield from pool.map(_do, chunks)
         except BaseException:
