@@ -14,6 +14,8 @@ import tempfile
 from collections.abc import Iterator
 from pathlib import Path
 
+import matplotlib.font_manager  # makes the list of fonts where there is none yet, which Matplotlib tells of if it takes long
+
 ROOT = Path(__file__).resolve().parents[1]
 
 
@@ -48,7 +50,8 @@ def run(commands: list[tuple[str, list[str]]], program: Path) -> Iterator[tuple[
         script = [f'srm_lab() {{ "{program}" "$@"; }}']
         for number, (command, _) in enumerate(commands):
             script.append(f"{{ {command}\n}} > {place}/{number}.out 2>&1; echo $? > {place}/{number}.status")
-        environment = {**os.environ, "SRM_LAB": str(program), "TMPDIR": str(place), "XDG_CACHE_HOME": str(place)}
+        environment = {**os.environ, "SRM_LAB": str(program), "TMPDIR": str(place), "XDG_CACHE_HOME": str(place),
+                       "MPLCONFIGDIR": matplotlib.get_cachedir()}
         subprocess.run(["bash", "-c", "\n".join(script)], cwd=ROOT, env=environment, check=False)
         for number in range(len(commands)):
             status = place / f"{number}.status"

@@ -49,18 +49,12 @@ def as_the_program(frame, name):
     return frame.to_csv(index=False, na_rep="-")
 
 
-@pytest.fixture(scope="module")
-def has_operations(program):
-    """Whether the program has the table of operations."""
-    return "operations" in subprocess.run([program, "--help"], capture_output=True, text=True, check=True).stdout
-
-
 @pytest.mark.parametrize("text", [*(path.read_text() for path in FILES), *(given.text() for given in RANDOM)],
                          ids=[*(path.stem for path in FILES), *(f"random-{place}" for place in range(len(RANDOM)))])
-def test_tables_are_those_that_the_program_writes_and_that_a_trace_gives(text, program, srm_lab, has_operations):
+def test_tables_are_those_that_the_program_writes_and_that_a_trace_gives(text, program, srm_lab):
     given = read_scenario(text)
     computed = second(given, read_trace(io.StringIO(srm_lab(text, "--seed", "3"))), 3)
-    tables = [*(name for name in computed if name != "operations" or has_operations), "trace", "constants"]
+    tables = [*computed, "trace", "constants"]
     runs = run(given, seeds=[3], tables=tables, program=program, cache=None)
     for name in tables:
         written = srm_lab(text, "--seed", "3", "--replications", "1", "--show", SHOWN.get(name, name))
@@ -88,7 +82,7 @@ def test_operations_are_read():
     assert len(empty) == 0 and list(empty.columns) == list(frame.columns)
 
 
-def test_losses_have_numbers_and_ends(program, has_operations):
+def test_losses_have_numbers_and_ends(program):
     # the chain of the tutorial: detected at 70 and 80, recovered at 140 and 150, round trips 40 and 60
     given = scenario.chain(4, delay=10).constants(c2=0, d2=0).drawing(0).draw(0).draw(50).drop(1, 0)
     runs = run(given, tables=["losses", "timers"], program=program, cache=None)
@@ -96,10 +90,9 @@ def test_losses_have_numbers_and_ends(program, has_operations):
     assert list(losses["detected"]) == [70, 80] and list(losses["recovered"]) == [140, 150]
     assert list(losses["delay"]) == [70, 70] and list(losses["round_trip"]) == [40, 60]
     assert list(losses["ended"]) == ["recovered", "recovered"]
-    if has_operations:
-        one, = run(given, tables="operations", program=program, cache=None).operations.to_dict("records")
-        assert (one["losers"], one["requests"], one["repairs"], one["last"], one["delay"], one["round_trip"]) == (
-            2, 1, 1, 3, 70, 60)
+    one, = run(given, tables="operations", program=program, cache=None).operations.to_dict("records")
+    assert (one["losers"], one["requests"], one["repairs"], one["last"], one["delay"], one["round_trip"]) == (
+        2, 1, 1, 3, 70, 60)
     timers = runs.timers[["member", "kind", "set", "ended", "how"]].values.tolist()
     assert [2, "request", 70, 110, "expired"] in timers
     assert [3, "request", 80, 120, "backed off"] in timers
@@ -291,16 +284,18 @@ def test_tables_on_disk(program, tmp_path):
 
 def test_tables_say_what_they_are_of(program, srm_lab, tmp_path):
     given = replace(scenario.chain(3).drop(1, 0), comments=("of no matter",))
-    runs = run(given, [4, 7], program=program, cache=None)
+    runs = run(given, [4, 7], tables=COLUMNS, program=program, cache=None)
     version = srm_lab("", "--version").strip()
     text = given.text().removeprefix("# of no matter\n")
-    assert runs.losses.attrs == {
-        "table": "losses", "seeds": [4, 7], "program": version, "package": __version__, "options": [],
-        "program_sha256": hashlib.sha256(program.read_bytes()).hexdigest(),
-        "scenario": hashlib.sha256(text.encode()).hexdigest()}
+    must = {"seeds": [4, 7], "program": version, "package": __version__, "options": [],
+            "program_sha256": hashlib.sha256(program.read_bytes()).hexdigest(),
+            "scenario": hashlib.sha256(text.encode()).hexdigest()}
     assert runs.summary("delay", by="member").attrs["scenario"] == given.digest()
     runs.save(tmp_path)
-    assert json.loads((tmp_path / "losses.json").read_text()) == runs.losses.attrs
+    for name in COLUMNS:
+        assert runs.table(name).attrs == {"table": name, **must}
+        assert json.loads((tmp_path / f"{name}.json").read_text()) == runs.table(name).attrs
+        assert {*runs.table(name)["seed"]} == {4, 7} == {*pandas.read_csv(tmp_path / f"{name}.csv")["seed"]}
 
 
 def test_version_is_that_of_the_package():

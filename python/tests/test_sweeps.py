@@ -126,3 +126,13 @@ def test_parts_of_a_sweep_get_shorter(count, several, sizes):
     parts = list(chunks_of(jobs, several))
     assert [job for part in parts for job in part] == jobs
     assert [len(part) for part in parts] == sizes
+
+
+@pytest.mark.parametrize("nodes, workers, shared", [([3, 4, 5, 6, 7], 4, ["1", "1", "1", "1", "4"]), ([3, 4, 5], 8, ["2"] * 3),
+                                                    ([3, 4, 5, 6], 2, ["1"] * 4), ([3], 3, ["3"])])
+def test_what_is_left_for_the_last_round_shares_all_processors(nodes, workers, shared, program, tmp_path):
+    path, log = tmp_path / "srm_lab", tmp_path / "log"
+    path.write_text(f'#!/bin/sh\ntest "$1" = --version || echo "$@" >> {log}\nexec {program} "$@"\n')
+    path.chmod(0o755)
+    sweep({"nodes": nodes}, chain, seeds=6, program=path, cache=None, workers=workers)
+    assert sorted(line.split("--workers ")[1].split()[0] for line in log.read_text().splitlines()) == shared

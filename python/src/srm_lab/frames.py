@@ -49,23 +49,22 @@ def frame_of(name: str, texts: Sequence[Text]) -> pandas.DataFrame:
     """The rows of a table of several scenarios, with their numbers and the seeds in front."""
     bodies = [one.text.partition(b"\n")[2] for one in texts]
     counts = [body.count(b"\n") for body in bodies]
-    frame = _read(name, b"".join(bodies))
     scenarios = numpy.repeat(numpy.arange(len(texts)), counts)
     given = [one.given for one in texts]
+    columns = {"scenario": numpy.repeat([one.number for one in texts], counts), **_read(name, b"".join(bodies))}
     if name == "losses":
-        _add_ends(frame, given, scenarios)
+        columns |= _ends(columns, given, scenarios)
     if "node" in COLUMNS[name]:
         nodes = [[one.tree.name(member.node) for member in one.members] for one in given]
-        frame["node"] = _looked_up(given, nodes, scenarios, frame["member"])
+        columns["node"] = _looked_up(given, nodes, scenarios, columns["member"])
     if name == "links":
         for end in ("a", "b"):
             ends = [[one.tree.name(getattr(link, end)) for link in one.tree.links] for one in given]
-            frame[end] = _looked_up(given, ends, scenarios, frame["link"])
-    frame.insert(0, "scenario", numpy.repeat([one.number for one in texts], counts))
-    return frame
+            columns[end] = _looked_up(given, ends, scenarios, columns["link"])
+    return pandas.DataFrame(columns, copy=False)
 
 
-def _read(name: str, rows: bytes) -> pandas.DataFrame:
+def _read(name: str, rows: bytes) -> dict[str, Any]:
     """The columns that are written; numbers are whole, and may be none."""
     columns = WRITTEN[name]
     words = [column for column in columns if column in WORDS]
@@ -74,8 +73,8 @@ def _read(name: str, rows: bytes) -> pandas.DataFrame:
     read = pandas.read_csv(BytesIO(rows), header=None, names=["seed", *columns], index_col=False, engine="c",
                            dtype=dict.fromkeys(words, str), keep_default_na=False,
                            na_values={column: ["-", ""] for column in columns if column not in words})
-    return read.assign(seed=read["seed"].astype("int64"),
-                       **{column: _whole(read[column]) for column in columns if column not in words})
+    return {"seed": read["seed"].to_numpy("int64"),
+            **{column: read[column] if column in words else _whole(read[column]) for column in columns}}
 
 
 def _whole(column: pandas.Series) -> pandas.arrays.IntegerArray:
@@ -85,24 +84,24 @@ def _whole(column: pandas.Series) -> pandas.arrays.IntegerArray:
     return pandas.arrays.IntegerArray(numpy.where(is_missing, 0, values).astype("int64"), is_missing)
 
 
-def _add_ends(frame: pandas.DataFrame, given: Sequence[Scenario], scenarios: numpy.ndarray) -> None:
-    """How losses ended, and the round trips of those that did not end with a recovery."""
+def _ends(losses: dict[str, Any], given: Sequence[Scenario], scenarios: numpy.ndarray) -> dict[str, Any]:
+    """How losses ended, and the round trips also of those that did not end with a recovery."""
     leaves = [[member.leave is not None and member.leave < one.end for member in one.members] for one in given]
-    is_open, members = frame["recovered"].isna(), frame["member"]
-    left = _looked_up(given, leaves, scenarios, members).to_numpy(bool)
-    frame["ended"] = ENDS[numpy.where(is_open, numpy.where(left, 1, 2), 0)]
-    several = zip(scenarios[is_open], members[is_open], frame["source"][is_open])
-    frame.loc[is_open, "round_trip"] = [given[place].round_trip(member, source) for place, member, source in several]
+    left = numpy.asarray(_looked_up(given, leaves, scenarios, losses["member"]), bool)
+    is_open = losses["recovered"].isna()
+    several = zip(*(column[is_open].tolist() for column in (scenarios, losses["member"], losses["source"])))
+    losses["round_trip"][is_open] = [given[place].round_trip(member, source) for place, member, source in several]
+    return {"ended": ENDS[numpy.where(is_open, numpy.where(left, 1, 2), 0)]}
 
 
 def _looked_up(given: Sequence[Scenario], values: Sequence[Sequence[Any]], scenarios: numpy.ndarray,
-               places: pandas.Series) -> pandas.Series:
+               places: pandas.arrays.IntegerArray) -> Any:
     """For each row the value of its scenario at its place, such as the node of its member; numbers where all are."""
     starts = numpy.cumsum([0, *map(len, values)])[:-1]
     is_named = any(one.tree.names for one in given)
     flat = numpy.array([one for several in values for one in several], dtype=object if is_named else int)
     found = flat[starts[scenarios] + places.to_numpy(int)] if len(places) else flat[:0]
-    return pandas.Series(found, dtype=object if is_named else "Int64")
+    return found if is_named else pandas.array(found, "Int64")
 
 
 def joined(frames: Iterable[Frames]) -> Frames:

@@ -1,4 +1,5 @@
 """Runs of the program: its tables of many seeds and scenarios, kept in a cache."""
+import gc
 import hashlib
 import json
 import os
@@ -113,17 +114,20 @@ def perform_all(make: Callable[[int], Scenario], jobs: Sequence[Job], asked: Ask
         make(jobs[0][0]).digest(), asked.digest
     is_shown = sys.stderr.isatty() if progress is None else progress
     bar = tqdm.tqdm(total=sum(len(seeds) for _, seeds in jobs), unit="run", disable=not is_shown)
+    chunks = list(chunks_of(jobs, several))
+    rest = len(chunks) % several  # parts of the last round, which share all processors
 
-    def work(chunk: Sequence[Job]) -> tuple[list[str], Frames]:
+    def work(place: int) -> tuple[list[str], Frames]:
+        sharing = several if place < len(chunks) - rest else rest
         digests, texts = [], []
-        for number, seeds in chunk:
+        for number, seeds in chunks[place]:
             given = make(number)
             digests.append(given.digest())
             tell: Callable[[int], None] = nobody
             if several == 1:
                 tell = partial(move, bar, bar.n)
             try:
-                found = perform(given, seeds, asked, processors // several, tell)
+                found = perform(given, seeds, asked, processors // sharing, tell)
             except RefusedError as fault:
                 if said is not None:
                     fault.add_note(f"refused at {said(number)}")
@@ -132,9 +136,8 @@ def perform_all(make: Callable[[int], Scenario], jobs: Sequence[Job], asked: Ask
         return digests, {name: frame_of(name, [one[name] for one in texts]) for name in asked.tables}
 
     digests, parts, made = [], [], 0
-    chunks = list(chunks_of(jobs, several))
     with bar:
-        for chunk, (found, frames) in zip(chunks, _mapped(work, chunks, several)):
+        for chunk, (found, frames) in zip(chunks, _mapped(work, range(len(chunks)), several)):
             digests += found
             parts.append(frames)
             made += sum(len(seeds) for _, seeds in chunk)
@@ -159,6 +162,12 @@ def move(bar: tqdm.tqdm, before: int, made: int) -> None:
 _work: list[Callable[[Any], Any]] = []  # what this process does, where it is a worker
 
 
+def _begin(work: Callable[[Any], Any]) -> None:
+    """Makes this process a worker; what it was forked with is never searched for garbage, which would copy it."""
+    gc.freeze()
+    _work.insert(0, work)
+
+
 def _do(chunk: Any) -> Any:
     return _work[0](chunk)
 
@@ -171,7 +180,7 @@ def _mapped(work: Callable[[Any], Any], chunks: Sequence[Any], several: int) -> 
     if several == 1:
         yield from map(work, chunks)
         return
-    with ProcessPoolExecutor(several, get_context("fork"), _work.insert, (0, work)) as pool:
+    with ProcessPoolExecutor(several, get_context("fork"), _begin, (work,)) as pool:
         try:
             yield from pool.map(_do, chunks)
         except BaseException:

@@ -90,7 +90,8 @@ def evaluated(frame: pandas.DataFrame, expression: str) -> pandas.Series:
     """The numbers of an expression of a table's columns, such as `delay / round_trip`; what has no value is NaN."""
     if not isinstance(expression, str):
         raise TypeError(f"the expression is {expression!r}, and has to be text, such as \"delay / round_trip\"")
-    numbers = frame.astype({name: float for name, kind in frame.dtypes.items() if str(kind) == "Int64" and name in expression})
+    named = frame[[name for name in frame if str(name) in expression]]
+    numbers = named.astype({name: float for name, kind in named.dtypes.items() if str(kind) == "Int64"})
     try:
         found = numbers.eval(expression, engine="python")
         return pandas.Series(found, frame.index).astype(float)

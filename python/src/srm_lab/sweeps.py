@@ -104,8 +104,8 @@ class Grid:
     def labelled(self, frame: pandas.DataFrame) -> pandas.DataFrame:
         """A table with the parameters in front, in place of the scenarios' numbers."""
         labels = pandas.DataFrame([{name: label for name, (label, _) in point.items()} for point in self.points])
-        own = labels.iloc[frame["scenario"] // self.each].reset_index(drop=True)
-        return pandas.concat([own, frame.drop(columns="scenario")], axis="columns")
+        own = labels.iloc[frame.pop("scenario") // self.each].reset_index(drop=True)
+        return pandas.concat([own, frame], axis="columns", copy=False)
 
 
 def values_of(name: str, given: Any) -> dict[Any, Any]:
