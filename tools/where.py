@@ -149,15 +149,16 @@ def promises(function: Function) -> Iterator[str]:
 def tell(function: Function) -> None:
     owner = f"{function.owner}::" if function.owner else ""
     print(f"{function.crate.name}: {owner}{function.name}")
-    print(f"  body         {function.path.relative_to(TOP)}:{function.line}")
     clauses = contract(function)
+    declared = bool(clauses) and clauses[-1].endswith(";")
+    print(f"  {'declared' if declared else 'body':12} {function.path.relative_to(TOP)}:{function.line}")
     without = f"that of {function.by}::{function.name}" if function.by else "none: it is proved to be safe and to end"
     print("  contract" if clauses else f"  contract     {without}")
     for line in clauses:
         print(f"    {line.strip()}")
     for name, place in definitions(function, clauses):
         print(f"  {name:12} {place}")
-    print(f"  proof        {proof(function)}")
+    print(f"  proof        {f'one for each type that has it: where.py {function.owner}' if declared else proof(function)}")
     for row in promises(function):
         print(f"  promise      {row}")
     print()

@@ -37,6 +37,11 @@ impl Member for Adder {
         0
     }
 }
+
+pub trait Member {
+    fn react(&mut self) -> u64
+        ensures { result ≡ 0 };
+}
 """
 DEFINITIONS = """\
 -- all numbers of an adder
@@ -96,6 +101,11 @@ class Where(unittest.TestCase):
         self.assertIn("that of Member::react", text)
         self.assertIn("crates/srm_sum/proofs/adder/AdderMember/react/", text)
         self.assertIn("docs/PROMISES.md:6  It is a member.", text)
+
+    def test_method_that_a_trait_declares_leads_to_its_types(self) -> None:
+        _, text = self.told("Member::react")
+        self.assertIn("declared     crates/srm_sum/src/adder.rt:23", text)
+        self.assertIn("proof        one for each type that has it: where.py Member", text)
 
     def test_all_functions_of_a_type_are_told(self) -> None:
         _, text = self.told("Adder")
