@@ -2,14 +2,22 @@
 #![tactic(auto)]
 
 use srm_program::program::program;
+use srm_program::request::request_of;
 use srm_report::outlet::WriteOutlet;
 use srm_scenario::feed::ReadFeed;
 use std::process::ExitCode;
 
 fn main(rt: HostRuntime) -> ExitCode {
+    let request = request_of(&rt, rt.alloc(), std::env::args(&rt));
     let mut feed = ReadFeed::new(rt.stdin());
     let mut outlet = WriteOutlet::new(rt.stdout());
     let mut errors = WriteOutlet::new(rt.stderr());
-    let words = std::env::args(&rt);
-    ExitCode::from(program(&rt, rt.alloc(), words, &mut feed, &mut outlet, &mut errors))
+    ExitCode::from(program(
+        &rt,
+        rt.alloc(),
+        request,
+        &mut feed,
+        &mut outlet,
+        &mut errors,
+    ))
 }

@@ -7,11 +7,10 @@ use Rattle.srm_scenario.specs.declared.session.Session.{Session}
 use Rattle.srm_member.specs.Record.{Record}
 use Rattle.srm_member.specs.declared.row.Row.{Row}
 use Rattle.srm_cell.specs.Setting.{setting_of}
-use Rattle.srm_interfaces.specs.declared.crew.Crew as crew
 use Rattle.srm_interfaces.specs.declared.sink.RowSink as sink
 use Rattle.srm_report.specs.declared.outlet.Outlet as outlet
 use Rattle.srm_options.specs.declared.options.Show.{Show}
-use Rattle.srm_options.specs.declared.options.Engine.TheVariants.{Window}
+use Rattle.srm_options.specs.declared.options.Engine.TheVariants.{Step, Window}
 use Rattle.srm_report.specs.Listings.{Form, text_in}
 use Rattle.srm_report.specs.declared.listing_sink.ListingSink.{ListingSink}
 use Rattle.srm_report.specs.ListingSinks.{stage_of, gathered_by, gathering_room, written_by}
@@ -34,10 +33,10 @@ pub record MayLead {C : Type 0} (ready : C → Type 0) (serves : C → PlainScen
   pub called : ready by
   pub served : serves by of.scenario.now of.net.now
 
--- the report of a session may be written: a crew may lead its runs, and one more failure of the outlet can be counted
-pub record MayReport {C M O : Type 0} (c : crew.Ghosts C M) (o : outlet.Ghosts O) (by : C) (of : Session) (to : O)
-    : Type 0 where
-  pub lead : MayLead c.ready c.serves by of
+-- a table of a run of one event after the other may be written: it is asked for, and one more failure of the outlet can
+-- be counted
+pub record MayStep {O : Type 0} (o : outlet.Ghosts O) (task : Task) (to : O) : Type 0 where
+  pub engine : task.options.engine ≡ Step
   pub count : o.failures to < 2 ^ 64 - 1
 
 -- a table may be made of what a watch keeps: it is asked for, of a run in windows, and one more failure of the outlet

@@ -1,6 +1,6 @@
 -- What is told of a refusal after its line.
 use Rattle.std.specs.Prelude.{◌≡◌, ◌⊎◌, ℕ, Bool, true, false, List, [], ◌++◌, codes, decimal, Option, Some, None}
-use Rattle.std.specs.Prelude.{Result, Ok, Err, string_bytes}
+use Rattle.std.specs.Prelude.{Result, Ok, Err}
 use Rattle.srm_net.specs.Least.{least_delay}
 use Rattle.srm_scenario.specs.Faults.{scenario_of_text}
 use Rattle.srm_scenario.specs.Plain.{PlainScenario, network_of}
@@ -12,7 +12,6 @@ use Rattle.srm_command_line.specs.declared.line_fault.LineFault.{LineFault}
 use Rattle.srm_program.specs.declared.fault.Fault.{Fault}
 use Rattle.srm_program.specs.declared.fault.Fault.TheVariants as fault
 use Rattle.srm_options.specs.declared.options.Options.{Options}
-use Rattle.srm_command_line.specs.declared.request.Request.{Request}
 
 -- whether words ask for explanations of what is refused of a session
 abbrev pub asks_explanation : Result (ℕ × Options) LineFault → Bool
@@ -59,10 +58,6 @@ MayFollow true text f told = (told ≡ []) ⊎ ExplainsFault text f told
 abbrev pub FollowsLine : Bool → List ℕ → List ℕ → Fault → List ℕ → Type 0
 FollowsLine asks message text (fault.Line f) told = told ≡ message
 FollowsLine asks message text f told = MayFollow asks text f told
-
--- the same, as words ask for it
-abbrev pub Follows : Request → List ℕ → Fault → List ℕ → Type 0
-Follows request text f told = FollowsLine (asks_explanation request.asked) (string_bytes request.message) text f told
 
 -- the text that is kept after a session that was given this text: the same, wherever a fault is one of the text itself;
 -- none where the feed failed or words were refused; and where a text was too long or memory ran out all of it or none

@@ -1,5 +1,5 @@
 -- What the program does, as its devices see it: what it reads, what it writes, and its exit status.
-use Rattle.std.specs.Prelude.{◌≡◌, ◌≢◌, ◌⊎◌, ℕ, ◌+◌, ◌<◌, ◌≤◌, List, [], ◌∷◌, ◌++◌, length, take, codes, Option}
+use Rattle.std.specs.Prelude.{◌≡◌, ◌≢◌, ◌⊎◌, ℕ, ◌+◌, ◌<◌, ◌≤◌, List, [], ◌∷◌, ◌++◌, length, take, codes, Option, Bool}
 use Rattle.std.specs.Prelude.{Result, Ok, Err, string_bytes}
 use Rattle.std.specs.Io.KnownBytes.{Appends, Consumes, Keeps}
 use Rattle.srm_scenario.specs.declared.bytes.TheConstants.{LONGEST_TEXT}
@@ -10,7 +10,7 @@ use Rattle.srm_program.specs.declared.fault.Fault.{Fault}
 use Rattle.srm_program.specs.declared.fault.Fault.TheVariants as fault
 use Rattle.srm_options.specs.declared.options.Options.{Options}
 use Rattle.srm_command_line.specs.declared.request.Request.{Request}
-use Rattle.srm_program.specs.Explained.{Follows}
+use Rattle.srm_program.specs.Explained.{asks_explanation, FollowsLine}
 use Rattle.srm_program.specs.RefusalLines.{line_of_fault}
 pub use Rattle.srm_options.specs.Asked.{MayBeAsked}
 use Rattle.srm_program.specs.Sessions.{TellsFeed, ReadsSessionToEnd, reading_failures, session_failures}
@@ -45,13 +45,17 @@ WritesHelp help old new (Err (fault.Lab (WriteFault written))) =
     Appends old new (take written help) × (written < length help)
 WritesHelp help old new (Err f) = ⊥
 
--- what comes of what the command line asks for, of a feed that gave this text and has this left: a session, or help;
--- and nothing is written where the command line is refused
+-- what comes of a command line for which nothing is run: help; or its refusal, and nothing is written
+abbrev pub RunsNothing : {T : Type 0} → LineFault → Option (List ℕ) → Option (List ℕ) → Result T Fault → Type 0
+RunsNothing (line.Help help) old new r = WritesHelp (string_bytes help) old new r
+RunsNothing f old new r = (r ≡ Err (fault.Line f)) × Keeps old new
+
+-- what comes of what the command line asks for, of a feed that gave this text and has this left: a session, or nothing
+-- is run, and then the feed gave nothing
 abbrev pub CarriesOut : {T : Type 0} → Result (ℕ × Options) LineFault → List ℕ
     → Option (List ℕ) → Option (List ℕ) → Option (List ℕ) → Result T Fault → Type 0
 CarriesOut (Ok asked) text old new left r = TellsFeed asked.0 asked.1 text old new r × ReadsSessionToEnd r left
-CarriesOut (Err (line.Help help)) text old new left r = (text ≡ []) × WritesHelp (string_bytes help) old new r
-CarriesOut (Err f) text old new left r = (text ≡ []) × (r ≡ Err (fault.Line f)) × Keeps old new
+CarriesOut (Err f) text old new left r = (text ≡ []) × RunsNothing f old new r
 
 -- what an outlet took of a line: all of it, or its front where it failed
 abbrev pub TakesLine : Device → List ℕ → Type 0
@@ -72,9 +76,10 @@ TakesFaultLine d f told =
 
 -- what an outlet for errors took, where a session was given this text: nothing after success, and after a refusal its
 -- line and what is asked for to follow it
-abbrev pub TellsErrors : {T : Type 0} → Device → Request → List ℕ → Result T Fault → Type 0
-TellsErrors d request given (Ok v) = (d.fails ≡ d.failed) × Keeps d.old d.new
-TellsErrors d request given (Err f) = (told : List ℕ) × Follows request given f told × TakesFaultLine d f told
+abbrev pub TellsErrors : {T : Type 0} → Device → Bool → List ℕ → List ℕ → Result T Fault → Type 0
+TellsErrors d asks message given (Ok v) = (d.fails ≡ d.failed) × Keeps d.old d.new
+TellsErrors d asks message given (Err f) =
+    (told : List ℕ) × FollowsLine asks message given f told × TakesFaultLine d f told
 
 -- the exit status: 0 after success
 abbrev pub exit_status : {T : Type 0} → Result T Fault → ℕ
@@ -90,5 +95,5 @@ AnswersRequest request feed outlet errors status =
     × CarriesOut request.asked given outlet.old outlet.new feed.new done
     × (feed.fails ≡ reading_failures done feed.failed)
     × (outlet.fails ≡ session_failures done outlet.failed)
-    × TellsErrors errors request given done
+    × TellsErrors errors (asks_explanation request.asked) (string_bytes request.message) given done
     × (status ≡ exit_status done)

@@ -5,7 +5,7 @@ ghost use Rattle.srm_program.specs.Askings.{MayLead, MayTabulate, Reports};
 
 use crate::asked::Asked;
 use crate::fault::LabFault;
-use crate::run::report;
+use crate::in_windows::by_rows;
 use crate::task::Task;
 use crate::watched_table::WatchedTable;
 use srm_crew::piece::Piece;
@@ -146,7 +146,7 @@ fn by_team<
             let crew = WatchTeam::new(rt, team, work, ENOUGH);
             lead_beside(rt, alloc, &bench, &task, watch, (crew, members), outlet)
         }
-        Err(_) => report(alloc, task, members, &mut PlainCrew::new(), outlet),
+        Err(_) => by_rows(alloc, task, members, PlainCrew::new(), watch, outlet),
     }
 }
 

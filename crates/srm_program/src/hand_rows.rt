@@ -1,4 +1,4 @@
-//! The rows of a run, or what a watch keeps of them, handed to a sink by the engine that is asked for.
+//! The rows of a run, or what a watch keeps of them, handed to a sink.
 ghost use Rattle.std.specs.Prelude.{◌≡◌, ◌<◌, ◌-◌, ◌^◌, List, map};
 ghost use Rattle.srm_member.specs.declared.row.Row.{Row as OneRow};
 ghost use Rattle.srm_interfaces.specs.Sinks.{IsOpen};
@@ -14,8 +14,6 @@ use srm_engine::step_rows::step_rows;
 use srm_engine::stream_fault::StreamFault;
 use srm_engine::width::Windows;
 use srm_engine::window_kept::window_kept;
-use srm_engine::window_rows::window_rows;
-use srm_interfaces::crew::Crew;
 use srm_interfaces::kept_sink::KeptSink;
 use srm_interfaces::sink::RowSink;
 use srm_interfaces::watch::Watch;
@@ -25,33 +23,25 @@ use srm_member::participant::Participant;
 use std::alloc::Global;
 use std::marker::Copy;
 
-// The run by the engine that is asked for, its rows handed to a sink. In windows of time this crew leads it.
-pub(crate) fn hand_rows<M: Participant, C: Crew<M>, S: RowSink>(
+// The sequential run, its rows handed to a sink.
+pub(crate) fn hand_rows<M: Participant, S: RowSink>(
     alloc: Global,
     asked: Asked<M>,
-    crew: &mut C,
     sink: &mut S,
 ) -> Result<Totals, LabFault>
-    requires crew { MayLead C.ready C.serves crew.old asked.task.session }
+    requires steps { asked.task.options.engine ≡ Engine.Step }
     requires open { IsOpen (S.stage sink.old) }
     requires failures { S.failures sink.old < 2 ^ 64 - 1 }
     ensures { HandsOn S.RowSink asked.entry.task (map M.plain asked.entry.members.items) sink.old result sink.new }
 {
     let Asked { task, members } = asked;
-    let Options { cut, width, .. } = task.options;
     let start = Start {
         session: task.session,
         members,
     };
-    match task.options.engine {
-        Engine::Step => match step_rows(alloc, start, sink) {
-            Ok(totals) => Ok(totals),
-            Err(fault) => Err(lab_fault(fault)),
-        },
-        Engine::Window => match window_rows(alloc, start, crew, Windows { cut, width }, sink) {
-            Ok(totals) => Ok(totals),
-            Err(fault) => Err(lab_fault(fault)),
-        },
+    match step_rows(alloc, start, sink) {
+        Ok(totals) => Ok(totals),
+        Err(fault) => Err(lab_fault(fault)),
     }
 }
 

@@ -6,6 +6,7 @@ mod by_watch;
 mod explained;
 pub mod fault;
 mod hand_rows;
+mod in_windows;
 mod keep_rows;
 mod kept_tables;
 pub mod line;

@@ -5,14 +5,15 @@ ghost use Rattle.srm_interfaces.specs.Sinks.{IsOpen};
 ghost use Rattle.srm_options.specs.declared.options.Engine.TheVariants.{Window};
 ghost use Rattle.srm_report.specs.declared.listing_sink.ListingSink.{ListingSink as ASink};
 ghost use Rattle.srm_report.specs.ListingSinks.{stage_of, outlet_under, AreOverOne};
+ghost use Rattle.srm_engine.specs.Starts.{AreOpening};
 ghost use Rattle.srm_program.specs.declared.task.Task.{Task as ATask};
-ghost use Rattle.srm_program.specs.Askings.{HandsOn, IsFresh, IsListed, MayLead, MayReport};
+ghost use Rattle.srm_program.specs.Askings.{HandsOn, IsFresh, IsListed, MayLead, MayStep};
 
 use crate::asked::Asked;
 use crate::fault::LabFault;
 use crate::hand_rows::{hand_kept, hand_rows};
+use crate::task::Task;
 use crate::watched_table::WatchedTable;
-use srm_interfaces::crew::Crew;
 use srm_interfaces::sink::RowSink;
 use srm_interfaces::watch_crew::WatchCrew;
 use srm_ledger::totals::Totals;
@@ -52,20 +53,20 @@ fn flushed<'a, L: Listing, O: Outlet>(
     }
 }
 
-/// Writes a table that lists rows, as the rows of the run come, through a sink of its own.
-pub(crate) fn write_listing<M: Participant, C: Crew<M>, L: Listing, O: Outlet>(
+/// Writes a table that lists rows, as the rows of the sequential run come, through a sink of its own.
+pub(crate) fn write_listing<M: Participant, L: Listing, O: Outlet>(
     alloc: Global,
-    asked: Asked<M>,
-    crew: &mut C,
+    task: Task,
+    members: Vec<M>,
     listing: L,
     outlet: &mut O,
 ) -> Result<(), LabFault>
-    requires may { MayReport C.Crew O.Outlet crew.old asked.task.session outlet.old }
-    ensures { IsListed O.Outlet L.form asked.entry.task (map M.plain asked.entry.members.items)
-        outlet.old result outlet.new }
+    requires opening { AreOpening task.session (map M.plain members.items) }
+    requires may { MayStep O.Outlet task outlet.old }
+    ensures { IsListed O.Outlet L.form task.entry (map M.plain members.items) outlet.old result outlet.new }
 {
     let mut sink = ListingSink::gathering(alloc, listing, outlet, GATHERED);
-    let handed = hand_rows(alloc, asked, crew, &mut sink);
+    let handed = hand_rows(alloc, Asked { task, members }, &mut sink);
     let answer = flushed(&mut sink, handed);
     // By its contract, the outlet is then as the sink left it.
     let _outlet = sink.into_outlet();

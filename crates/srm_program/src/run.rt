@@ -3,31 +3,21 @@ ghost use Rattle.std.specs.Prelude.{◌≡◌, ◌<◌, ◌-◌, ◌^◌, ℕ, m
 ghost use Rattle.srm_scenario.specs.Plain.{network_of};
 ghost use Rattle.srm_engine.specs.Openings.{HoldOpeningRecords};
 ghost use Rattle.srm_engine.specs.Starts.{AreOpening};
-ghost use Rattle.srm_program.specs.Askings.{MayReport, Reports, Tabled};
+ghost use Rattle.srm_program.specs.Askings.{MayStep, Tabled};
 ghost use Rattle.srm_program.specs.Reports.{failures_after_run};
 ghost use Rattle.srm_program.specs.Runs.{MayShareBag, TellsRunFor};
 
 use crate::asked::Asked;
-use crate::by_watch::by_watch;
 use crate::fault::LabFault;
 use crate::hand_rows::hand_rows;
+use crate::in_windows::in_windows;
 use crate::listed::write_listing;
-use crate::options::{CrewKind, Engine, Options, Show};
+use crate::options::{Engine, Options, Show};
 use crate::report::write_text;
 use crate::task::Task;
-use srm_crew::bag_crew::BagCrew;
-use srm_crew::gate::OpenGate;
-use srm_crew::plain::PlainCrew;
-use srm_crew::pool::PoolCrew;
-use srm_interfaces::crew::Crew;
 use srm_member::member::Member;
 use srm_member::participant::Participant;
 use srm_net::net::Net;
-use srm_report::count_rows::CountRows;
-use srm_report::find_losses::FindLosses;
-use srm_report::find_operations::FindOperations;
-use srm_report::keep_lines::KeepLines;
-use srm_report::keep_nothing::KeepNothing;
 use srm_report::links::links_text;
 use srm_report::losses_sink::LossesSink;
 use srm_report::members_sink::MembersSink;
@@ -84,139 +74,93 @@ pub fn run<R: Threads + Wait + Sync, O: Outlet>(
     let session = Session { scenario, net };
     let task = Task { session, options };
     match options.engine {
-        Engine::Step => return report(alloc, task, members, &mut PlainCrew::new(), outlet),
-        Engine::Window => {}
+        Engine::Window => return in_windows(rt, alloc, task, members, outlet),
+        Engine::Step => {}
     }
-    match options.crew {
-        CrewKind::Plain => report(alloc, task, members, &mut PlainCrew::new(), outlet),
-        CrewKind::Pool => report(alloc, task, members, &mut PoolCrew::new(rt), outlet),
-        CrewKind::Bag => {
-            let mut crew = BagCrew::new(rt, OpenGate, options.workers);
-            report(alloc, task, members, &mut crew, outlet)
-        }
-        CrewKind::Team => match options.show {
-            Show::Members => by_watch(rt, alloc, task, members, CountRows, outlet),
-            Show::Losses => by_watch(rt, alloc, task, members, FindLosses { alloc }, outlet),
-            Show::Operations => {
-                by_watch(rt, alloc, task, members, FindOperations { alloc }, outlet)
-            }
-            Show::Links => by_watch(rt, alloc, task, members, KeepNothing, outlet),
-            Show::Trace => {
-                let watch = KeepLines {
-                    alloc,
-                    listing: TraceListing,
-                };
-                by_watch(rt, alloc, task, members, watch, outlet)
-            }
-            Show::Timers => {
-                let watch = KeepLines {
-                    alloc,
-                    listing: TimersListing,
-                };
-                by_watch(rt, alloc, task, members, watch, outlet)
-            }
-        },
-    }
-}
-
-/// The report of a task, with this crew. Its members are of any type, since no struct that keeps what is known of them can be of
-/// boxes.
-pub(crate) fn report<M: Participant, C: Crew<M>, O: Outlet>(
-    alloc: Global,
-    task: Task,
-    members: Vec<M>,
-    crew: &mut C,
-    outlet: &mut O,
-) -> Result<(), LabFault>
-    requires opening { AreOpening task.session (map M.plain members.items) }
-    requires may { MayReport C.Crew O.Outlet crew.old task.session outlet.old }
-    ensures { Reports O.Outlet task.entry (map M.plain members.items) outlet.old result outlet.new }
-{
-    let asked = Asked { task, members };
-    match task.options.show {
-        Show::Trace => write_listing(alloc, asked, crew, TraceListing, outlet),
-        Show::Members => write_members(alloc, asked, crew, outlet),
-        Show::Losses => write_losses(alloc, asked, crew, outlet),
-        Show::Operations => write_operations(alloc, asked, crew, outlet),
-        Show::Links => write_links(alloc, asked, crew, outlet),
-        Show::Timers => write_listing(alloc, asked, crew, TimersListing, outlet),
+    match options.show {
+        Show::Trace => write_listing(alloc, task, members, TraceListing, outlet),
+        Show::Members => write_members(alloc, task, members, outlet),
+        Show::Losses => write_losses(alloc, task, members, outlet),
+        Show::Operations => write_operations(alloc, task, members, outlet),
+        Show::Links => write_links(alloc, task, members, outlet),
+        Show::Timers => write_listing(alloc, task, members, TimersListing, outlet),
     }
 }
 
 // Counts the rows of each member, and writes the table of members at the end.
-fn write_members<M: Participant, C: Crew<M>, O: Outlet>(
+fn write_members<M: Participant, O: Outlet>(
     alloc: Global,
-    asked: Asked<M>,
-    crew: &mut C,
+    task: Task,
+    members: Vec<M>,
     outlet: &mut O,
 ) -> Result<(), LabFault>
-    requires may { MayReport C.Crew O.Outlet crew.old asked.task.session outlet.old }
-    ensures { Tabled O.Outlet Show.Members asked.entry.task (map M.plain asked.entry.members.items)
-        outlet.old result outlet.new }
+    requires opening { AreOpening task.session (map M.plain members.items) }
+    requires may { MayStep O.Outlet task outlet.old }
+    ensures { Tabled O.Outlet Show.Members task.entry (map M.plain members.items) outlet.old result outlet.new }
 {
-    let scenario = asked.task.session.scenario;
+    let scenario = task.session.scenario;
     let mut sink = MembersSink::new(alloc);
-    match hand_rows(alloc, asked, crew, &mut sink) {
+    match hand_rows(alloc, Asked { task, members }, &mut sink) {
         Ok(_) => write_text(sink.text(alloc, scenario), outlet),
         Err(fault) => Err(fault),
     }
 }
 
 // Finds the losses of the rows, and writes the table of losses at the end.
-fn write_losses<M: Participant, C: Crew<M>, O: Outlet>(
+fn write_losses<M: Participant, O: Outlet>(
     alloc: Global,
-    asked: Asked<M>,
-    crew: &mut C,
+    task: Task,
+    members: Vec<M>,
     outlet: &mut O,
 ) -> Result<(), LabFault>
-    requires may { MayReport C.Crew O.Outlet crew.old asked.task.session outlet.old }
-    ensures { Tabled O.Outlet Show.Losses asked.entry.task (map M.plain asked.entry.members.items)
-        outlet.old result outlet.new }
+    requires opening { AreOpening task.session (map M.plain members.items) }
+    requires may { MayStep O.Outlet task outlet.old }
+    ensures { Tabled O.Outlet Show.Losses task.entry (map M.plain members.items) outlet.old result outlet.new }
 {
-    let Session { scenario, net } = asked.task.session;
+    let Session { scenario, net } = task.session;
     // By its contract, every scenario is accepted: that makes the rows of its run orderly.
     let _ = scenario.until();
     let mut sink = LossesSink::new(alloc);
-    match hand_rows(alloc, asked, crew, &mut sink) {
+    match hand_rows(alloc, Asked { task, members }, &mut sink) {
         Ok(_) => write_text(sink.text(alloc, net), outlet),
         Err(fault) => Err(fault),
     }
 }
 
 // Finds what became of each operation that was lost, and writes the table of operations at the end.
-fn write_operations<M: Participant, C: Crew<M>, O: Outlet>(
+fn write_operations<M: Participant, O: Outlet>(
     alloc: Global,
-    asked: Asked<M>,
-    crew: &mut C,
+    task: Task,
+    members: Vec<M>,
     outlet: &mut O,
 ) -> Result<(), LabFault>
-    requires may { MayReport C.Crew O.Outlet crew.old asked.task.session outlet.old }
-    ensures { Tabled O.Outlet Show.Operations asked.entry.task (map M.plain asked.entry.members.items)
-        outlet.old result outlet.new }
+    requires opening { AreOpening task.session (map M.plain members.items) }
+    requires may { MayStep O.Outlet task outlet.old }
+    ensures { Tabled O.Outlet Show.Operations task.entry (map M.plain members.items) outlet.old result outlet.new }
 {
-    let Session { scenario, net } = asked.task.session;
+    let Session { scenario, net } = task.session;
     // By its contract, every scenario is accepted: that makes the rows of its run orderly.
     let _ = scenario.until();
     let mut sink = OperationsSink::new(alloc);
-    match hand_rows(alloc, asked, crew, &mut sink) {
+    match hand_rows(alloc, Asked { task, members }, &mut sink) {
         Ok(_) => write_text(sink.text(alloc, net), outlet),
         Err(fault) => Err(fault),
     }
 }
 
 // Writes the table of links at the end, of the totals alone.
-fn write_links<M: Participant, C: Crew<M>, O: Outlet>(
+fn write_links<M: Participant, O: Outlet>(
     alloc: Global,
-    asked: Asked<M>,
-    crew: &mut C,
+    task: Task,
+    members: Vec<M>,
     outlet: &mut O,
 ) -> Result<(), LabFault>
-    requires may { MayReport C.Crew O.Outlet crew.old asked.task.session outlet.old }
-    ensures { Tabled O.Outlet Show.Links asked.entry.task (map M.plain asked.entry.members.items)
-        outlet.old result outlet.new }
+    requires opening { AreOpening task.session (map M.plain members.items) }
+    requires may { MayStep O.Outlet task outlet.old }
+    ensures { Tabled O.Outlet Show.Links task.entry (map M.plain members.items) outlet.old result outlet.new }
 {
     let mut sink = NoRows::new();
-    match hand_rows(alloc, asked, crew, &mut sink) {
+    match hand_rows(alloc, Asked { task, members }, &mut sink) {
         Ok(totals) => write_text(links_text(alloc, &totals), outlet),
         Err(fault) => Err(fault),
     }

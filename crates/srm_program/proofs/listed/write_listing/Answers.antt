@@ -14,7 +14,7 @@ pub returns : goal.returns
 returns g c =
     let made = c.gathering-sink.ensures in
     let first = c.gathering-sink.result in
-    let told = c.flushed-answer.ensures.listed c.args.asked.task (map g.M.Participant.plain c.args.asked.members.items) first
+    let told = c.flushed-answer.ensures.listed c.args.task (map g.M.Participant.plain c.args.members.items) first
     (record { stage = made.stage; gathered = made.gathered; room = made.room; written = made.written }) c.hand_rows-handed.ensures in
     let end : outlet_under c.flushed-answer.new.sink ≡ c.outlet-1.given.0 = search rules in
     rw (made.same, end) at told

@@ -7,14 +7,14 @@ pub returns-in-Ok : goal.returns-in-Ok
 returns-in-Ok g c = record {
   failures = search;
   table = λ seed h.
-      let p = c.args.asked.task.session.scenario.now in
-      let net = c.args.asked.task.session.net.now in
+      let p = c.args.task.session.scenario.now in
+      let net = c.args.task.session.net.now in
       let t = (c.in-Ok.ensures.rows seed h).0 in
       table_told p net seed Links t.0 t.1 _ t.2 _ _ c.write_text.result
       (c.write_text.ensures.taken (links_table c.in-Ok.totals) c.links_text.ensures);
   refused = λ seed h.
-      let p = c.args.asked.task.session.scenario.now in
-      let net = c.args.asked.task.session.net.now in
-      asked_told p net seed c.args.asked.task.options (c.in-Ok.ensures.rows seed h).1 _ _ _ c.write_text.result
+      let p = c.args.task.session.scenario.now in
+      let net = c.args.task.session.net.now in
+      asked_told p net seed c.args.task.options (c.in-Ok.ensures.rows seed h).1 _ _ _ c.write_text.result
       (c.write_text.ensures.taken (links_table c.in-Ok.totals) c.links_text.ensures);
 }

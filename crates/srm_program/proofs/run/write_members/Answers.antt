@@ -8,15 +8,15 @@ pub returns-in-Ok : goal.returns-in-Ok
 returns-in-Ok g c = record {
   failures = search;
   table = λ seed h.
-      let p = c.args.asked.task.session.scenario.now in
-      let net = c.args.asked.task.session.net.now in
+      let p = c.args.task.session.scenario.now in
+      let net = c.args.task.session.net.now in
       let t = (c.in-Ok.ensures.rows seed h).0 in
       table_told p net seed Members t.0 t.1 _ t.2 _ _ c.write_text.result
       (c.write_text.ensures.taken (members_table p t.0) (c.text.ensures t.0 (t.3 [] c.new-sink.ensures.counted)));
   refused = λ seed h.
-      let p = c.args.asked.task.session.scenario.now in
-      let net = c.args.asked.task.session.net.now in
+      let p = c.args.task.session.scenario.now in
+      let net = c.args.task.session.net.now in
       let t = (c.in-Ok.ensures.rows seed h).0 in
-      asked_told p net seed c.args.asked.task.options (c.in-Ok.ensures.rows seed h).1 _ _ _ c.write_text.result
+      asked_told p net seed c.args.task.options (c.in-Ok.ensures.rows seed h).1 _ _ _ c.write_text.result
       (c.write_text.ensures.taken (members_table p t.0) (c.text.ensures t.0 (t.3 [] c.new-sink.ensures.counted)));
 }
