@@ -9,7 +9,8 @@ use Rattle.srm_crew.proofs.watching.advance_one.Goals as goal
 pub of-requires-clause-many : goal.of-requires-clause-many
 of-requires-clause-many g c =
     let may = c.requires.job in
-    as_many_kept g.M.Participant.plain (length c.args.session.net.now.hosts) (traffic_of c.args.session.scenario.now c.args.session.net.now) c.args.job
+    as_many_kept g.M.Participant.plain (length c.args.session.net.now.hosts) (traffic_of c.args.session.scenario.now
+    c.args.session.net.now) c.args.job
     c.in-Ok.done may c.requires.kept (c.in-Ok.ensures.tells may.plain_job may.is)
 
 pub of-requires-clause-sent : goal.of-requires-clause-sent
@@ -18,7 +19,8 @@ of-requires-clause-sent g c =
     let hosts : length c.args.session.net.now.hosts ≡ length c.args.session.scenario.now.members =
     ap (λ n. length n.hosts) c.args.session.network ∙ length-map c.args.session.scenario.now.members (λ m. m.node) in
     subst (λ n. All (λ (rs : List Row). All (λ (r : Row). IsSentBelow n r.sent) rs) c.in-Ok.done.rows.items) hosts
-    (sent_below g.M.Participant.plain (length c.args.session.net.now.hosts) (traffic_of c.args.session.scenario.now c.args.session.net.now) c.args.job
+    (sent_below g.M.Participant.plain (length c.args.session.net.now.hosts) (traffic_of c.args.session.scenario.now
+    c.args.session.net.now) c.args.job
     c.in-Ok.done may (c.in-Ok.ensures.tells may.plain_job may.is))
 
 pub returns : goal.returns
