@@ -14,10 +14,8 @@ use srm_crew::watch_team::WatchTeam;
 use srm_crew::watching::Watching;
 use srm_crew::worked::Worked;
 use srm_interfaces::watch_crew::WatchCrew;
-use srm_interfaces::watched::{WatchedDone, WatchedJob};
 use srm_member::participant::Participant;
 use srm_report::outlet::Outlet;
-use srm_scenario::session::Session;
 use srm_team::bench::{Bench, serve_all};
 use srm_team::naming::Naming;
 use srm_team::opened::Opened;
@@ -121,7 +119,7 @@ fn by_team<
 >(
     rt: &R,
     alloc: Global,
-    opened: Opened<Watching<'a, W>, Piece<M, WatchedJob<M, K>>>,
+    opened: Opened<Watching<'a, W>, Piece<M, K>>,
     asked: Asked<'a, M>,
     watch: W,
     outlet: &mut O,
@@ -131,17 +129,13 @@ fn by_team<
     ensures { Reports O.Outlet asked.entry.task (map M.plain asked.entry.members.items) outlet.old result outlet.new }
 {
     let Asked { task, members } = asked;
-    let Session { scenario, net } = task.session;
     let work = Watching {
         alloc,
-        scenario,
-        net,
+        session: task.session,
         watch,
     };
     let pieces = PIECES * usize::from(task.options.workers);
-    match open_team::<Watching<W>, Piece<M, WatchedJob<M, K>>, Worked<M, WatchedDone<M, K>>, J>(
-        alloc, opened, pieces,
-    ) {
+    match open_team::<Watching<W>, Piece<M, K>, Worked<M, K>, J>(alloc, opened, pieces) {
         Ok((team, bench)) => {
             let crew = WatchTeam::new(rt, team, work, ENOUGH);
             lead_beside(rt, alloc, &bench, &task, watch, (crew, members), outlet)

@@ -16,7 +16,8 @@ work_in_team-requires-clause-few g c =
 
 pub work_in_team-requires-clause-ready : goal.work_in_team-requires-clause-ready
 work_in_team-requires-clause-ready g c =
-    jobs_may g.M.Participant.plain (g.W.Watch.keeps c.args.work.watch) c.args.work.session.scenario.now c.args.work.session.net.now c.in-Ok.pieces.items
+    jobs_may g.M.Participant.plain (g.W.Watch.keeps c.args.work.watch) c.args.work.session.scenario.now c.args.work.session.net.now
+    c.in-Ok.pieces.items
     c.in-Ok-to_advance.given.items
     c.in-Ok-to_advance.ensures
     (watch_pieces g.M.Participant.plain c.args.work.session.scenario.now c.args.work.session.net.now c.in-Ok.pieces.items c.args.jobs.items
@@ -24,7 +25,8 @@ work_in_team-requires-clause-ready g c =
 
 pub advanced_of-requires : goal.advanced_of-requires
 advanced_of-requires g c =
-    jobs_advanced g.M.Participant.plain (g.W.Watch.keeps c.args.work.watch) c.args.work.session.scenario.now c.args.work.session.net.now c.in-Ok.pieces.items
+    jobs_advanced g.M.Participant.plain (g.W.Watch.keeps c.args.work.watch) c.args.work.session.scenario.now
+    c.args.work.session.net.now c.in-Ok.pieces.items
     c.in-Ok-to_advance.given.items
     c.in-Ok-work_in_team.all.items c.in-Ok-to_advance.ensures c.in-Ok-work_in_team.ensures.given
 

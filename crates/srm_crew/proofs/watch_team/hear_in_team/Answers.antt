@@ -13,7 +13,8 @@ use Rattle.srm_crew.proofs.watch_team.hear_in_team.Goals as goal
 
 pub hear_groups-requires-clause-groups : goal.hear_groups-requires-clause-groups
 hear_groups-requires-clause-groups g c =
-    subst (λ xs. GroupsMayHear g.M.Participant.plain (traffic_of c.args.work.session.scenario.now c.args.work.session.net.now) (packets_in xs)
+    subst (λ xs. GroupsMayHear g.M.Participant.plain (traffic_of c.args.work.session.scenario.now c.args.work.session.net.now)
+    (packets_in xs)
     c.args.groups.items) (sym c.as_slice.ensures.value) c.requires.groups
 
 pub work_in_team-requires-clause-few : goal.work_in_team-requires-clause-few
@@ -39,7 +40,8 @@ work_in_team-requires-clause-ready g c =
 
 pub heard_of-requires : goal.heard_of-requires
 heard_of-requires g c =
-    hearers_heard g.M.Participant.plain (g.W.Watch.keeps c.args.work.watch) c.args.work.session.scenario.now c.args.work.session.net.now c.args.sent.items
+    hearers_heard g.M.Participant.plain (g.W.Watch.keeps c.args.work.watch) c.args.work.session.scenario.now
+    c.args.work.session.net.now c.args.sent.items
     c.in_ok-pieces.pieces.items
     c.in_ok-given.given.items c.in_ok-all.all.items c.in_ok-given.ensures c.in_ok-all.ensures.given
 

@@ -15,7 +15,8 @@ loop-job-init g c = (
   rw c.into_iter-job-iterator.ensures.into_iter_gives.0 c.requires.0,
   rw c.into_iter-job-iterator.ensures.into_iter_gives.0 c.requires.1,
   rw (c.into_iter-job-iterator.ensures.into_iter_gives.0, c.new-all.ensures.items)
-      (watched_none g.M.Participant.plain (g.W.Watch.keeps c.args.watch.now) c.args.session.scenario.now c.args.session.net.now c.args.jobs.items),
+      (watched_none g.M.Participant.plain (g.W.Watch.keeps c.args.watch.now) c.args.session.scenario.now c.args.session.net.now
+      c.args.jobs.items),
 )
 
 pub advance_one-requires-clause-job : goal.advance_one-requires-clause-job
@@ -34,13 +35,15 @@ loop-job-preserved g c =
       All-tail (λ j. MayAdvance g.M.Participant.plain (length c.args.session.net.now.hosts) j) _ _
           (rw c.in-Some.ensures.steps.0 at c.loop-job.invariant.2),
       All-tail HaveKept _ _ (rw c.in-Some.ensures.steps.0 at c.loop-job.invariant.3),
-      rw all (watched_more g.M.Participant.plain (g.W.Watch.keeps c.args.watch.now) c.args.session.scenario.now c.args.session.net.now c.args.jobs.items
+      rw all (watched_more g.M.Participant.plain (g.W.Watch.keeps c.args.watch.now) c.args.session.scenario.now
+          c.args.session.net.now c.args.jobs.items
           c.loop-job.all.items c.in-Some.job (into_iter_items c.next.new.self) c.in-Ok.done
           (rw c.in-Some.ensures.steps.0 at c.loop-job.invariant.4) c.in-Ok.ensures),
     )
 
 pub returns-in-Err : goal.returns-in-Err
-returns-in-Err g c = watched_fault g.M.Participant.plain (g.W.Watch.keeps c.args.watch.now) c.args.session.scenario.now c.args.session.net.now
+returns-in-Err g c = watched_fault g.M.Participant.plain (g.W.Watch.keeps c.args.watch.now) c.args.session.scenario.now
+    c.args.session.net.now
     c.args.jobs.items c.loop-job.all.items c.in-Some.job (into_iter_items c.next.new.self) c.in-Err.fault
     (rw c.in-Some.ensures.steps.0 at c.loop-job.invariant.4) c.in-Err.ensures
 
@@ -51,5 +54,6 @@ pub returns : goal.returns
 returns g c =
     let ok = c.loop-job.job-iterator.rest.ok in
     let none : into_iter_items c.loop-job.job-iterator ≡ [] = grind (arith, common_steps) in
-    watched_all g.M.Participant.plain (g.W.Watch.keeps c.args.watch.now) c.args.session.scenario.now c.args.session.net.now c.args.jobs.items
+    watched_all g.M.Participant.plain (g.W.Watch.keeps c.args.watch.now) c.args.session.scenario.now c.args.session.net.now
+    c.args.jobs.items
     c.loop-job.all.items (into_iter_items c.loop-job.job-iterator) c.loop-job.invariant.4 none

@@ -22,12 +22,14 @@ loop-own-init g c =
 
 pub of-requires-clause-many : goal.of-requires-clause-many
 of-requires-clause-many g c =
-    (next_may (g.W.Watch.keeps c.args.watch.now) c.args.session.scenario.now c.args.session.net.now _ _ c.in-Some.own.items _ c.in-Some.done _
+    (next_may (g.W.Watch.keeps c.args.watch.now) c.args.session.scenario.now c.args.session.net.now _ _ c.in-Some.own.items _
+    c.in-Some.done _
     (ap (map (λ (v : Vec _). v.items)) c.in-Some.ensures.steps.0.0) c.in-Some.ensures.steps.1.0 c.loop-own.invariant.2.may).0
 
 pub of-requires-clause-sent : goal.of-requires-clause-sent
 of-requires-clause-sent g c =
-    (next_may (g.W.Watch.keeps c.args.watch.now) c.args.session.scenario.now c.args.session.net.now _ _ c.in-Some.own.items _ c.in-Some.done _
+    (next_may (g.W.Watch.keeps c.args.watch.now) c.args.session.scenario.now c.args.session.net.now _ _ c.in-Some.own.items _
+    c.in-Some.done _
     (ap (map (λ (v : Vec _). v.items)) c.in-Some.ensures.steps.0.0) c.in-Some.ensures.steps.1.0 c.loop-own.invariant.2.may).1
 
 pub loop-own-preserved : goal.loop-own-preserved
@@ -36,7 +38,8 @@ loop-own-preserved g c =
       (tt, tt),
       tt,
       rw c.in_ok-push.ensures.items
-          (left_more keeps c.args.session.scenario.now c.args.session.net.now _ _ c.loop-own.left.items _ _ c.in-Some.own.items _ c.in-Some.done _
+          (left_more keeps c.args.session.scenario.now c.args.session.net.now _ _ c.loop-own.left.items _ _ c.in-Some.own.items _
+          c.in-Some.done _
           c.in_ok-one.one (ap (map (λ (v : Vec _). v.items)) c.in-Some.ensures.steps.0.0) c.in-Some.ensures.steps.1.0
           c.loop-own.invariant.2 c.in_ok-one.ensures),
     )
@@ -44,7 +47,8 @@ loop-own-preserved g c =
 pub returns : goal.returns
 returns g c =
     let it = c.loop-own.own-iterator in
-    left_all (g.W.Watch.keeps c.args.watch.now) c.args.session.scenario.now c.args.session.net.now _ _ c.loop-own.left.items _ _ c.loop-own.invariant.2
+    left_all (g.W.Watch.keeps c.args.watch.now) c.args.session.scenario.now c.args.session.net.now _ _ c.loop-own.left.items _ _
+    c.loop-own.invariant.2
     (elim c.in-None.ensures.steps [
       | inl w ↦ inl (ap (map (λ (v : Vec _). v.items)) (no_items (zip_first it) w.1.0))
       | inr w ↦ inr (no_items (zip_second it) w.1.0)

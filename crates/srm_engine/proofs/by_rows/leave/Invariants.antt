@@ -10,5 +10,6 @@ abbrev pub invariant-loop-own : goal.invariant-loop-own
 invariant-loop-own g l =
     (goal.iterator-loop-own g).can_next l.own-iterator
     × (goal.iterator-loop-own g).is_finite l.own-iterator
-    × LeftSoFar (g.W.Watch.keeps l.watch) l.session.scenario.now l.session.net.now (map (λ (v : Vec _). v.items) l.fn.kept.items) l.fn.all.items l.left.items
+    × LeftSoFar (g.W.Watch.keeps l.watch) l.session.scenario.now l.session.net.now (map (λ (v : Vec _). v.items) l.fn.kept.items)
+    l.fn.all.items l.left.items
     (map (λ (v : Vec _). v.items) (into_iter_items (zip_first l.own-iterator))) (into_iter_items (zip_second l.own-iterator))

@@ -42,7 +42,8 @@ loop-row-preserved c =
             ∙ ap (λ l. l ++ w.in-Some.packet ∷ []) c.loop-row.invariant.0
             ∙ one_more ps rows i r w.in-Some.packet c.loop-row-test.true c.row-item.is w.in-Some.is,
         subst (All (λ x. IsSent c.args.session.scenario.now c.args.session.net.now x)) (sym w.in_ok-push.ensures.items)
-            (All-push (λ x. IsSent c.args.session.scenario.now c.args.session.net.now x) c.loop-row.all.items w.in_ok-sent.sent c.loop-row.invariant.1
+            (All-push (λ x. IsSent c.args.session.scenario.now c.args.session.net.now x) c.loop-row.all.items w.in_ok-sent.sent
+            c.loop-row.invariant.1
             w.in_ok-sent.ensures.sent),
       )
       | in_default w ↦ rw w.all-is (

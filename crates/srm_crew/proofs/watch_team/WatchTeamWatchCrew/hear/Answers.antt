@@ -17,5 +17,6 @@ hear_in_team-requires-clause-groups g c =
 
 pub hear_groups-requires-clause-groups : goal.hear_groups-requires-clause-groups
 hear_groups-requires-clause-groups g c =
-    subst (λ xs. GroupsMayHear g.M.Participant.plain (traffic_of c.args.session.scenario.now c.args.session.net.now) (packets_in xs) c.args.groups.items)
+    subst (λ xs. GroupsMayHear g.M.Participant.plain (traffic_of c.args.session.scenario.now c.args.session.net.now) (packets_in
+    xs) c.args.groups.items)
     (sym c.as_slice-then-saturating_mul-lt-ENOUGH.ensures.value) c.requires.groups

@@ -13,7 +13,8 @@ settle_watched-requires-clause-long g c =
       | then-due_in_all-self w ↦ rw w.advanced-is w.advance_watched-advanced.ensures
       | else-due_in_all-self w ↦ rw w.advanced-is (watched_as g.M.Participant.plain keeps c.args.self.now.work.session.scenario.now
           c.args.session.scenario.now
-          c.args.self.now.work.session.net.now c.args.session.net.now c.args.jobs.items w.advance_in_team-advanced.result c.requires.serves.0
+          c.args.self.now.work.session.net.now c.args.session.net.now c.args.jobs.items w.advance_in_team-advanced.result
+          c.requires.serves.0
           c.requires.serves.1 w.advance_in_team-advanced.ensures.advanced)
     ] in
     settled_long g.M.Participant.plain c.args.session.scenario.now c.args.session.net.now keeps c.args.jobs.items c.args.ledger.now.links
@@ -28,7 +29,8 @@ returns-clause-done g c =
       | then-due_in_all-self w ↦ rw w.advanced-is w.advance_watched-advanced.ensures
       | else-due_in_all-self w ↦ rw w.advanced-is (watched_as g.M.Participant.plain keeps c.args.self.now.work.session.scenario.now
           c.args.session.scenario.now
-          c.args.self.now.work.session.net.now c.args.session.net.now c.args.jobs.items w.advance_in_team-advanced.result c.requires.serves.0
+          c.args.self.now.work.session.net.now c.args.session.net.now c.args.jobs.items w.advance_in_team-advanced.result
+          c.requires.serves.0
           c.requires.serves.1 w.advance_in_team-advanced.ensures.advanced)
     ] in
     maps_settled g.M.Participant.plain c.args.session.scenario.now c.args.session.net.now keeps c.args.seat c.args.jobs.items

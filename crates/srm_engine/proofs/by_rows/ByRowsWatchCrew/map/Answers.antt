@@ -56,7 +56,8 @@ returns-in-Ok-leave-clause-done g c =
     let net = c.args.session.net.now in
     let keeps = g.W.Watch.keeps c.args.watch in
     let ds = c.in-Ok-map.done.0.items in
-    let hosts : length net.hosts ≡ length k.members = ap (λ n. length n.hosts) c.args.session.network ∙ length-map k.members (λ m. m.node) in
+    let hosts : length net.hosts ≡ length k.members = ap (λ n. length n.hosts) c.args.session.network ∙ length-map k.members (λ m.
+    m.node) in
     let some = some_jobs f k (traffic_of k net) js (subst (λ n. All (λ j. MayAdvance f n j) (jobs_in js)) hosts c.requires.may.jobs) in
     let as_crew : (ps : List PlainJob) → AreJobs f (jobs_in js) ps → AreJobs f c.in-Ok.jobs.items ps =
     λ ps h. subst (λ l. AreJobs f l ps) (sym c.in-Ok.ensures.jobs) h in (
