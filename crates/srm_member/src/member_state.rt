@@ -18,12 +18,12 @@ use crate::fixed::Fixed;
 use crate::held::Held;
 use crate::interval::Interval;
 use crate::intervals::Intervals;
-use crate::named::Named;
 use crate::outcome::Outcome;
 use crate::pages::Pages;
 use crate::pending::Pending;
 use crate::progress::Progress;
 use crate::react::React;
+use crate::rising::Rising;
 use crate::timers::draw;
 use crate::told::Told;
 use rand_core::utils::NextWord;
@@ -43,7 +43,7 @@ pub struct MemberState {
     progress: Pages,
     held: Held,
     pending: Pending,
-    rests: Named<u64>,
+    rests: Rising<u64>,
     words: Lcg64Xsh32,
     request_interval: Interval,
     repair_interval: Interval,
@@ -88,7 +88,7 @@ impl MemberState {
             progress: Pages::new(alloc),
             held: Held::new(alloc),
             pending: Pending::new(alloc),
-            rests: Named::new(alloc),
+            rests: Rising::new(alloc),
         }
     }
 
