@@ -1,5 +1,5 @@
 //! What an active member knows, and how it answers.
-ghost use Rattle.std.specs.Prelude.{◌≡◌, ◌+◌, ◌-◌, ◌<◌, ◌≤◌, ◌^◌, [], ◌∷◌, ◌++◌, IsTrue, IfOk, OnOk, Some, None};
+ghost use Rattle.std.specs.Prelude.{◌≡◌, ◌⊎◌, ◌+◌, ◌-◌, ◌<◌, ◌≤◌, ◌^◌, [], ◌∷◌, ◌++◌, IsTrue, IfOk, OnOk, Some, None};
 ghost use Rattle.srm_net.specs.Limits.{end_of_time, greatest_distance};
 ghost use Rattle.std.specs.FinMap.Entries.{find};
 ghost use Rattle.srm_net.specs.Names;
@@ -8,7 +8,7 @@ ghost use Rattle.srm_member.specs.Backoff.{span_by};
 ghost use Rattle.srm_member.specs.Intervals.{greatest_adapted};
 ghost use Rattle.srm_member.specs.Record.{opening_state, exit_of, earliest, timers_of};
 ghost use Rattle.srm_net.specs.Roles.{is_late};
-ghost use Rattle.srm_member.specs.React.{distance_to, length_in, with_next_word, request_length, repair_length, with_request_delay, back_off, wants, begins_at, meet, lose_one, lose_from, with_losses_begun, lose_below, names_from, lost_below, with_mending_seen, hear_data, base, with_rest, is_at_rest, after_repair_delay, with_repair_seen, hear_repair, with_repairs_begun, with_repair_timer, hear_request_of_missing, hear_request_of_held, hear_request, after_entry, lost_by_entry, hear_session, hear_body, with_request_first, expire_request, with_repair_first, expire_repair, own_progress, draw_operation, session_of, send_body, intervals_of, adapted_since, with_adapted};
+ghost use Rattle.srm_member.specs.React.{distance_to, length_in, with_next_word, request_length, repair_length, with_request_delay, back_off, wants, begins_at, meet, with_progress, lose_one, lose_from, with_losses_begun, lose_below, names_from, lost_below, with_mending_seen, hear_data, base, with_rest, is_at_rest, after_repair_delay, with_repair_seen, hear_repair, with_repairs_begun, with_repair_timer, hear_request_of_missing, hear_request_of_held, hear_request, after_entry, lost_by_entry, hear_session, hear_body, with_request_first, expire_request, with_repair_first, expire_repair, own_progress, draw_operation, session_of, send_body, intervals_of, adapted_since, with_adapted};
 ghost use Rattle.srm_member.specs.Fit.{IsBounded, Gives};
 
 use crate::due::Due;
@@ -248,10 +248,11 @@ impl MemberState {
         }
     }
 
-    // How far the member follows a page, which it may meet here for the first time.
+    // How far the member follows a page, which it may meet here for the first time: then it begins here or earlier.
     fn meet(&self, page: PageId, begin: u64) -> Progress
         requires { begin ≤ 2 ^ 32 }
-        ensures { result ≡ meet self.now page begin }
+        ensures value { result ≡ meet self.now page begin }
+        ensures known { (begin < result.floor) ⊎ (begin < result.next) → with_progress page result self.now ≡ self.now }
     {
         match self.progress.get(page) {
             Some(progress) => progress,
@@ -260,6 +261,22 @@ impl MemberState {
                 Progress::new(begin, begin)
             }
         }
+    }
+
+    // The same, where the member follows the page from here on.
+    fn follow(&mut self, page: PageId, begin: u64) -> Result<Progress, AllocError>
+        requires { begin ≤ 2 ^ 32 }
+        ensures value { IfOk result (λ s. s ≡ meet self.old page begin) }
+        ensures ok { IfOk result (λ s. self.new ≡ with_progress page s self.old) }
+        ensures fixed { self.new.fixed ≡ self.old.fixed }
+    {
+        if let Some(progress) = self.progress.get(page) {
+            return Ok(progress);
+        }
+        let begin = self.begins_at(page, begin);
+        let progress = Progress::new(begin, begin);
+        self.progress.put(page, progress)?;
+        Ok(progress)
     }
 
     // A period of request timers begins, if an event loses numbers of a page below `n`, and lost none before.
@@ -315,7 +332,6 @@ impl MemberState {
         let number = u64::from(name.number);
         let progress = self.meet(page, number);
         if number < progress.floor() {
-            self.progress.put(page, progress)?;
             return Ok(Outcome::quiet(Told::Skip, Sequence::new(alloc)));
         }
         if number >= progress.next() {
@@ -324,7 +340,6 @@ impl MemberState {
             self.held.put(name, ink)?;
             return Ok(Outcome::quiet(Told::Fresh, lost));
         }
-        self.progress.put(page, progress)?;
         if let Some(missing) = self.pending.missing(name) {
             if repaired {
                 self.take_in_request_delay(at, name, missing);
@@ -501,8 +516,7 @@ impl MemberState {
     {
         let page = page_of(name);
         let number = u64::from(name.number);
-        let progress = self.meet(page, number + 1);
-        self.progress.put(page, progress)?;
+        let progress = self.follow(page, number + 1)?;
         if number < progress.floor() {
             return Ok(Outcome::quiet(Told::Skip, Sequence::new(alloc)));
         }
