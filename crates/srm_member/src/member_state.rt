@@ -9,7 +9,7 @@ ghost use Rattle.srm_member.specs.Intervals.{greatest_adapted};
 ghost use Rattle.srm_member.specs.Record.{opening_state, exit_of, earliest, timers_of};
 ghost use Rattle.srm_net.specs.Roles.{is_late};
 ghost use Rattle.srm_member.specs.React.{distance_to, length_in, with_next_word, request_length, repair_length, with_request_delay, back_off, wants, begins_at, meet, with_progress, lose_one, lose_from, with_losses_begun, lose_below, names_from, lost_below, with_mending_seen, hear_data, base, with_rest, is_at_rest, after_repair_delay, with_repair_seen, hear_repair, with_repairs_begun, with_repair_timer, hear_request_of_missing, hear_request_of_held, hear_request, after_entry, lost_by_entry, hear_session, hear_body, with_request_first, expire_request, with_repair_first, expire_repair, own_progress, draw_operation, session_of, send_body, intervals_of, adapted_since, with_adapted};
-ghost use Rattle.srm_member.specs.Fit.{IsBounded, Gives};
+ghost use Rattle.srm_member.specs.Fit.{IsBounded, Acts, Gives};
 
 use crate::due::Due;
 use crate::entries::{Missing, Repairing};
@@ -325,8 +325,7 @@ impl MemberState {
         repaired: bool,
     ) -> Result<Outcome, AllocError>
         requires { at < end_of_time }
-        ensures ok { IfOk result (λ a. Gives a self.new (hear_data at name ink repaired self.old)) }
-        ensures fixed { self.new.fixed ≡ self.old.fixed }
+        ensures { Acts self.old (hear_data at name ink repaired self.old) result self.new }
     {
         let page = page_of(name);
         let number = u64::from(name.number);
@@ -419,8 +418,7 @@ impl MemberState {
         who: u16,
     ) -> Result<Outcome, AllocError>
         requires { at < end_of_time }
-        ensures ok { IfOk result (λ a. Gives a self.new (hear_repair at name ink who self.old)) }
-        ensures fixed { self.new.fixed ≡ self.old.fixed }
+        ensures { Acts self.old (hear_repair at name ink who self.old) result self.new }
     {
         let outcome = self.hear_data(alloc, at, name, ink, true)?;
         if matches!(outcome.told(), Told::Skip) {
@@ -463,8 +461,7 @@ impl MemberState {
         lost: Sequence<Name>,
     ) -> Result<Outcome, AllocError>
         requires { at < end_of_time }
-        ensures ok { IfOk result (λ a. Gives a self.new (hear_request_of_missing at name lost self.old)) }
-        ensures fixed { self.new.fixed ≡ self.old.fixed }
+        ensures { Acts self.old (hear_request_of_missing at name lost self.old) result self.new }
     {
         match self.pending.missing(name) {
             None => Ok(Outcome::quiet(Told::Hold, lost)),
@@ -488,8 +485,7 @@ impl MemberState {
         who: u16,
     ) -> Result<Outcome, AllocError>
         requires { at < end_of_time }
-        ensures ok { IfOk result (λ a. Gives a self.new (hear_request_of_held at name who self.old)) }
-        ensures fixed { self.new.fixed ≡ self.old.fixed }
+        ensures { Acts self.old (hear_request_of_held at name who self.old) result self.new }
     {
         if self.is_at_rest(at, name) {
             return Ok(Outcome::quiet(Told::Rest, Sequence::new(alloc)));
@@ -511,8 +507,7 @@ impl MemberState {
         who: u16,
     ) -> Result<Outcome, AllocError>
         requires { at < end_of_time }
-        ensures ok { IfOk result (λ a. Gives a self.new (hear_request at name who self.old)) }
-        ensures fixed { self.new.fixed ≡ self.old.fixed }
+        ensures { Acts self.old (hear_request at name who self.old) result self.new }
     {
         let page = page_of(name);
         let number = u64::from(name.number);
@@ -565,8 +560,7 @@ impl MemberState {
         heard: &[Heard],
     ) -> Result<Outcome, AllocError>
         requires { at < end_of_time }
-        ensures ok { IfOk result (λ a. Gives a self.new (hear_session at heard.now self.old [])) }
-        ensures fixed { self.new.fixed ≡ self.old.fixed }
+        ensures { Acts self.old (hear_session at heard.now self.old []) result self.new }
     {
         let mut lost = Sequence::new(alloc);
         for entry in heard {
@@ -578,8 +572,7 @@ impl MemberState {
     /// Takes in a packet.
     pub fn hear(&mut self, alloc: Global, at: u64, packet: &Packet) -> Result<Outcome, AllocError>
         requires { at < end_of_time }
-        ensures ok { IfOk result (λ a. Gives a self.new (hear_body at packet.now.id.sender packet.now.body self.old)) }
-        ensures fixed { self.new.fixed ≡ self.old.fixed }
+        ensures { Acts self.old (hear_body at packet.now.id.sender packet.now.body self.old) result self.new }
     {
         let who = packet.id.sender;
         match &packet.body {
@@ -603,8 +596,7 @@ impl MemberState {
     #[tactic(auto, unfolding(crate::specs::React::expire_request))]
     pub fn ask(&mut self, alloc: Global, at: u64, name: Name) -> Result<Outcome, AllocError>
         requires { at < end_of_time }
-        ensures ok { IfOk result (λ a. Gives a self.new (expire_request at name self.old)) }
-        ensures fixed { self.new.fixed ≡ self.old.fixed }
+        ensures { Acts self.old (expire_request at name self.old) result self.new }
     {
         match self.pending.missing(name) {
             None => Ok(Outcome::quiet(Told::Skip, Sequence::new(alloc))),
@@ -629,8 +621,7 @@ impl MemberState {
     #[tactic(auto, unfolding(crate::specs::React::expire_repair))]
     pub fn answer(&mut self, alloc: Global, at: u64, name: Name) -> Result<Outcome, AllocError>
         requires { at < end_of_time }
-        ensures ok { IfOk result (λ a. Gives a self.new (expire_repair at name self.old)) }
-        ensures fixed { self.new.fixed ≡ self.old.fixed }
+        ensures { Acts self.old (expire_repair at name self.old) result self.new }
     {
         match self.pending.repair(name) {
             None => Ok(Outcome::quiet(Told::Skip, Sequence::new(alloc))),
@@ -657,8 +648,7 @@ impl MemberState {
     /// A sender draws, up to 4,096 (`MOST_DRAWN`) operations on a page.
     #[tactic(auto, unfolding(crate::specs::React::draw_operation))]
     pub fn draw_op(&mut self, alloc: Global, page: u16, ink: u32) -> Result<Outcome, AllocError>
-        ensures ok { IfOk result (λ a. Gives a self.new (draw_operation page ink self.old)) }
-        ensures fixed { self.new.fixed ≡ self.old.fixed }
+        ensures { Acts self.old (draw_operation page ink self.old) result self.new }
     {
         let source = self.fixed.member;
         let place = PageId { source, page };
