@@ -16,9 +16,10 @@ IsBounded f = All (λ d. d ≤ greatest_distance) f.dist
 abbrev pub Gives : React → MemberState → Reaction → Type 0
 Gives a after r = (a ≡ r.answer) × (after ≡ r.state)
 
--- a call gives that, or is refused memory: what the member knew before it, what it is to give, its result, and what the member then
--- knows, of which the fixed part stays in either case
-pub record Acts {E : Type 0} (before : MemberState) (r : Reaction) (result : Result React E) (after : MemberState) : Type 0 where
+-- a call gives that, or is refused memory: what the member knew before it, what it is to give, its result, and what the
+-- member then knows, of which the fixed part stays in either case
+pub record Acts {E : Type 0} (before : MemberState) (r : Reaction) (result : Result React E)
+    (after : MemberState) : Type 0 where
   pub ok : IfOk result (λ a. Gives a after r)
   pub fixed : after.fixed ≡ before.fixed
 

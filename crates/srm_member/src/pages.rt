@@ -48,7 +48,11 @@ impl Pages {
     fn place(&self, page: PageId) -> usize
         ensures { IsPlaceOf page_cmp page self.now result }
     {
-        self.entries.as_slice().partition_point(
+        let entries = self.entries.as_slice();
+        if self.is_at(0, page) {
+            return 0;
+        }
+        entries.partition_point(
             |entry: &(PageId, Progress)| -> bool
                 ensures { result ≡ is_before page_cmp page entry.now }
             { entry.0 < page },
