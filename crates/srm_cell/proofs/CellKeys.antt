@@ -1,5 +1,5 @@
 -- No two events that a cell has pending have one key.
-use Rattle.std.proofs.Common.{◌≡◌, ◌≢◌, ℕ, T, List, [], ◌∷◌, ◌++◌, map, refl, sym, ap, ◌∙◌, inl, inr, arith, Less, Equal}
+use Rattle.std.proofs.Common.{◌≡◌, ◌≢◌, ℕ, T, List, [], ◌∷◌, ◌++◌, map, refl, sym, ap, ◌∙◌, arith, Less, Equal}
 use Rattle.std.specs.FinMap.Entries.{is_sorted, below_all}
 use Rattle.srm_net.specs.declared.key.Key.{Key}
 use Rattle.srm_net.specs.declared.packet.Name.{Name}

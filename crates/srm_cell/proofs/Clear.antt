@@ -1,5 +1,5 @@
 -- After a step no event that is pending has its key; and what a step does to inbox, script and packet count.
-use Rattle.std.proofs.Common.{◌≡◌, ℕ, suc, ◌<◌, ◌≤◌, ◌+◌, ◌/◌, min, Bool, true, false, cond, not, T, List, [], ◌∷◌, map, refl}
+use Rattle.std.proofs.Common.{◌≡◌, ℕ, suc, ◌<◌, ◌+◌, ◌/◌, min, Bool, true, false, cond, not, T, List, [], ◌∷◌, map, refl}
 use Rattle.std.proofs.Common.{sym, ap, ◌∙◌, subst, ◌≢◌, ◌⊎◌, inl, inr, arith, Less, Equal, Greater, Option, Some, None, nat_lt, is_lt}
 use Rattle.std.proofs.Common.{true≢false}
 use Rattle.std.specs.Ordering.{eq_by_cmp, is_eq, ordering_reverse}

@@ -27,10 +27,10 @@ pub fn arrival(
     requires member { member < length scenario.now.members }
     ensures { result ≡ arrival_of (traffic_of scenario.now net.now) packet.now member }
 {
-    if member == packet.id.sender || !net.is_reached(spread, member) {
+    if member == packet.id.sender {
         return None;
     }
-    let at = packet.sent + net.distance(packet.id.sender, member);
+    let at = net.arrival(spread, packet.sent, member)?;
     if scenario.member(member).is_present(scenario.until(), at) {
         Some(at)
     } else {

@@ -17,7 +17,7 @@ use crate::arrival::arrival;
 use crate::boxes::{finish, react};
 use crate::fault::CellFault;
 use crate::inbox::Inbox;
-use crate::pending::{Pending, Source, sooner};
+use crate::pending::{Pending, Source};
 use crate::rows::{about, cause_at, expiry, word};
 use crate::script::Script;
 use crate::sent::Sent;
@@ -348,7 +348,10 @@ impl<M: Participant> Cell<M> {
     fn least(&self) -> Option<Pending>
         ensures { StandsFor M.plain (λ m p. next_event m p) self.now result }
     {
-        sooner(self.arrival(), sooner(self.mark(), self.timer()))
+        let mut next = self.timer();
+        Pending::take_place_if_any(self.mark(), &mut next);
+        Pending::take_place_if_any(self.arrival(), &mut next);
+        next
     }
 
     fn arrival(&self) -> Option<Pending>

@@ -60,21 +60,19 @@ impl Pending {
         }
     }
 
+    /// The same of what may be there.
+    pub(crate) fn take_place_if_any(event: Option<Pending>, next: &mut Option<Pending>)
+        ensures { next.new ≡ pending.sooner_pending event next.old }
+    {
+        if let Some(event) = event {
+            event.take_place(next);
+        }
+    }
+
     // Whether another has the lesser key.
     fn is_after(&self, other: &Pending) -> bool
         ensures { result ≡ is_gt (key_cmp self.now.key other.now.key) }
     {
         self.key.cmp(&other.key) == Ordering::Greater
-    }
-}
-
-/// The one with the lesser key; of two with one key the first.
-pub(crate) fn sooner(first: Option<Pending>, second: Option<Pending>) -> Option<Pending>
-    ensures { result ≡ pending.sooner_pending first second }
-{
-    match (first, second) {
-        (None, second) => second,
-        (first, None) => first,
-        (Some(a), Some(b)) => { if a.is_after(&b) { second } else { first } }
     }
 }

@@ -67,6 +67,12 @@ module _ {K V : Type 0} (cmp : K → K → Ordering) (total : IsTotalOrder cmp) 
       not_before true h g = let x : true ≡ false = sym (h refl) ∙ g in cc
       not_before false h g = refl
 
+  -- where the first entry is the key's, that is its place
+  pub place_first : (k : K) (es : List (K × V)) → T (is_sorted cmp es) → is_at cmp k es 0 ≡ true → IsPlaceOf cmp k es 0
+  place_first k [] s h = cc
+  place_first k (e ∷ es) s h = place_between k (e ∷ es) 0 s (omega arith) (λ some. absurd (omega arith))
+      (λ some. (e, ap is_lt (total.antisymm e.0 k ∙ ap ordering_reverse (is_Equal _ h))))
+
   -- where the last entry stands before it, a key's place is at the end
   pub place_at_end : (k : K) (es : List (K × V)) (d : K × V) → T (is_sorted cmp es) → 0 < length es
       → is_before cmp k (slice_index_or es (length es - 1) d) ≡ true → IsPlaceOf cmp k es (length es)

@@ -3,7 +3,8 @@ use Rattle.std.proofs.Common.{◌≡◌, zero, suc, Bool, true, false, cond, not
 use Rattle.std.proofs.Common.{◌≢◌, ◌⊎◌, inl, inr, arith, Less, Equal, Some, None, is_some}
 use Rattle.std.specs.List.{Contains}
 use Rattle.std.specs.Ordering.{eq_by_cmp, is_eq}
-use Rattle.std.specs.FinMap.Entries.{put, find, is_sorted, below_all, find-put, find-where_key, is_sorted-put, is_sorted-where_key}
+use Rattle.std.specs.FinMap.Entries.{put, find, is_sorted, below_all, same_entries}
+use Rattle.std.specs.FinMap.Entries.{find-put, find-where_key, is_sorted-put, is_sorted-where_key}
 use Rattle.std.proofs.lemmas.List.Elements.{Contains-append_right}
 use Rattle.std.proofs.lemmas.Cmp.{tied_itself}
 use Rattle.srm_net.specs.declared.packet.Name.{Name}
@@ -34,6 +35,20 @@ other_names n k ne = grind arith
 -- two names are one, or not
 pub names_apart : (n k : Name) → (n ≡ k) ⊎ (n ≢ k)
 names_apart n k = grind arith
+
+-- an entry that stands in a table, put in once more
+pub put_found : {V : Type 0} (p : PageId) (v : V) (es : List (PageId × V)) → T (is_sorted page_cmp es) → find page_cmp p es ≡ Some v
+    → put page_cmp p v es ≡ es
+put_found p v es h found =
+    same_entries page_cmp page_total tied_pages _ _ (is_sorted-put page_cmp page_total p v es h) h
+    (λ q. find-put page_cmp page_total q p v es ∙ same_value q)
+  where
+    same_value : (q : PageId) → cond (eq_by_cmp page_cmp q p) (Some v) (find page_cmp q es) ≡ find page_cmp q es
+    same_value q = elim (eq_by_cmp page_cmp q p)
+        as (λ b. eq_by_cmp page_cmp q p ≡ b → cond b (Some v) (find page_cmp q es) ≡ find page_cmp q es) [
+          | true ↦ λ e. sym found ∙ ap (λ k. find page_cmp k es) (sym (same_pages q p e))
+          | false ↦ λ e. refl
+        ] refl
 
 -- ---- an entry put in, or taken out
 

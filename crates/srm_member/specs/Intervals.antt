@@ -71,8 +71,11 @@ abbrev pub adapt : Limits → Limits → Option ℕ → Interval → Interval
 adapt start width None i = i
 adapt start width (Some delay) i =
     let duplicates = average i.average_duplicates (1000 * i.duplicates) in
-    let next = adapted i duplicates delay in
-    record i { start = within start next.0; width = within width next.1; average_duplicates = Some duplicates }
+    let next = adapted i duplicates delay in record i {
+      start = within start next.0;
+      width = within width next.1;
+      average_duplicates = Some duplicates;
+    }
 
 -- begin a period
 abbrev pub begin_period : Limits → Limits → Interval → Interval

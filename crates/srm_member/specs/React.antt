@@ -78,8 +78,9 @@ after_request_delay at n e m = take_in_delay (at - e.detected) (distance_to m n.
 
 -- the first time that a member backs off for a name, the delay since its loss was detected is taken in
 abbrev pub with_request_delay : ℕ → Name → Missing → MemberState → MemberState
-with_request_delay at n e m =
-    record m { request_interval = if e.backoffs == 0 then after_request_delay at n e m else m.request_interval }
+with_request_delay at n e m = record m {
+  request_interval = if e.backoffs == 0 then after_request_delay at n e m else m.request_interval;
+}
 
 -- back off: the count rises, up to 10, and the timer is set anew; in the first half of it the member backs off no
 -- further
@@ -167,8 +168,9 @@ interval_at_mending at n repaired m (Some e) =
 
 -- before a name is mended, by a repair or by data
 abbrev pub with_mending_seen : ℕ → Name → Bool → MemberState → MemberState
-with_mending_seen at n repaired m =
-    record m { request_interval = interval_at_mending at n repaired m (find name_cmp n m.missing) }
+with_mending_seen at n repaired m = record m {
+  request_interval = interval_at_mending at n repaired m (find name_cmp n m.missing);
+}
 
 -- data, or a repair, of this name
 unfoldable pub hear_data : ℕ → Name → ℕ → Bool → MemberState → Reaction
@@ -195,8 +197,10 @@ base m n who = distance_to m
 
 -- after a repair by this member, which ends a pending repair timer
 abbrev pub with_rest : ℕ → Name → ℕ → MemberState → MemberState
-with_rest at n who m =
-    record m { rests = put name_cmp n (at + 3 * base m n who) m.rests; repairs = without n m.repairs }
+with_rest at n who m = record m {
+  rests = put name_cmp n (at + 3 * base m n who) m.rests;
+  repairs = without n m.repairs;
+}
 
 -- the event did not concern the member
 abbrev pub is_skip : Told → Bool
@@ -318,8 +322,9 @@ expire_request at n m = expire_request_by_entry at n m (find name_cmp n m.missin
 -- before a member answers: it answers first, and the delay since it set the timer is taken in
 abbrev pub with_repair_first : ℕ → Repairing → MemberState → MemberState
 with_repair_first at r m0 =
-    let m = record m0 { repair_interval = send_first m0.fixed.d1 m0.repair_interval } in
-    record m { repair_interval = after_repair_delay at r m }
+    let m = record m0 { repair_interval = send_first m0.fixed.d1 m0.repair_interval } in record m {
+      repair_interval = after_repair_delay at r m;
+    }
 
 -- the repair timer of a name expires
 abbrev pub expire_repair_by_entry : ℕ → Name → MemberState → Option Repairing → Reaction
@@ -413,8 +418,9 @@ with_adapted o a = record a { adapted = o }
 
 -- with what it tells of intervals, which were these before the event
 abbrev pub telling_intervals : Cause → Intervals → Reaction → Reaction
-telling_intervals cause before r =
-    record r { answer = with_adapted (adapted_at cause before (intervals_of r.state)) r.answer }
+telling_intervals cause before r = record r {
+  answer = with_adapted (adapted_at cause before (intervals_of r.state)) r.answer;
+}
 
 -- what a member that is no listener answers, and what it knows then
 abbrev pub react_telling : MemberState → ℕ → Cause → Reaction

@@ -30,6 +30,7 @@ mod pending;
 mod progress;
 pub mod react;
 pub mod recovery;
+pub mod rising;
 pub mod row;
 pub mod timers;
 pub mod told;

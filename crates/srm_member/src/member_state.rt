@@ -1,5 +1,5 @@
 //! What an active member knows, and how it answers.
-ghost use Rattle.std.specs.Prelude.{◌≡◌, ◌+◌, ◌-◌, ◌<◌, ◌≤◌, ◌^◌, [], ◌∷◌, ◌++◌, IsTrue, IfOk, OnOk, Some, None};
+ghost use Rattle.std.specs.Prelude.{◌≡◌, ◌⊎◌, ◌+◌, ◌-◌, ◌<◌, ◌≤◌, ◌^◌, [], ◌∷◌, ◌++◌, IsTrue, IfOk, OnOk, Some, None};
 ghost use Rattle.srm_net.specs.Limits.{end_of_time, greatest_distance};
 ghost use Rattle.std.specs.FinMap.Entries.{find};
 ghost use Rattle.srm_net.specs.Names;
@@ -8,8 +8,8 @@ ghost use Rattle.srm_member.specs.Backoff.{span_by};
 ghost use Rattle.srm_member.specs.Intervals.{greatest_adapted};
 ghost use Rattle.srm_member.specs.Record.{opening_state, exit_of, earliest, timers_of};
 ghost use Rattle.srm_net.specs.Roles.{is_late};
-ghost use Rattle.srm_member.specs.React.{distance_to, length_in, with_next_word, request_length, repair_length, with_request_delay, back_off, wants, begins_at, meet, lose_one, lose_from, with_losses_begun, lose_below, names_from, lost_below, with_mending_seen, hear_data, base, with_rest, is_at_rest, after_repair_delay, with_repair_seen, hear_repair, with_repairs_begun, with_repair_timer, hear_request_of_missing, hear_request_of_held, hear_request, after_entry, lost_by_entry, hear_session, hear_body, with_request_first, expire_request, with_repair_first, expire_repair, own_progress, draw_operation, session_of, send_body, intervals_of, adapted_since, with_adapted};
-ghost use Rattle.srm_member.specs.Fit.{IsBounded, Gives};
+ghost use Rattle.srm_member.specs.React.{distance_to, length_in, with_next_word, request_length, repair_length, with_request_delay, back_off, wants, begins_at, meet, with_progress, lose_one, lose_from, with_losses_begun, lose_below, names_from, lost_below, with_mending_seen, hear_data, base, with_rest, is_at_rest, after_repair_delay, with_repair_seen, hear_repair, with_repairs_begun, with_repair_timer, hear_request_of_missing, hear_request_of_held, hear_request, after_entry, lost_by_entry, hear_session, hear_body, with_request_first, expire_request, with_repair_first, expire_repair, own_progress, draw_operation, session_of, send_body, intervals_of, adapted_since, with_adapted};
+ghost use Rattle.srm_member.specs.Fit.{IsBounded, Acts, Gives};
 
 use crate::due::Due;
 use crate::entries::{Missing, Repairing};
@@ -18,12 +18,12 @@ use crate::fixed::Fixed;
 use crate::held::Held;
 use crate::interval::Interval;
 use crate::intervals::Intervals;
-use crate::named::Named;
 use crate::outcome::Outcome;
 use crate::pages::Pages;
 use crate::pending::Pending;
 use crate::progress::Progress;
 use crate::react::React;
+use crate::rising::Rising;
 use crate::timers::draw;
 use crate::told::Told;
 use rand_core::utils::NextWord;
@@ -43,7 +43,7 @@ pub struct MemberState {
     progress: Pages,
     held: Held,
     pending: Pending,
-    rests: Named<u64>,
+    rests: Rising<u64>,
     words: Lcg64Xsh32,
     request_interval: Interval,
     repair_interval: Interval,
@@ -88,7 +88,7 @@ impl MemberState {
             progress: Pages::new(alloc),
             held: Held::new(alloc),
             pending: Pending::new(alloc),
-            rests: Named::new(alloc),
+            rests: Rising::new(alloc),
         }
     }
 
@@ -248,10 +248,11 @@ impl MemberState {
         }
     }
 
-    // How far the member follows a page, which it may meet here for the first time.
+    // How far the member follows a page, which it may meet here for the first time: then it begins here or earlier.
     fn meet(&self, page: PageId, begin: u64) -> Progress
         requires { begin ≤ 2 ^ 32 }
-        ensures { result ≡ meet self.now page begin }
+        ensures value { result ≡ meet self.now page begin }
+        ensures known { (begin < result.floor) ⊎ (begin < result.next) → with_progress page result self.now ≡ self.now }
     {
         match self.progress.get(page) {
             Some(progress) => progress,
@@ -260,6 +261,22 @@ impl MemberState {
                 Progress::new(begin, begin)
             }
         }
+    }
+
+    // The same, where the member follows the page from here on.
+    fn follow(&mut self, page: PageId, begin: u64) -> Result<Progress, AllocError>
+        requires { begin ≤ 2 ^ 32 }
+        ensures value { IfOk result (λ s. s ≡ meet self.old page begin) }
+        ensures ok { IfOk result (λ s. self.new ≡ with_progress page s self.old) }
+        ensures fixed { self.new.fixed ≡ self.old.fixed }
+    {
+        if let Some(progress) = self.progress.get(page) {
+            return Ok(progress);
+        }
+        let begin = self.begins_at(page, begin);
+        let progress = Progress::new(begin, begin);
+        self.progress.put(page, progress)?;
+        Ok(progress)
     }
 
     // A period of request timers begins, if an event loses numbers of a page below `n`, and lost none before.
@@ -308,14 +325,12 @@ impl MemberState {
         repaired: bool,
     ) -> Result<Outcome, AllocError>
         requires { at < end_of_time }
-        ensures ok { IfOk result (λ a. Gives a self.new (hear_data at name ink repaired self.old)) }
-        ensures fixed { self.new.fixed ≡ self.old.fixed }
+        ensures { Acts self.old (hear_data at name ink repaired self.old) result self.new }
     {
         let page = page_of(name);
         let number = u64::from(name.number);
         let progress = self.meet(page, number);
         if number < progress.floor() {
-            self.progress.put(page, progress)?;
             return Ok(Outcome::quiet(Told::Skip, Sequence::new(alloc)));
         }
         if number >= progress.next() {
@@ -324,7 +339,6 @@ impl MemberState {
             self.held.put(name, ink)?;
             return Ok(Outcome::quiet(Told::Fresh, lost));
         }
-        self.progress.put(page, progress)?;
         if let Some(missing) = self.pending.missing(name) {
             if repaired {
                 self.take_in_request_delay(at, name, missing);
@@ -404,8 +418,7 @@ impl MemberState {
         who: u16,
     ) -> Result<Outcome, AllocError>
         requires { at < end_of_time }
-        ensures ok { IfOk result (λ a. Gives a self.new (hear_repair at name ink who self.old)) }
-        ensures fixed { self.new.fixed ≡ self.old.fixed }
+        ensures { Acts self.old (hear_repair at name ink who self.old) result self.new }
     {
         let outcome = self.hear_data(alloc, at, name, ink, true)?;
         if matches!(outcome.told(), Told::Skip) {
@@ -448,8 +461,7 @@ impl MemberState {
         lost: Sequence<Name>,
     ) -> Result<Outcome, AllocError>
         requires { at < end_of_time }
-        ensures ok { IfOk result (λ a. Gives a self.new (hear_request_of_missing at name lost self.old)) }
-        ensures fixed { self.new.fixed ≡ self.old.fixed }
+        ensures { Acts self.old (hear_request_of_missing at name lost self.old) result self.new }
     {
         match self.pending.missing(name) {
             None => Ok(Outcome::quiet(Told::Hold, lost)),
@@ -473,8 +485,7 @@ impl MemberState {
         who: u16,
     ) -> Result<Outcome, AllocError>
         requires { at < end_of_time }
-        ensures ok { IfOk result (λ a. Gives a self.new (hear_request_of_held at name who self.old)) }
-        ensures fixed { self.new.fixed ≡ self.old.fixed }
+        ensures { Acts self.old (hear_request_of_held at name who self.old) result self.new }
     {
         if self.is_at_rest(at, name) {
             return Ok(Outcome::quiet(Told::Rest, Sequence::new(alloc)));
@@ -496,13 +507,11 @@ impl MemberState {
         who: u16,
     ) -> Result<Outcome, AllocError>
         requires { at < end_of_time }
-        ensures ok { IfOk result (λ a. Gives a self.new (hear_request at name who self.old)) }
-        ensures fixed { self.new.fixed ≡ self.old.fixed }
+        ensures { Acts self.old (hear_request at name who self.old) result self.new }
     {
         let page = page_of(name);
         let number = u64::from(name.number);
-        let progress = self.meet(page, number + 1);
-        self.progress.put(page, progress)?;
+        let progress = self.follow(page, number + 1)?;
         if number < progress.floor() {
             return Ok(Outcome::quiet(Told::Skip, Sequence::new(alloc)));
         }
@@ -551,8 +560,7 @@ impl MemberState {
         heard: &[Heard],
     ) -> Result<Outcome, AllocError>
         requires { at < end_of_time }
-        ensures ok { IfOk result (λ a. Gives a self.new (hear_session at heard.now self.old [])) }
-        ensures fixed { self.new.fixed ≡ self.old.fixed }
+        ensures { Acts self.old (hear_session at heard.now self.old []) result self.new }
     {
         let mut lost = Sequence::new(alloc);
         for entry in heard {
@@ -564,8 +572,7 @@ impl MemberState {
     /// Takes in a packet.
     pub fn hear(&mut self, alloc: Global, at: u64, packet: &Packet) -> Result<Outcome, AllocError>
         requires { at < end_of_time }
-        ensures ok { IfOk result (λ a. Gives a self.new (hear_body at packet.now.id.sender packet.now.body self.old)) }
-        ensures fixed { self.new.fixed ≡ self.old.fixed }
+        ensures { Acts self.old (hear_body at packet.now.id.sender packet.now.body self.old) result self.new }
     {
         let who = packet.id.sender;
         match &packet.body {
@@ -589,8 +596,7 @@ impl MemberState {
     #[tactic(auto, unfolding(crate::specs::React::expire_request))]
     pub fn ask(&mut self, alloc: Global, at: u64, name: Name) -> Result<Outcome, AllocError>
         requires { at < end_of_time }
-        ensures ok { IfOk result (λ a. Gives a self.new (expire_request at name self.old)) }
-        ensures fixed { self.new.fixed ≡ self.old.fixed }
+        ensures { Acts self.old (expire_request at name self.old) result self.new }
     {
         match self.pending.missing(name) {
             None => Ok(Outcome::quiet(Told::Skip, Sequence::new(alloc))),
@@ -615,8 +621,7 @@ impl MemberState {
     #[tactic(auto, unfolding(crate::specs::React::expire_repair))]
     pub fn answer(&mut self, alloc: Global, at: u64, name: Name) -> Result<Outcome, AllocError>
         requires { at < end_of_time }
-        ensures ok { IfOk result (λ a. Gives a self.new (expire_repair at name self.old)) }
-        ensures fixed { self.new.fixed ≡ self.old.fixed }
+        ensures { Acts self.old (expire_repair at name self.old) result self.new }
     {
         match self.pending.repair(name) {
             None => Ok(Outcome::quiet(Told::Skip, Sequence::new(alloc))),
@@ -643,8 +648,7 @@ impl MemberState {
     /// A sender draws, up to 4,096 (`MOST_DRAWN`) operations on a page.
     #[tactic(auto, unfolding(crate::specs::React::draw_operation))]
     pub fn draw_op(&mut self, alloc: Global, page: u16, ink: u32) -> Result<Outcome, AllocError>
-        ensures ok { IfOk result (λ a. Gives a self.new (draw_operation page ink self.old)) }
-        ensures fixed { self.new.fixed ≡ self.old.fixed }
+        ensures { Acts self.old (draw_operation page ink self.old) result self.new }
     {
         let source = self.fixed.member;
         let place = PageId { source, page };

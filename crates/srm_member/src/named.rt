@@ -54,18 +54,6 @@ impl<V: Copy> Named<V> {
         Ok(())
     }
 
-    /// Gives a name this value, and tells the one that it had.
-    ///
-    /// # Errors
-    /// [`AllocError`]: the map is then as it was.
-    pub fn replace(&mut self, name: Name, value: V) -> Result<Option<V>, AllocError>
-        ensures before { IfOk result (λ v. v ≡ find name_cmp name self.old) }
-        ensures ok { OnOk result (self.new ≡ put name_cmp name value self.old) }
-        ensures err { OnErr result (self.new ≡ self.old) }
-    {
-        Ok(self.map.insert(name, value)?)
-    }
-
     /// Takes a name's entry out, and gives its value.
     pub fn take(&mut self, name: Name) -> Option<V>
         ensures value { result ≡ find name_cmp name self.old }

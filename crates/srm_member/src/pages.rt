@@ -1,5 +1,5 @@
 //! How far a member follows each page.
-ghost use Rattle.std.specs.Prelude.{◌≡◌, [], OnErr, OnOk, IfOk, map};
+ghost use Rattle.std.specs.Prelude.{◌≡◌, [], OnErr, OnOk, IfOk, IfSome, map};
 ghost use Rattle.std.specs.FinMap.Entries.{put, find};
 ghost use Rattle.srm_net.specs.Names.{page_cmp};
 ghost use Rattle.srm_member.specs.Fit.{heard_of};
@@ -48,7 +48,11 @@ impl Pages {
     fn place(&self, page: PageId) -> usize
         ensures { IsPlaceOf page_cmp page self.now result }
     {
-        self.entries.as_slice().partition_point(
+        let entries = self.entries.as_slice();
+        if self.is_at(0, page) {
+            return 0;
+        }
+        entries.partition_point(
             |entry: &(PageId, Progress)| -> bool
                 ensures { result ≡ is_before page_cmp page entry.now }
             { entry.0 < page },
@@ -67,7 +71,8 @@ impl Pages {
 
     /// How far the member follows a page, if it does.
     pub fn get(&self, page: PageId) -> Option<Progress>
-        ensures { result ≡ find page_cmp page self.now }
+        ensures value { result ≡ find page_cmp page self.now }
+        ensures kept { IfSome result (λ s. put page_cmp page s self.now ≡ self.now) }
     {
         let place = self.place(page);
         if self.is_at(place, page) {

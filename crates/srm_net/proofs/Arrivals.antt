@@ -1,6 +1,6 @@
 -- When a packet comes to the nodes of a tree.
 use Rattle.std.proofs.Common.{◌≡◌, ◌≢◌, ℕ, ◌+◌, ◌-◌, ◌^◌, ◌<◌, ◌≤◌, Bool, true, false, not, ◌&&◌, List, Option, Some, None, length}
-use Rattle.std.proofs.Common.{refl, sym, ap, ◌∙◌, subst, inl, inr, arith, slice_get, slice_set, if◌then◌else◌, is_some, IfSome}
+use Rattle.std.proofs.Common.{refl, sym, ap, ◌∙◌, subst, inl, inr, arith, slice_get, slice_set, if◌then◌else◌, IfSome}
 use Rattle.std.proofs.lemmas.Bool.{cases_eq, cases_lt}
 use Rattle.std.proofs.lemmas.List.{length-set}
 use Rattle.srm_net.specs.declared.position.Position.{Position}
@@ -18,11 +18,6 @@ use Rattle.srm_net.proofs.SpreadLemmas.{comes_home, comes_next, route_there}
 use Rattle.srm_net.proofs.Firsts.{parent_held, held_by_parent, held_itself, first_down, first_up, up_held}
 
 -- ---- from one node to the next
-
--- it comes where it is told when
-pub told_where : (w : Network) (out : Stop → Bool) (u t : ℕ) (arrivals : List (Option ℕ)) → TellsArrivals w out u t arrivals
-    → (i : ℕ) (a : Option ℕ) → slice_get arrivals i ≡ Some a → is_some a ≡ comes_to w out u t i
-told_where w out u t arrivals told i a g = grind (arith, get_below)
 
 turned_over : (o : Bool) (n : ℕ) → (if not o then Some n else None) ≡ (if o then None else Some n)
 turned_over true n = refl

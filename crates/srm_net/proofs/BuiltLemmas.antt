@@ -49,10 +49,6 @@ position_there n i u hu = subst (λ m. u < m) (sym (rooted_in n i).long) hu
 
 -- ---- what comes to a link
 
-pub and_false : (b : Bool) → (b && false) ≡ false
-and_false true = refl
-and_false false = refl
-
 module _ (w : Network) (n : IsNetwork w) (l u near sent : ℕ) (any : Bool) (rules : DropRules) (p : PacketId) (ht : l < length w.links)
     (hs : p.sender < length w.hosts) (e : u ≡ host w p.sender)
     (nears : (k : LinkSpec) → slice_get w.links l ≡ Some k → near ≡ near_end w l k u)

@@ -1,8 +1,8 @@
 -- Links on the ways between members, which are the same for every member.
 use Rattle.std.proofs.Common.{◌≡◌, ℕ, zero, suc, ◌<◌, Bool, true, false, not, ◌&&◌, List, [], ◌∷◌, length, Some, refl, sym, ap, ◌∙◌, subst}
-use Rattle.std.proofs.Common.{inl, inr, arith, slice_get, slice_index_or, replicate}
+use Rattle.std.proofs.Common.{inl, inr, arith, eq-eqb, cond, if◌then◌else◌, slice_get, slice_index_or, replicate}
 use Rattle.std.specs.List.{list_all}
-use Rattle.std.proofs.lemmas.Bool.{cases_Bool, and_parts, false≢true}
+use Rattle.std.proofs.lemmas.Bool.{cases_Bool, and_parts, ne_eqb, false≢true}
 use Rattle.srm_net.specs.declared.link.LinkSpec.{LinkSpec}
 use Rattle.srm_net.specs.declared.net.Net.TheInside.{Inside}
 use Rattle.srm_net.specs.declared.packet.PacketId.{PacketId}
@@ -19,7 +19,8 @@ use Rattle.srm_net.proofs.FateLemmas.{on_way_is}
 use Rattle.srm_net.proofs.Lists.{below_get, get_index}
 use Rattle.srm_net.proofs.OccupiedLemmas.{some_found}
 use Rattle.srm_net.proofs.PathLaws.{host_below, some_same}
-use Rattle.srm_net.proofs.SpreadLemmas.{SeenFrom, EndsOf, seen_ends, not_beyond, come_over}
+use Rattle.srm_net.proofs.OnePaths.{joins_others}
+use Rattle.srm_net.proofs.SpreadLemmas.{EndsOf, seen_ends, seen_of, not_beyond, by_ends}
 
 and_right : (a b : Bool) → b ≡ true → a ≡ (a && b)
 and_right true b h = sym h
@@ -111,24 +112,61 @@ everywhere_there w n rules p sent s is all hs l lt =
     let near = near_end w l k.0 u in
     let far = far_from k.0 near in
     let any = some_beyond w l k.0 u in
-    let only : (j : LinkSpec) → slice_get w.links l ≡ Some j → k.0 ≡ j = λ j g. (
-    let q : Some k.0 ≡ Some j = sym k.1 ∙ g in cc) in
-    let seen : SeenFrom w l u near far any = record {
-      link = lt;
-      nears = λ j g. ap (λ (i : LinkSpec). near_end w l i u) (only j g);
-      fars = λ j g. ap (λ (i : LinkSpec). far_from i near) (only j g);
-      anys = λ j g. ap (λ (i : LinkSpec). some_beyond w l i u) (only j g);
-    } in
+    let seen = seen_of w l k.0 k.1 u in
     let fits : FitsIn w s = record { sender = own; nodes = is.nodes } in
     let ends : EndsOf w l u near far = seen_ends w n l u near far any (host_below w n s.sender own) seen in
     let there : (x : ℕ) → x < w.nodes → slice_get s.comes x ≡ Some true = λ x h.
     all_there s.comes x all (subst (λ m. x < m) (sym is.nodes) h) in
     let joins : any ≡ joins_members w l = beyond_joins w n l k.0 k.1 s.sender own in
     elim (cases_Bool any) [
-      | inl h ↦ (let c = come_over w n l u near far any seen s fits refl rules p sent is true h (there near ends.near_in)
+      | inl h ↦ (let c = by_ends w n l u near far any seen s fits refl rules p sent is true true h (there near ends.near_in)
           (there far ends.far_in) in
           (c.0 ∙ sym h ∙ joins, c.1))
       | inr h ↦ (let c = not_beyond w n l u near far any seen s fits refl rules p sent is h in (c.0 ∙ sym h ∙ joins, c.1))
+    ]
+
+-- ---- a link between members
+
+one_way : (a b : Bool) → (b ≡ true → a ≡ true) → (a && not b) ≡ cond a (not b) b
+one_way true b h = refl
+one_way false true h = h refl
+one_way false false h = refl
+
+other_way : (a b : Bool) → (a ≡ true → b ≡ true) → (b && not a) ≡ cond a (not b) b
+other_way true true h = refl
+other_way true false h = h refl
+other_way false true h = refl
+other_way false false h = refl
+
+turned : (a b : Bool) → (b && a) ≡ (a && b)
+turned true true = refl
+turned true false = refl
+turned false true = refl
+turned false false = refl
+
+-- a packet that comes to both ends crosses the link, and one that comes to one of them is dropped there
+pub by_both_ends : (w : Network) → IsNetwork w → (l : ℕ) (k : LinkSpec) → slice_get w.links l ≡ Some k → joins_members w l ≡ true
+    → (s : PlainSpread) → FitsIn w s → (rules : DropRules) (p : PacketId) (sent : ℕ) → IsSpread w rules p sent s
+    → (a b : Bool) → slice_get s.comes k.a ≡ Some a → slice_get s.comes k.b ≡ Some b
+    → (crosses w rules p sent l ≡ (a && b)) × (drops_at w rules p sent l ≡ cond a (not b) b)
+by_both_ends w n l k g joined s fits rules p sent is a b ha hb =
+    let u = host w s.sender in
+    let near = near_end w l k u in
+    let far = far_from k near in
+    let any : some_beyond w l k u ≡ true = beyond_joins w n l k g s.sender fits.sender ∙ joined in
+    let ends = by_ends w n l u near far (some_beyond w l k u) (seen_of w l k g u) s fits refl rules p sent is in
+    elim (cases_Bool (is_beyond w l k u)) [
+      | inl e ↦
+          let near_is : near ≡ k.b = ap (λ t. if t then k.b else k.a) e in
+          let far_is : far ≡ k.a =
+          ap (far_from k) near_is ∙ ap (λ t. if t then k.b else k.a) (ne_eqb k.a k.b (joins_others w n.tree l k g)) in
+          let c = ends b a any (ap (slice_get s.comes) near_is ∙ hb) (ap (slice_get s.comes) far_is ∙ ha) in
+          (c.0 ∙ turned a b, c.1 ∙ other_way a b c.2)
+      | inr e ↦
+          let near_is : near ≡ k.a = ap (λ t. if t then k.b else k.a) e in
+          let far_is : far ≡ k.b = ap (far_from k) near_is ∙ ap (λ t. if t then k.b else k.a) (eq-eqb k.a k.a refl) in
+          let c = ends a b any (ap (slice_get s.comes) near_is ∙ ha) (ap (slice_get s.comes) far_is ∙ hb) in
+          (c.0, c.1 ∙ one_way a b c.2)
     ]
 
 pub everywhere_crosses_the_same : EverywhereCrossesTheSame

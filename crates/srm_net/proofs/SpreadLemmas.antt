@@ -1,18 +1,22 @@
 -- To which nodes a packet comes, found from node to node.
 use Rattle.std.proofs.Common.{◌≡◌, ◌≢◌, ℕ, zero, suc, ◌+◌, ◌<◌, Bool, true, false, not, cond, ◌&&◌, List, [], ◌∷◌, ◌++◌, length}
 use Rattle.std.proofs.Common.{Some, refl, sym, ap, ◌∙◌, subst, inl, inr, arith, eq-eqb, eqb-true, slice_get, replicate}
-use Rattle.std.proofs.Common.{unwrap_or}
+use Rattle.std.proofs.Common.{unwrap_or, Option, None, IfSome, map, is_some, slice_index_or, if◌then◌else◌}
 use Rattle.std.specs.List.{list_any}
-use Rattle.std.proofs.lemmas.Bool.{cases_Bool, both_ways, ne_eqb, false≢true}
-use Rattle.std.proofs.lemmas.List.{length-replicate}
+use Rattle.std.proofs.lemmas.Bool.{cases_Bool, and_parts, both_ways, ne_eqb, false≢true}
+use Rattle.std.specs.Option.{option_map}
+use Rattle.std.proofs.lemmas.List.{length-replicate, length-map}
+use Rattle.std.proofs.lemmas.Option.{slice_get-map}
 use Rattle.srm_net.specs.declared.link.LinkSpec.{LinkSpec}
 use Rattle.srm_net.specs.declared.packet.PacketId.{PacketId}
 use Rattle.srm_net.specs.Network.{Network, Joins, IsWalk, IsTree, IsNetwork}
-use Rattle.srm_net.specs.Paths.{is_in, end_of, delay_of, delay_along, host, route, Stop, stop, stops, takes_out, reaches, crosses, drops_at}
+use Rattle.srm_net.specs.Paths.{is_in, end_of, delay_of, delay_along, distance, host, route, Stop, stop, stops, takes_out}
+use Rattle.srm_net.specs.Paths.{reaches, crosses, drops_at}
 use Rattle.srm_net.specs.DropRules.{DropRules, may_drop}
 use Rattle.srm_net.specs.Tables.{is_beyond, near_end, far_from, some_beyond}
-use Rattle.srm_net.specs.Spreads.{comes_to, PlainSpread, IsSpread, FitsIn}
-use Rattle.srm_net.proofs.Lists.{below_get}
+use Rattle.srm_net.specs.Rooting.{takes}
+use Rattle.srm_net.specs.Spreads.{comes_to, arrival, PlainSpread, TellsArrivals, IsSpread, FitsIn}
+use Rattle.srm_net.proofs.Lists.{below_get, get_below, get_index}
 use Rattle.srm_net.proofs.Numbers.{Apart, in_head, in_tail, in_cases, in_append_cases, not_in, apart_push, apart_from_distinct}
 use Rattle.srm_net.proofs.Walks.{turned, walk_last, same_link, same_far}
 use Rattle.srm_net.proofs.RouteLemmas.{joins_far, route_path, route_only}
@@ -20,7 +24,7 @@ use Rattle.srm_net.proofs.PathLaws.{LinkOf, ends_below, on_route, route_begins, 
 use Rattle.srm_net.proofs.TreeWays.{walk_push}
 use Rattle.srm_net.proofs.DropLemmas.{any_push}
 use Rattle.srm_net.proofs.OnePaths.{joins_others, link_path}
-use Rattle.srm_net.proofs.BuiltLemmas.{told_crossed, told_dropped, and_false}
+use Rattle.srm_net.proofs.BuiltLemmas.{told_crossed, told_dropped}
 use Rattle.srm_net.proofs.FateLemmas.{spared, none_stops}
 
 -- ---- a walk the other way round
@@ -228,27 +232,33 @@ module _ (w : Network) (n : IsNetwork w) (l u near far : ℕ) (any : Bool) (seen
         d ∙ ap (λ b. b && (comes_to w (takes_out rules p) u sent near && not (comes_to w (takes_out rules p) u sent far))) h,
       )
 
-  pub not_come : slice_get s.comes near ≡ Some false → (crosses w rules p sent l ≡ false) × (drops_at w rules p sent l ≡ false)
-  not_come g =
-      let r = read near false ends.near_in g in
-      let c = crossed_in w n l u near far any seen rules p sent below home in
-      let d = dropped_in w n l u near far any seen rules p sent below home in (
-        c ∙ ap (λ b. any && (b && comes_to w (takes_out rules p) u sent far)) r ∙ and_false any,
-        d ∙ ap (λ b. any && (b && not (comes_to w (takes_out rules p) u sent far))) r ∙ and_false any,
-      )
-
-  pub come_over : (b : Bool) → any ≡ true → slice_get s.comes near ≡ Some true → slice_get s.comes far ≡ Some b
-      → (crosses w rules p sent l ≡ b) × (drops_at w rules p sent l ≡ not b)
-  come_over b h g f =
-      let q = read near true ends.near_in g in
+  -- by whether it comes to the nearer end, and to the farther, which it comes to from there
+  pub by_ends : (a b : Bool) → any ≡ true → slice_get s.comes near ≡ Some a → slice_get s.comes far ≡ Some b
+      → (crosses w rules p sent l ≡ (a && b)) × (drops_at w rules p sent l ≡ (a && not b)) × (b ≡ true → a ≡ true)
+  by_ends a b h g f =
+      let q = read near a ends.near_in g in
       let r = read far b ends.far_in f in
       let c = crossed_in w n l u near far any seen rules p sent below home in
-      let d = dropped_in w n l u near far any seen rules p sent below home in (
-        c ∙ ap (λ a. a && (comes_to w (takes_out rules p) u sent near && comes_to w (takes_out rules p) u sent far)) h
-            ∙ ap (λ a. a && comes_to w (takes_out rules p) u sent far) q ∙ r,
-        d ∙ ap (λ a. a && (comes_to w (takes_out rules p) u sent near && not (comes_to w (takes_out rules p) u sent far))) h
-            ∙ ap (λ a. a && not (comes_to w (takes_out rules p) u sent far)) q ∙ ap not r,
+      let d = dropped_in w n l u near far any seen rules p sent below home in
+      let o = over w n l u near far any seen rules p sent below home in (
+        c ∙ ap (λ x. x && (comes_to w (takes_out rules p) u sent near && comes_to w (takes_out rules p) u sent far)) h
+            ∙ ap (λ x. x && comes_to w (takes_out rules p) u sent far) q ∙ ap (λ x. a && x) r,
+        d ∙ ap (λ x. x && (comes_to w (takes_out rules p) u sent near && not (comes_to w (takes_out rules p) u sent far))) h
+            ∙ ap (λ x. x && not (comes_to w (takes_out rules p) u sent far)) q ∙ ap (λ x. a && not x) r,
+        λ t. sym q ∙ (and_parts _ _ (sym o ∙ r ∙ t)).0,
       )
+
+-- a link as it is seen from a node
+pub seen_of : (w : Network) (l : ℕ) (k : LinkSpec) → slice_get w.links l ≡ Some k → (u : ℕ)
+    → SeenFrom w l u (near_end w l k u) (far_from k (near_end w l k u)) (some_beyond w l k u)
+seen_of w l k g u =
+    let only : (j : LinkSpec) → slice_get w.links l ≡ Some j → k ≡ j = λ j h. (let q : Some k ≡ Some j = sym g ∙ h in cc) in
+    record {
+      link = get_below w.links l k g;
+      nears = λ j h. ap (λ (i : LinkSpec). near_end w l i u) (only j h);
+      fars = λ j h. ap (λ (i : LinkSpec). far_from i (near_end w l k u)) (only j h);
+      anys = λ j h. ap (λ (i : LinkSpec). some_beyond w l i u) (only j h);
+    }
 
 -- where nobody is beyond a link from the sender's node, the packet does not cross it, and is not dropped there
 pub nobody_beyond : (w : Network) → IsNetwork w → (l : ℕ) → l < length w.links → (s : PlainSpread) → FitsIn w s
@@ -258,23 +268,7 @@ pub nobody_beyond : (w : Network) → IsNetwork w → (l : ℕ) → l < length w
 nobody_beyond w n l lt s fits none rules p sent is =
     let k = below_get w.links l lt in
     let u = host w s.sender in
-    let near = near_end w l k.0 u in
-    let only : (j : LinkSpec) → slice_get w.links l ≡ Some j → k.0 ≡ j = λ j g. (
-    let q : Some k.0 ≡ Some j = sym k.1 ∙ g in cc) in
-    let seen : SeenFrom w l u near (far_from k.0 near) false = record {
-      link = lt;
-      nears = λ j g. ap (λ (i : LinkSpec). near_end w l i u) (only j g);
-      fars = λ j g. ap (λ (i : LinkSpec). far_from i near) (only j g);
-      anys = λ j g. sym (none j g);
-    } in
-    not_beyond w n l u near (far_from k.0 near) false seen s fits refl rules p sent is refl
-
--- what it tells of a member
-pub reached_there : (w : Network) (s : PlainSpread) (rules : DropRules) (p : PacketId) (sent : ℕ) → IsSpread w rules p sent s
-    → (m x : ℕ) (b : Bool) → x ≡ host w m → x < w.nodes → slice_get s.comes x ≡ Some b
-    → b ≡ reaches w rules p sent m
-unfolding comes_to reaches
-reached_there w s rules p sent is m x b e lt g = grind arith
+    not_beyond w n l u _ _ (some_beyond w l k.0 u) (seen_of w l k.0 k.1 u) s fits refl rules p sent is (none k.0 k.1)
 
 -- ---- a packet that may not be dropped
 
@@ -289,11 +283,65 @@ pub comes_home : (w : Network) (out : Stop → Bool) (u t : ℕ) → comes_to w 
 unfolding comes_to
 comes_home w out u t = ap (λ ls. not (list_any out (stops w.links u t ls))) (route_nowhere w u)
 
-get_all : (n : ℕ) (b : Bool) (x : ℕ) → x < n → slice_get (replicate n b) x ≡ Some b
+pub get_all : (n : ℕ) (b : Bool) (x : ℕ) → x < n → slice_get (replicate n b) x ≡ Some b
 get_all zero b x h = absurd (omega arith)
 get_all (suc n) b zero h = refl
 get_all (suc n) b (suc x) h = get_all n b x (omega arith)
 
-pub spread_everywhere : (w : Network) (rules : DropRules) (p : PacketId) (sent n : ℕ) (s : PlainSpread) → may_drop rules p sent ≡ false → n
-    ≡ w.nodes → s.sender ≡ p.sender → s.comes ≡ replicate n true → IsSpread w rules p sent s
-spread_everywhere w rules p sent n s h e f g = grind (arith, length-replicate, get_all, comes_everywhere)
+pub spread_everywhere : (w : Network) (rules : DropRules) (p : PacketId) (sent n : ℕ) → may_drop rules p sent ≡ false → n ≡ w.nodes
+    → IsSpread w rules p sent (record { sender = p.sender; comes = replicate n true; arrivals = None })
+spread_everywhere w rules p sent n h e = record {
+  sender = refl;
+  nodes = length-replicate n true ∙ e;
+  each = λ x lt.
+      get_all n true x (subst (λ m. x < m) (sym e) lt) ∙ ap Some (sym (comes_everywhere w rules p sent (host w p.sender) x h));
+  arrivals = tt;
+}
+
+is_some_if : (b : Bool) (n : ℕ) → is_some (if b then Some n else None) ≡ b
+is_some_if true n = refl
+is_some_if false n = refl
+
+-- ---- a packet of which it is told when it comes to each node
+
+pub spread_told : (w : Network) (rules : DropRules) (p : PacketId) (sent : ℕ) (arrivals : List (Option ℕ))
+    → TellsArrivals w (takes_out rules p) (host w p.sender) sent arrivals
+    → IsSpread w rules p sent (record { sender = p.sender; comes = map is_some arrivals; arrivals = Some arrivals })
+spread_told w rules p sent arrivals told = record {
+  sender = refl;
+  nodes = length-map arrivals is_some ∙ told.nodes;
+  each = λ x lt.
+      slice_get-map is_some arrivals x ∙ ap (option_map is_some) (told.each x lt)
+      ∙ ap Some (is_some_if (comes_to w (takes_out rules p) (host w p.sender) sent x) (sent + takes w (host w p.sender) x));
+  arrivals = told;
+}
+
+-- ---- what a spread tells of a member
+
+pub reached_there : (w : Network) (s : PlainSpread) (rules : DropRules) (p : PacketId) (sent : ℕ) → IsSpread w rules p sent s
+    → (m x : ℕ) (b : Bool) → x ≡ host w m → x < w.nodes → slice_get s.comes x ≡ Some b
+    → b ≡ reaches w rules p sent m
+unfolding comes_to reaches
+reached_there w s rules p sent is m x b e lt g = grind arith
+
+pub arrival_told : (w : Network) (s : PlainSpread) (rules : DropRules) (p : PacketId) (sent : ℕ) → IsSpread w rules p sent s
+    → (arrivals : List (Option ℕ)) → s.arrivals ≡ Some arrivals → (m x : ℕ) → x ≡ host w m → x < w.nodes
+    → slice_index_or arrivals x None ≡ (if reaches w rules p sent m then Some (sent + distance w p.sender m) else None)
+unfolding comes_to reaches distance
+arrival_told w s rules p sent is arrivals h m x e lt =
+    let out = takes_out rules p in
+    let u = host w p.sender in
+    let told : TellsArrivals w out u sent arrivals = subst (λ o. IfSome o (TellsArrivals w out u sent)) h is.arrivals in
+    get_index arrivals x _ None (told.each x lt) ∙ ap (arrival w out u sent) e
+
+pub arrival_everywhere : (w : Network) → IsNetwork w → (s : PlainSpread) (rules : DropRules) (p : PacketId) (sent : ℕ)
+    → IsSpread w rules p sent s → (n : ℕ) → s.comes ≡ replicate n true → (m : ℕ) → m < length w.hosts
+    → Some (sent + distance w s.sender m)
+    ≡ (if reaches w rules p sent m then Some (sent + distance w p.sender m) else None)
+arrival_everywhere w net s rules p sent is n all m lt =
+    let x = host w m in
+    let below : x < w.nodes = host_below w net m lt in
+    let long : n ≡ w.nodes = sym (length-replicate n true) ∙ ap length (sym all) ∙ is.nodes in
+    let there = ap (λ bs. slice_get bs x) all ∙ get_all n true x (subst (λ k. x < k) (sym long) below) in
+    ap (λ a. Some (sent + distance w a m)) is.sender
+    ∙ ap (λ b. if b then Some (sent + distance w p.sender m) else None) (reached_there w s rules p sent is m x true refl below there)

@@ -1,5 +1,6 @@
 -- To which nodes a packet comes.
-use Rattle.std.specs.Prelude.{◌≡◌, ℕ, ◌+◌, ◌<◌, Bool, not, List, Option, Some, None, length, slice_get, if◌then◌else◌}
+use Rattle.std.specs.Prelude.{◌≡◌, ℕ, ◌+◌, ◌<◌, Bool, true, not, List, Option, Some, None, IfSome, is_some}
+use Rattle.std.specs.Prelude.{length, map, replicate, slice_get, if◌then◌else◌}
 use Rattle.std.specs.List.{list_any, list_all}
 use Rattle.srm_net.specs.declared.packet.PacketId.{PacketId}
 use Rattle.srm_net.specs.Network.{Network}
@@ -8,10 +9,16 @@ use Rattle.srm_net.specs.Paths.{host, route, Stop, stop, stops, takes_out}
 use Rattle.srm_net.specs.Rooting.{takes, at, IsHeld}
 use Rattle.srm_net.specs.declared.position.Position.{Position}
 
--- what becomes of one packet: who sends it, and for each node whether it comes there
+-- what becomes of one packet: who sends it, for each node whether it comes there, and, where that is told, when
 pub record PlainSpread : Type 0 where
   pub sender : ℕ
   pub comes : List Bool
+  pub arrivals : Option (List (Option ℕ))
+
+-- whether a packet comes to each of so many nodes: to every one, where it is not told when
+abbrev pub comes_in : ℕ → Option (List (Option ℕ)) → List Bool
+comes_in nodes None = replicate nodes true
+comes_in nodes (Some arrivals) = map is_some arrivals
 
 -- whether the packet comes to every node
 abbrev pub is_everywhere : PlainSpread → Bool
@@ -20,18 +27,6 @@ is_everywhere s = list_all (λ b. b) s.comes
 -- whether a packet that is at node u at tick t comes to node x: no link of the way takes it out
 unfoldable pub comes_to : Network → (Stop → Bool) → ℕ → ℕ → ℕ → Bool
 comes_to w out u t x = not (list_any out (stops w.links u t (route w u x)))
-
--- what becomes of packet p, sent at this tick
-pub record IsSpread (w : Network) (rules : DropRules) (p : PacketId) (sent : ℕ) (s : PlainSpread) : Type 0 where
-  pub sender : s.sender ≡ p.sender
-  pub nodes : length s.comes ≡ w.nodes
-  pub each : (x : ℕ) → x < w.nodes
-      → slice_get s.comes x ≡ Some (comes_to w (takes_out rules p) (host w p.sender) sent x)
-
--- it is of a member of the network, and tells of each node
-pub record FitsIn (w : Network) (s : PlainSpread) : Type 0 where
-  pub sender : s.sender < length w.hosts
-  pub nodes : length s.comes ≡ w.nodes
 
 -- the tick at which a packet that is at node u at tick t comes to node x, if it comes there
 abbrev pub arrival : Network → (Stop → Bool) → ℕ → ℕ → ℕ → Option ℕ
@@ -54,7 +49,15 @@ pub record TellsAbove (w : Network) (positions : List Position) (out : Stop → 
   pub above : (x : ℕ) → x < w.nodes → IsHeld (at positions x) (at positions u)
       → slice_get arrivals x ≡ Some (arrival w out u t x)
 
--- it is told of each node whether the packet comes there
-pub record TellsComing (w : Network) (out : Stop → Bool) (u t : ℕ) (comes : List Bool) : Type 0 where
-  pub nodes : length comes ≡ w.nodes
-  pub each : (x : ℕ) → x < w.nodes → slice_get comes x ≡ Some (comes_to w out u t x)
+-- what becomes of packet p, sent at this tick
+pub record IsSpread (w : Network) (rules : DropRules) (p : PacketId) (sent : ℕ) (s : PlainSpread) : Type 0 where
+  pub sender : s.sender ≡ p.sender
+  pub nodes : length s.comes ≡ w.nodes
+  pub each : (x : ℕ) → x < w.nodes
+      → slice_get s.comes x ≡ Some (comes_to w (takes_out rules p) (host w p.sender) sent x)
+  pub arrivals : IfSome s.arrivals (TellsArrivals w (takes_out rules p) (host w p.sender) sent)
+
+-- it is of a member of the network, and tells of each node
+pub record FitsIn (w : Network) (s : PlainSpread) : Type 0 where
+  pub sender : s.sender < length w.hosts
+  pub nodes : length s.comes ≡ w.nodes

@@ -1,5 +1,5 @@
 //! A tree of nodes and links with members on some nodes, and what becomes of packets in it.
-ghost use Rattle.std.specs.Prelude.{◌≡◌, ◌≢◌, ◌↔◌, ℕ, ◌<◌, ◌≤◌, ◌*◌, true, false, not, [], ◌∷◌, All, IfOk, IfErr, IfSome, IfNone, IsTrue, length, slice_get};
+ghost use Rattle.std.specs.Prelude.{◌≡◌, ◌≢◌, ◌↔◌, ℕ, ◌+◌, ◌<◌, ◌≤◌, ◌*◌, true, false, not, [], ◌∷◌, All, IfOk, IfErr, IfSome, IfNone, IsTrue, Some, None, length, slice_get, if◌then◌else◌};
 ghost use Rattle.srm_net.specs.Limits.{end_of_time, greatest_distance};
 ghost use Rattle.srm_net.specs.Network.{plain_network, IsTree, HasDelays, AreHosts, IsNetwork};
 ghost use Rattle.srm_net.specs.Paths.{host, distance, round, half_rounds_from, stop, takes_out, reaches, crosses, drops_at};
@@ -288,18 +288,23 @@ impl Net {
             from: self.host(id.sender),
             is_listed: drops.lists_somewhere(id),
         };
-        let comes = self.tree.comes_to_each(alloc, drops, packet)?;
-        Ok(Spread::told(id.sender, nodes, comes))
+        let arrivals = self.tree.arrivals(alloc, drops, packet)?;
+        Ok(Spread::told(id.sender, nodes, arrivals))
     }
 
-    /// Whether the packet of a spread reaches member `m`, as [`reaches`](Net::reaches) tells it. It takes no walk.
-    pub fn is_reached(&self, spread: &Spread, m: u16) -> bool
+    /// When the packet of a spread, which is sent at the tick `sent`, comes to member `m`, in ticks, if it [`reaches`](Net::reaches) it.
+    /// Where the packet might have been dropped this takes no walk.
+    pub fn arrival(&self, spread: &Spread, sent: u64, m: u16) -> Option<u64>
+        requires sent { sent < end_of_time }
         requires spread { FitsIn self.now spread.now }
         requires member { m < length self.now.hosts }
-        ensures { (rules : DropRules) (p : PacketId) (sent : ℕ) → IsSpread self.now rules p sent spread.now
-            → result ≡ reaches self.now rules p sent m }
+        ensures { (rules : DropRules) (p : PacketId) → IsSpread self.now rules p sent spread.now
+            → result ≡ (if reaches self.now rules p sent m then Some (sent + distance self.now p.sender m) else None) }
     {
-        spread.comes_to(self.host(m))
+        let Some(arrivals) = &spread.arrivals else {
+            return Some(sent + self.distance(spread.sender(), m));
+        };
+        arrivals.as_slice()[usize::from(self.host(m))]
     }
 
     /// What becomes of the packet of a spread at a link, as [`fate`](Net::fate) tells it. It takes no walk, and no look at the drops.
@@ -311,31 +316,11 @@ impl Net {
         ensures dropped { (rules : DropRules) (p : PacketId) (sent : ℕ) → IsSpread self.now rules p sent spread.now
             → is_dropping result ≡ drops_at self.now rules p sent link }
     {
-        if self.joins_members(link) {
-            self.fate_between(spread, link)
-        } else {
-            Fate::Neither
+        if !self.joins_members(link) {
+            return Fate::Neither;
         }
-    }
-
-    /// The same of a link that may have members on both sides.
-    fn fate_between(&self, spread: &Spread, link: u16) -> Fate
-        requires spread { FitsIn self.now spread.now }
-        requires link { link < length self.now.links }
-        ensures crosses { (rules : DropRules) (p : PacketId) (sent : ℕ) → IsSpread self.now rules p sent spread.now
-            → is_crossing result ≡ crosses self.now rules p sent link }
-        ensures dropped { (rules : DropRules) (p : PacketId) (sent : ℕ) → IsSpread self.now rules p sent spread.now
-            → is_dropping result ≡ drops_at self.now rules p sent link }
-    {
-        let (near, is_any_beyond) = self.beyond(link, self.host(spread.sender()));
-        let far = self.tree.link(link).far_from(near);
-        if !is_any_beyond || !spread.comes_to(near) {
-            Fate::Neither
-        } else if spread.comes_to(far) {
-            Fate::Crosses
-        } else {
-            Fate::Dropped
-        }
+        let ends = self.tree.link(link);
+        Fate::by_ends(spread.comes_to(ends.a), spread.comes_to(ends.b))
     }
 
     /// Whether a link is on the way from member `m` to some member, present or not. It takes no walk.

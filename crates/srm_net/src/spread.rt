@@ -1,56 +1,54 @@
 //! What becomes of one packet on its ways to all nodes.
-ghost use Rattle.std.specs.Prelude.{◌≡◌, ◌<◌, Some, length, slice_get};
+ghost use Rattle.std.specs.Prelude.{◌≡◌, ◌<◌, Some, is_some, map, length, slice_get};
 ghost use Rattle.std.specs.List.{list_all};
 ghost use Rattle.srm_net.specs.Spreads.{is_everywhere};
 
 use crate::sequence::Sequence;
 use std::marker::Model;
 
-/// What becomes of one packet: to which nodes it comes. Contracts see it as its plain spread.
+/// What becomes of one packet: to which nodes it comes, and when. Contracts see it as its plain spread.
 ///
-/// [`Net::spread`](crate::net::Net::spread) finds it once for the packet, so that [`Net::is_reached`](crate::net::Net::is_reached) and
+/// [`Net::spread`](crate::net::Net::spread) finds it once for the packet, so that [`Net::arrival`](crate::net::Net::arrival) and
 /// [`Net::fate_in`](crate::net::Net::fate_in) take no walk.
 #[derive(Drop)]
 pub struct Spread {
     sender: u16,
     nodes: u16,
-    /// For each node whether the packet comes there, or none where it comes to every one.
-    comes: Option<Sequence<bool>>,
+    /// For each node when the packet comes there, in ticks, if it does; or none where it comes to every one.
+    pub(crate) arrivals: Option<Sequence<Option<u64>>>,
 }
 
 impl Model for Spread {
-    ghost use Rattle.std.specs.Prelude.{true, replicate, unwrap_or};
-    ghost use Rattle.srm_net.specs.Spreads.{PlainSpread};
+    ghost use Rattle.srm_net.specs.Spreads.{PlainSpread, comes_in};
 
     ghost Value = { PlainSpread };
 
-    ghost view = { λ s. record { sender = s.sender; comes = unwrap_or s.comes (replicate s.nodes true) } };
+    ghost view = { λ s. record { sender = s.sender; comes = comes_in s.nodes s.arrivals; arrivals = s.arrivals } };
 }
 
 impl Spread {
-    ghost use Rattle.std.specs.Prelude.{true, replicate};
+    ghost use Rattle.std.specs.Prelude.{None};
+    ghost use Rattle.srm_net.specs.Spreads.{comes_in};
 
     /// That of a packet which comes to each of `nodes` nodes. It does not allocate.
     pub(crate) fn everywhere(sender: u16, nodes: u16) -> Self
-        ensures sender { result.sender ≡ sender }
-        ensures comes { result.comes ≡ replicate nodes true }
+        ensures { result ≡ record { sender = sender; comes = comes_in nodes None; arrivals = None } }
     {
         Spread {
             sender,
             nodes,
-            comes: None,
+            arrivals: None,
         }
     }
 
-    /// That of a packet of which it is told for each node whether it comes there. It does not allocate.
-    pub(crate) fn told(sender: u16, nodes: u16, comes: Vec<bool>) -> Self
-        ensures sender { result.sender ≡ sender }
-        ensures comes { result.comes ≡ comes.items }
+    /// That of a packet of which it is told for each node when it comes there, if it does. It does not allocate.
+    pub(crate) fn told(sender: u16, nodes: u16, arrivals: Vec<Option<u64>>) -> Self
+        ensures { result ≡ record { sender = sender; comes = map is_some arrivals.items; arrivals = Some arrivals.items } }
     {
         Spread {
             sender,
             nodes,
-            comes: Some(Sequence::from_vec(comes)),
+            arrivals: Some(Sequence::from_vec(arrivals)),
         }
     }
 
@@ -65,10 +63,10 @@ impl Spread {
     pub fn is_everywhere(&self) -> bool
         ensures { result ≡ is_everywhere self.now }
     {
-        let Some(comes) = &self.comes else {
+        let Some(arrivals) = &self.arrivals else {
             return true;
         };
-        all(comes.as_slice())
+        are_all_told(arrivals.as_slice())
     }
 
     /// Whether the packet comes to a node.
@@ -76,16 +74,16 @@ impl Spread {
         requires { node < length self.now.comes }
         ensures { slice_get self.now.comes node ≡ Some result }
     {
-        match &self.comes {
+        match &self.arrivals {
             None => true,
-            Some(comes) => comes.as_slice()[usize::from(node)],
+            Some(arrivals) => arrivals.as_slice()[usize::from(node)].is_some(),
         }
     }
 }
 
-// Whether all of these are true.
-fn all(values: &[bool]) -> bool
-    ensures { result ≡ list_all (λ b. b) values.now }
+// Whether there is no none among these.
+fn are_all_told(arrivals: &[Option<u64>]) -> bool
+    ensures { result ≡ list_all is_some arrivals.now }
 {
-    values.iter().all(|value| *value)
+    arrivals.iter().all(|arrival| arrival.is_some())
 }

@@ -7,7 +7,7 @@ ghost use Rattle.srm_net.specs.Growth.{Grows, IsInPreorder};
 ghost use Rattle.srm_net.specs.Network.{plain_network, IsNetwork, IsTree, HasDelays, AreHosts};
 ghost use Rattle.srm_net.specs.Paths.{host, route, end_of, delay_along, distance, round, stops, takes_out};
 ghost use Rattle.srm_net.specs.Listed.{is_listed_somewhere};
-ghost use Rattle.srm_net.specs.Spreads.{TellsComing};
+ghost use Rattle.srm_net.specs.Spreads.{TellsArrivals};
 ghost use Rattle.srm_net.specs.Least.{least_delay};
 ghost use Rattle.srm_net.specs.Tables.{is_beyond, TellsAllSides, TellsOuts};
 
@@ -190,24 +190,19 @@ impl Tree {
         true
     }
 
-    /// For each node whether a packet comes there. Each link is looked at once.
-    pub(crate) fn comes_to_each(
+    /// When a packet comes to each node, in ticks, or none where it does not come there. Each link is looked at once.
+    pub(crate) fn arrivals(
         &self,
         alloc: Global,
         drops: &Drops,
         packet: Sending,
-    ) -> Result<Vec<bool>, AllocError>
+    ) -> Result<Vec<Option<u64>>, AllocError>
         requires sent { packet.sent < end_of_time }
         requires from { packet.from < self.now.nodes }
         requires listed { packet.is_listed ≡ is_listed_somewhere drops.now.listed packet.id }
-        ensures { IfOk result (λ comes. TellsComing self.now (takes_out drops.now packet.id) packet.from packet.sent comes.items) }
+        ensures { IfOk result (λ all. TellsArrivals self.now (takes_out drops.now packet.id) packet.from packet.sent all.items) }
     {
-        let arrivals = self.rooted.arrivals(alloc, drops, packet)?;
-        let mut comes = Vec::with_capacity(alloc, arrivals.len())?;
-        for arrival in &arrivals {
-            comes.push(arrival.is_some())?;
-        }
-        Ok(comes)
+        self.rooted.arrivals(alloc, drops, packet)
     }
 
     /// Whether a node is beyond a link, as seen from the link's end `a`.

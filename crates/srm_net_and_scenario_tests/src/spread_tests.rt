@@ -30,7 +30,7 @@ fn is_reached(alloc: Global, on: Result<LossyNet, NetFault>, sent: u64, m: u16) 
     let Ok(spread) = net.spread(alloc, &drops, first_packet(), sent) else {
         return None;
     };
-    Some(net.is_reached(&spread, m))
+    Some(net.arrival(&spread, sent, m).is_some())
 }
 
 // What the same spread tells of a link. There is no answer where there is no network, or it has no member or no such link.

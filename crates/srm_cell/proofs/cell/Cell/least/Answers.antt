@@ -11,6 +11,7 @@ returns g c = λ m p h.
     let a = first_arrival m p p.inbox in
     let k = first_mark m p p.script in
     let t = next_timer m p (due_of p.holds) in
-    subst (λ o. Stands m p o (earlier a (earlier k t))) (sym (c.sooner-2.ensures ∙ ap (sooner_pending c.arrival.result) c.sooner.ensures))
+    let is = c.take_place_if_any-2.ensures ∙ ap (sooner_pending c.arrival.result) c.take_place_if_any.ensures in
+    subst (λ o. Stands m p o (earlier a (earlier k t))) (sym is)
     (sooner_stands m p c.arrival.result _ a (earlier k t) (c.arrival.ensures m p h)
-    (sooner_stands m p c.mark.result c.timer.result k t (c.mark.ensures m p h) (c.timer.ensures m p h)))
+    (sooner_stands m p c.mark.result c.timer-next.result k t (c.mark.ensures m p h) (c.timer-next.ensures m p h)))

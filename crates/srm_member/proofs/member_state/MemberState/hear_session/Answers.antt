@@ -10,8 +10,8 @@ loop-entry-preserved c = record {
       ∙ c.loop-entry.invariant.rest;
 }
 
-pub returns-clause-ok : goal.returns-clause-ok
-returns-clause-ok c =
+pub returns : goal.returns
+returns c =
     let last = sym c.loop-entry.invariant.rest ∙ hear_session-end c.args.at c.args.heard.now c.loop-entry.entry-index c.loop-entry.self
     c.loop-entry.lost c.loop-entry-test.false in
-    (c.quiet.ensures ∙ sym (ap (λ r. r.answer) last), sym (ap (λ r. r.state) last))
+    record { ok = (c.quiet.ensures ∙ sym (ap (λ r. r.answer) last), sym (ap (λ r. r.state) last)); fixed = c.loop-entry.invariant.fixed }

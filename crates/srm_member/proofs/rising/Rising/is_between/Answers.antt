@@ -1,21 +1,20 @@
-use Rattle.std.proofs.Common.{arith, ◌≡◌, ◌<◌, ◌+◌, ◌-◌, ℕ, length, slice_index_or, Bool, true, false, not, T, sym, subst, ap, refl, ◌∙◌}
+use Rattle.std.proofs.Common.{arith, ◌≡◌, ◌<◌, ◌+◌, ◌-◌, length, slice_index_or, Bool, true, false, not, T, sym, subst, ap, refl, ◌∙◌}
 use Rattle.std.specs.Bool.{IsTrue}
 use Rattle.std.specs.FinMap.Entries.{is_sorted}
-use Rattle.srm_net.specs.declared.packet.Name.{Name}
 use Rattle.srm_net.specs.Names.{name_cmp}
 use Rattle.srm_net.proofs.TotalOrders.{name_total, tied_names}
 use Rattle.srm_member.specs.Places.{is_before, IsPlaceOf}
 use Rattle.srm_member.proofs.NameTests.{name_lt}
 use Rattle.srm_member.proofs.PlaceLemmas.{place_between}
-use Rattle.srm_member.proofs.held.Held.is_between.Goals as goal
-use Rattle.srm_member.proofs.held.Held.is_between.Goals.{in-Some, in-None, in-Some-first, in-None-first}
+use Rattle.srm_member.proofs.rising.Rising.is_between.Goals as goal
+use Rattle.srm_member.proofs.rising.Rising.is_between.Goals.{in-Some, in-None, in-Some-first, in-None-first}
 
 is_false : {a : Bool} (b : Bool) → IsTrue a → a ≡ not b → b ≡ false
 is_false true h g = cc
 is_false false h g = refl
 
 pub returns-then-follows : goal.returns-then-follows
-returns-then-follows c =
+returns-then-follows g c =
     let name = c.args.name in
     let es = c.as_slice.result.now in
     let place = c.args.place in
@@ -23,7 +22,7 @@ returns-then-follows c =
     let same : place + 0 ≡ place = omega arith in
     let within = c.as_slice.ensures.value ∙ c.self.view_is in
     let sorted = subst (λ xs. T (is_sorted name_cmp xs)) (sym c.as_slice.ensures.value) c.self.invariant in
-    let below : 0 < place → (d : Name × ℕ) × (is_before name_cmp name (slice_index_or es (place - 1) d) ≡ true) =
+    let below : 0 < place → (d : _) × (is_before name_cmp name (slice_index_or es (place - 1) d) ≡ true) =
     elim c.match-last.branch [
       | in-Some w ↦ λ some.
           let entry = w.in-Some.entry.now in
@@ -37,7 +36,7 @@ returns-then-follows c =
       | in-None w ↦ λ some. absurd (let none = w.in-None.ensures.item.3 in let len = split.front_len in omega arith)
     ] in (
       λ leads.
-          let above : place < length es → (d : Name × ℕ) × (is_before name_cmp name (slice_index_or es place d) ≡ false) =
+          let above : place < length es → (d : _) × (is_before name_cmp name (slice_index_or es place d) ≡ false) =
           elim c.match-first.branch [
             | in-Some-first w ↦ λ some.
                 let entry = w.in-Some-first.entry.now in
@@ -64,7 +63,7 @@ returns-then-follows c =
     )
 
 pub returns-else-follows : goal.returns-else-follows
-returns-else-follows c =
+returns-else-follows g c =
     let name = c.args.name in
     let es = c.as_slice.result.now in
     let place = c.args.place in

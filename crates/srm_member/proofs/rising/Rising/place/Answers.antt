@@ -6,10 +6,10 @@ use Rattle.srm_net.proofs.TotalOrders.{name_total, tied_names}
 use Rattle.srm_member.specs.Places.{is_before, IsPlaceOf}
 use Rattle.srm_member.proofs.NameTests.{name_lt}
 use Rattle.srm_member.proofs.PlaceLemmas.{partitioned, place_at_end}
-use Rattle.srm_member.proofs.held.Held.place.Goals as goal
+use Rattle.srm_member.proofs.rising.Rising.place.Goals as goal
 
 pub returns-then-lt : goal.returns-then-lt
-returns-then-lt c =
+returns-then-lt g c =
     let name = c.args.name in
     let es = c.deref.result.now in
     let last = c.in-Some.last.now in
@@ -21,7 +21,7 @@ returns-then-lt c =
     (subst (IsPlaceOf name_cmp name es) (c.deref.ensures.len ∙ sym c.len.ensures) place)
 
 pub returns : goal.returns
-returns c =
+returns g c =
     let name = c.args.name in
     let es = c.as_slice.result.now in
     let sorted = subst (λ xs. T (is_sorted name_cmp xs)) (sym c.as_slice.ensures.value) c.self.invariant in
