@@ -20,6 +20,19 @@ use Rattle.srm_cell.proofs.CellSteps.{flight_total}
 
 -- ---- lists in an order
 
+module _ {A : Type 0} (cmp : A → A → Ordering) where
+  length_place : (x : A) (ys : List A) → length (place cmp x ys) ≡ suc (length ys)
+  length_place x [] = refl
+  length_place x (y ∷ ys) = elim (is_lt (cmp y x)) as (λ b. length (cond b (y ∷ place cmp x ys) (x ∷ y ∷ ys)) ≡ suc (suc (length ys))) [
+    | true ↦ ap suc (length_place x ys)
+    | false ↦ refl
+  ]
+
+  -- a list in order is as long
+  pub length_ordered : (xs : List A) → length (ordered cmp xs) ≡ length xs
+  length_ordered [] = refl
+  length_ordered (x ∷ xs) = length_place x (ordered cmp xs) ∙ ap suc (length_ordered xs)
+
 module _ {A : Type 0} (cmp : A → A → Ordering) (o : IsTotalOrder cmp) where
   abbrev pub Apart : A → List A → Type 0
   Apart x ys = AllIn (λ y. cmp x y ≢ Equal) ys

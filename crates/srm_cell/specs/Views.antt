@@ -1,5 +1,5 @@
 -- What is seen of a cell, and what its calls tell.
-use Rattle.std.specs.Prelude.{◌≡◌, ◌⊎◌, ℕ, List, Option, Some, None, Result, Ok, Err}
+use Rattle.std.specs.Prelude.{◌≡◌, ◌≤◌, ◌⊎◌, ℕ, List, length, Option, Some, None, Result, Ok, Err}
 use Rattle.std.specs.Global.{Box}
 use Rattle.srm_scenario.specs.declared.mark.Mark.{Mark}
 use Rattle.srm_member.specs.declared.due.Due.{Due}
@@ -118,6 +118,10 @@ module _ {M : Type 0} where
   -- the least time at which the cell has anything pending, of each plain cell that the cell is seen as
   abbrev pub IsNextTime : (M → Record) → Cell M → Option ℕ → Type 0
   IsNextTime f c time = (m : ℕ) (p : PlainCell) → IsCell f m c p → time ≡ time_of (next_event m p)
+
+  -- no more than the packets on their way to the cell's member, of each plain cell that the cell is seen as
+  abbrev pub AreWaiting : (M → Record) → Cell M → ℕ → Type 0
+  AreWaiting f c n = (m : ℕ) (p : PlainCell) → IsCell f m c p → n ≤ length p.inbox
 
   -- what the cell's end tells, of each plain cell that the cell is seen as
   abbrev pub Ends : (M → Record) → Cell M → Result Exit CellFault → Type 0

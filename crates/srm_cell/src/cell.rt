@@ -6,7 +6,7 @@ ghost use Rattle.srm_scenario.specs.Plain.{mark_cmp, network_of};
 ghost use Rattle.srm_member.specs.Record.{due_of};
 ghost use Rattle.srm_cell.specs.Flights.{BringsNone};
 ghost use Rattle.srm_cell.specs.Cells.{PlainCell, hear_at, next_event, first_arrival, first_mark, next_timer};
-ghost use Rattle.srm_cell.specs.Views.{IsNew, Becomes, Steps, Ends, IsNextTime, HoldsRecord, TellsExit, record_in, due_in};
+ghost use Rattle.srm_cell.specs.Views.{AreWaiting, IsNew, Becomes, Steps, Ends, IsNextTime, HoldsRecord, TellsExit, record_in, due_in};
 ghost use Rattle.srm_cell.specs.InnerSteps.{StandsFor, TakesFirst, AnswersEvent};
 ghost use Rattle.srm_cell.specs.PutRows.{PutsRow, PutsStep};
 ghost use Rattle.srm_cell.specs.Jobs.{Runs};
@@ -84,6 +84,13 @@ impl<M: Participant> Cell<M> {
     {
         let next = self.next?;
         Some(next.key.time)
+    }
+
+    /// How many packets are on their way to the member, or fewer: as it is written, exactly so many. It does not allocate.
+    pub fn waiting(&self) -> usize
+        ensures { AreWaiting M.plain self.now result }
+    {
+        self.inbox.waiting()
     }
 
     /// Adds a packet that arrives at tick `arrival`.

@@ -51,6 +51,13 @@ impl Inbox {
         }
     }
 
+    /// How many packets there are, or fewer.
+    pub fn waiting(&self) -> usize
+        ensures { result ≤ length self.now }
+    {
+        self.line.len().saturating_add(self.strays.waiting())
+    }
+
     /// Adds a packet that arrives at tick `arrival`.
     ///
     /// # Errors

@@ -1,5 +1,5 @@
 //! Packets on their way to one member that were accepted out of turn.
-ghost use Rattle.std.specs.Prelude.{◌≡◌, List, [], ◌∷◌, MatchOption, OnOk, OnErr, slice_get, Option, map};
+ghost use Rattle.std.specs.Prelude.{◌≡◌, List, [], ◌∷◌, MatchOption, OnOk, OnErr, slice_get, Option, map, length};
 ghost use Rattle.std.specs.Option.{option_map};
 ghost use Rattle.srm_cell.specs.Flights.{with_flight, BringsNone};
 
@@ -35,6 +35,13 @@ impl Strays {
         Strays {
             waiting: BTreeMap::new(alloc),
         }
+    }
+
+    /// How many packets there are.
+    pub fn waiting(&self) -> usize
+        ensures { result ≡ length self.now }
+    {
+        self.waiting.len()
     }
 
     /// Adds a packet that arrives at tick `arrival`.

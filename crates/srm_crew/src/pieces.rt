@@ -15,7 +15,8 @@ use srm_member::participant::Participant;
 use std::alloc::{AllocError, Global};
 use std::sync::Arc;
 
-/// In how many cells of the jobs something is due before their ends.
+/// About how many events are due in the jobs before their ends: as it is written, one in each cell where something is due, and
+/// one for each packet that is on its way to it.
 pub(crate) fn due_in_all<M: Participant, K: Drop>(jobs: &[WatchedJob<M, K>]) -> usize {
     let mut due: usize = 0;
     for job in jobs {
@@ -24,12 +25,15 @@ pub(crate) fn due_in_all<M: Participant, K: Drop>(jobs: &[WatchedJob<M, K>]) -> 
     due
 }
 
-// In how many cells of the job something is due before its end.
+// The same of one job.
 fn due_in<M: Participant, K: Drop>(job: &WatchedJob<M, K>) -> usize {
-    job.cells
-        .iter()
-        .filter(|cell| is_due(cell, job.till))
-        .count()
+    let mut due: usize = 0;
+    for cell in job.cells.iter() {
+        if is_due(cell, job.till) {
+            due = due.saturating_add(cell.waiting()).saturating_add(1);
+        }
+    }
+    due
 }
 
 // Whether something is due in the cell before tick `till`.
@@ -49,8 +53,8 @@ pub(crate) fn cells_in<M: Participant>(groups: &[Vec<Cell<M>>]) -> usize {
     cells
 }
 
-/// The jobs in pieces, in order. A piece ends once something is due in `share` of its cells; but the one after so many `cuts` has
-/// all that are left.
+/// The jobs in pieces, in order. A piece ends once about `share` events are due in it; but the one after so many `cuts` has all
+/// jobs that are left.
 pub(crate) fn pieces_of<M: Participant, K: Drop>(
     alloc: Global,
     jobs: Vec<WatchedJob<M, K>>,

@@ -38,7 +38,7 @@ use std::sync::Wait;
 
 /// Advances watched jobs on the threads of a team, which stay for the next call. It serves runs of one scenario, which it keeps
 /// with its network. What a call hands to the team is in no more pieces than it has room for. As it is written, the thread that
-/// calls does all the work where something is due in few cells, or little is heard: to wake the others would take longer.
+/// calls does all the work where few events are due, or little is heard: to wake the others would take longer.
 #[derive(Drop)]
 pub struct WatchTeam<'a, R: Wait, M: Participant, K: Drop, W: Watch<K> + Copy, J: Naming> {
     rt: R,
@@ -97,7 +97,7 @@ fn advance_in_team<'a, R: Wait, M: Participant, K: Drop, W: Watch<K> + Copy, J: 
         return advance_watched(alloc, work.session, &work.watch, jobs);
     }
     let due = due_in_all(jobs.as_slice());
-    let Ok(pieces) = pieces_of(alloc, jobs, due / room, room - 1) else {
+    let Ok(pieces) = pieces_of(alloc, jobs, due / room + 1, room - 1) else {
         return Err(CellFault::NoMemory);
     };
     let Ok(given) = to_advance(alloc, pieces) else {
@@ -147,9 +147,9 @@ impl<'a, R: Wait, M: Participant, K: Drop, W: Watch<K> + Copy, J: Naming> WatchT
     W,
     J,
 > {
-    /// A crew that has this team, and does this work. As it is written, the thread that calls does it where something is due in
-    /// fewer than `few` cells, where all cells together hear fewer than 8,192 packets, or where the team has room for no item. It
-    /// does not allocate.
+    /// A crew that has this team, and does this work. As it is written, the thread that calls does it where fewer than about `few`
+    /// events are due, where all cells together hear fewer than 8,192 packets, or where the team has room for no item. It does not
+    /// allocate.
     ///
     /// A call of it is refused with `NoMemory` also where its team is `Worn` or `Left`, and never for `TooMany`.
     pub fn new(
@@ -180,8 +180,8 @@ impl<'a, R: Wait, M: Participant, K: Drop, W: Watch<K> + Copy, J: Naming> WatchC
 
     ghost serves = { λ c k net. IsWatchOn c.work k net };
 
-    // Which calls it was handed it does not keep, and no call changes its work, the room of its team, or what few cells
-    // are.
+    // Which calls it was handed it does not keep, and no call changes its work, the room of its team, or how many events
+    // are few.
     ghost handed = { λ a _ b. (b.work ≡ a.work) × (b.team.room ≡ a.team.room) × (b.few ≡ a.few) };
 
     ghost handed_none = { λ c. (refl, refl, refl) };

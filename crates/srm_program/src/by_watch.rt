@@ -29,8 +29,8 @@ use std::thread::{Threads, join_mut};
 /// How many pieces a worker has of the jobs, or the rows, of a window. Workers take them as they come free.
 pub(crate) const PIECES: usize = 4;
 
-// In how many cells something is due at least where the workers are woken.
-const ENOUGH: usize = 100;
+// About how many events are due at least where the workers are woken.
+const ENOUGH: usize = 400;
 
 // The table of a run led by this crew, of these members. They are taken out of an `Option`, since a closure that calls this cannot give
 // them away.

@@ -1,0 +1,16 @@
+use Rattle.std.proofs.Common.{◌≡◌, ◌≤◌, ◌+◌, ◌++◌, List, length, subst, arith, ◌∙◌, length-append}
+use Rattle.srm_cell.specs.declared.flight.Flight.{Flight}
+use Rattle.srm_cell.specs.Flights.{flight_cmp}
+use Rattle.srm_cell.proofs.InboxLines.{length_ordered}
+use Rattle.srm_cell.proofs.inbox.Inbox.waiting.Goals as goal
+
+pub returns : goal.returns
+returns c =
+    let all = c.self.inside.strays ++ c.self.inside.line.items in
+    let long : length all ≡ length c.self.inside.strays + length c.self.inside.line.items =
+    length-append c.self.inside.strays c.self.inside.line.items in
+    let ordered_long = length_ordered flight_cmp all in
+    let line : c.len.result ≡ length c.self.inside.line.items = c.len.ensures ∙ c.self.inside.line.ok.0 in
+    let others = c.waiting.ensures in
+    let sum = c.saturating_add.ensures in
+    subst (λ (l : List Flight). c.saturating_add.result ≤ length l) c.self.view_is (grind (arith))
