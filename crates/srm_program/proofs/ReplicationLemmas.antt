@@ -4,6 +4,7 @@ use Rattle.std.proofs.Common.{Option, Some, None, Result, Ok, Err}
 use Rattle.std.proofs.Common.{refl, ap, sym, subst, append_assoc, append-nil, length-append, inr, codes, arith}
 use Rattle.std.specs.Global.{Vec}
 use Rattle.std.specs.List.{flat_map, range_with_len}
+use Rattle.std.specs.Option.{option_map_or}
 use Rattle.std.specs.Io.KnownBytes.{Appends}
 use Rattle.std.proofs.KnownBytes.{Appends-trans}
 use Rattle.std.proofs.lemmas.Grind.{flat_map-append}
@@ -26,8 +27,8 @@ use Rattle.srm_report.specs.Seeds.{IsLine, AreLines}
 use Rattle.srm_report.specs.SinkLaws.{count_more}
 use Rattle.srm_report.specs.Standings.{GrewBy}
 use Rattle.srm_report.specs.Tables.{lines_of, table_lines}
-use Rattle.srm_report.specs.Timers.{timers_header, timers_line, timers_rows, timers_rows_by, timers_line_by, timers_table}
-use Rattle.srm_report.specs.Trace.{trace_fields, trace_header, trace_line, trace_of_rows}
+use Rattle.srm_report.specs.Timers.{timers_columns, timers_fields, timers_rows, timers_table}
+use Rattle.srm_report.specs.Trace.{trace_columns, trace_fields, trace_of_rows}
 use Rattle.srm_report.proofs.LineLemmas.{decimal_is_plain, role_is_plain, time_is_plain, delay_is_plain, cause_is_plain, ref_is_plain}
 use Rattle.srm_report.proofs.LineLemmas.{last_delay_is_plain, last_is_plain, told_is_plain, sent_is_plain}
 use Rattle.srm_program.specs.declared.fault.LabFault.{LabFault}
@@ -48,27 +49,21 @@ pub lines_joined : (xs ys : List (List (List ℕ))) → lines_of (xs ++ ys) ≡ 
 unfolding lines_of
 lines_joined xs ys = flat_map-append (row_text default_writer) xs ys
 
-timers_one : (r : Row) (i : Option Intervals) → timers_line_by r i ≡ lines_of (timers_rows_by r i)
+timers_all : (rows : List Row) → flat_map (λ r. lines_of (timers_rows r)) rows ≡ lines_of (flat_map timers_rows rows)
 unfolding lines_of
-timers_one r None = refl
-timers_one r (Some i) = sym (append-nil _)
-
-timers_all : (rows : List Row) → flat_map timers_line rows ≡ lines_of (flat_map timers_rows rows)
-unfolding timers_line lines_of
 timers_all [] = refl
 timers_all (r ∷ rows) =
-    (λ i. timers_one r r.adapted i ++ timers_all rows i) ∙ sym (lines_joined (timers_rows r) (flat_map timers_rows rows))
+    ap (λ l. lines_of (timers_rows r) ++ l) (timers_all rows) ∙ sym (lines_joined (timers_rows r) (flat_map timers_rows rows))
 
 pub shown_by_rows : (show : Show) (p : PlainScenario) (net : Network) (rows : List Row) (totals : List ℕ)
     → shown show p net rows totals ≡ table_lines (columns_shown show) (rows_shown show p net rows totals)
-unfolding table_lines trace_of_rows trace_header trace_line members_table losses_table operations_table links_table timers_table
-    timers_header
-shown_by_rows Trace p net rows totals = ap (λ l. trace_header ++ l) (lines_mapped trace_fields rows)
+unfolding table_lines trace_of_rows members_table losses_table operations_table links_table timers_table
+shown_by_rows Trace p net rows totals = ap (λ l. row_text default_writer trace_columns ++ l) (lines_mapped trace_fields rows)
 shown_by_rows Members p net rows totals = refl
 shown_by_rows Losses p net rows totals = refl
 shown_by_rows Operations p net rows totals = refl
 shown_by_rows Links p net rows totals = refl
-shown_by_rows Timers p net rows totals = ap (λ l. timers_header ++ l) (timers_all rows)
+shown_by_rows Timers p net rows totals = ap (λ l. row_text default_writer timers_columns ++ l) (timers_all rows)
 
 pub report_by_rows : (show : Show) (p : PlainScenario) (net : Network) (w : World)
     → report_of show p net w ≡ table_lines (columns_shown show) (rows_of_run show p net w)
@@ -93,7 +88,7 @@ one_member rows m (k ∷ ks) =
       one_member rows (m + 1) ks,
     )
 
-timers_rows_are : (r : Row) (i : Option Intervals) → AreLines (timers_rows_by r i)
+timers_rows_are : (r : Row) (i : Option Intervals) → AreLines (option_map_or (λ j. timers_fields r j ∷ []) i [])
 timers_rows_are r None = tt
 timers_rows_are r (Some i) =
     let d = decimal_is_plain in

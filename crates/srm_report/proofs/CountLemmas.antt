@@ -22,7 +22,8 @@ use Rattle.srm_report.specs.Rows.{time_of_first}
 
 -- ---- one row more
 
-time_more : (kind : Word → Bool) (rows : List Row) (r : Row) → first_known (time_of_first (λ q. kind q.cause) rows) r.key.time (kind r.cause)
+time_more : (kind : Word → Bool) (rows : List Row) (r : Row)
+    → first_known (time_of_first (λ q. kind q.cause) rows) r.key.time (kind r.cause)
     ≡ time_of_first (λ q. kind q.cause) (rows ++ r ∷ [])
 time_more kind rows r = grind (arith, find-append)
 

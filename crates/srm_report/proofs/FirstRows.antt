@@ -201,7 +201,8 @@ module _ (rows : List Row) (o : Rising rows) (n : Name) where
   first_loss : fold sooner None (map (detected_at rows) (losses_of rows n)) ≡ row_time (find (loses n) rows)
   first_loss = by (find (loses n) rows) refl
     where
-      by : (found : Option Row) → find (loses n) rows ≡ found → fold sooner None (map (detected_at rows) (losses_of rows n)) ≡ row_time found
+      by : (found : Option Row) → find (loses n) rows ≡ found
+          → fold sooner None (map (detected_at rows) (losses_of rows n)) ≡ row_time found
       by None e =
           let none : losses_of rows n ≡ [] = none_named (all_losses rows) (any_named n rows ∙ none_found (loses n) rows e) in
           ap (λ ks. fold sooner None (map (detected_at rows) ks)) none

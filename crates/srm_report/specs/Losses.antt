@@ -32,8 +32,8 @@ detected_at rows k = time_of_first (λ r. (r.key.member == k.member) && list_any
 -- when it was fixed: in the first in which the member took in the name as `fixed`
 abbrev pub recovered_at : List Row → Loss → Option ℕ
 recovered_at rows k =
-    time_of_first
-    (λ r. (r.key.member == k.member) && (is_fixed r.told && option_map_or (is_name k.name) (brought r.about) false)) rows
+    time_of_first (λ r. (r.key.member == k.member)
+    && (is_fixed r.told && option_map_or (is_name k.name) (brought r.about) false)) rows
 
 -- a time over another, not reduced
 abbrev pub ratio : ℕ → ℕ → List ℕ

@@ -1,7 +1,7 @@
 -- The table of operations: of each name that some member lost, how many lost it and have it again, and what was sent
 -- for it.
-use Rattle.std.specs.Prelude.{ℕ, ◌-◌, ◌==◌, Bool, false, not, ◌&&◌, List, [], ◌∷◌, ◌++◌, length, map, min, Option, Some, None}
-use Rattle.std.specs.Prelude.{is_some, nat_lt, cond, codes, decimal}
+use Rattle.std.specs.Prelude.{ℕ, ◌-◌, ◌==◌, Bool, false, not, ◌&&◌, List, [], ◌∷◌, ◌++◌, length, map, min}
+use Rattle.std.specs.Prelude.{Option, Some, None, is_some, nat_lt, cond, codes, decimal}
 use Rattle.std.specs.List.{count_by, filter, fold, list_any}
 use Rattle.srm_net.specs.declared.packet.Name.{Name}
 use Rattle.srm_net.specs.Names.{name_cmp}

@@ -1,11 +1,13 @@
 -- The table of timers: how members' constants are adapted, row by row of the trace.
-use Rattle.std.specs.Prelude.{ℕ, List, [], ◌∷◌, Option, Some, None, codes, decimal}
+use Rattle.std.specs.Prelude.{ℕ, List, [], ◌∷◌, codes, decimal}
+use Rattle.std.specs.Option.{option_map_or}
 use Rattle.csv.specs.Writing.{row_text, default_writer}
 use Rattle.srm_member.specs.declared.intervals.Intervals.{Intervals}
 use Rattle.srm_member.specs.declared.row.Row.{Row}
 use Rattle.srm_report.specs.Listings.{Form, text_in}
 use Rattle.srm_report.specs.Trace.{cause_word, ref_text}
 use Rattle.srm_report.specs.Rows.{or_dash}
+use Rattle.srm_report.specs.Tables.{lines_of}
 
 -- the columns of the table of timers
 abbrev pub timers_columns : List (List ℕ)
@@ -22,28 +24,12 @@ timers_fields r i =
     ∷ or_dash decimal i.repair.average_duplicates ∷ or_dash decimal i.repair.average_delay ∷ []
 
 -- the row of the table for a row of the trace, which has one where it tells of intervals
-abbrev pub timers_rows_by : Row → Option Intervals → List (List (List ℕ))
-timers_rows_by r None = []
-timers_rows_by r (Some i) = timers_fields r i ∷ []
-
 abbrev pub timers_rows : Row → List (List (List ℕ))
-timers_rows r = timers_rows_by r r.adapted
-
--- the line of a row of the trace, which has one where it tells of intervals
-abbrev pub timers_line_by : Row → Option Intervals → List ℕ
-timers_line_by r None = []
-timers_line_by r (Some i) = row_text default_writer (timers_fields r i)
-
-unfoldable pub timers_line : Row → List ℕ
-timers_line r = timers_line_by r r.adapted
-
--- the line of the columns
-unfoldable pub timers_header : List ℕ
-timers_header = row_text default_writer timers_columns
+timers_rows r = option_map_or (λ i. timers_fields r i ∷ []) r.adapted []
 
 -- how the table of timers lists rows
 abbrev pub timers_form : Form
-timers_form = record { header = timers_header; line = timers_line }
+timers_form = record { header = row_text default_writer timers_columns; line = λ r. lines_of (timers_rows r) }
 
 -- the table of timers of a trace
 unfoldable pub timers_table : List Row → List ℕ

@@ -66,17 +66,12 @@ abbrev pub trace_fields : Row → List (List ℕ)
 trace_fields r = decimal r.key.time ∷ decimal r.key.member ∷ cause_word r.cause ∷ ref_text r.about ∷ told_word r.told
     ∷ decimal (length r.lost) ∷ or_dash (λ p. packet_text p.id) r.sent ∷ []
 
--- the line of the columns
-unfoldable pub trace_header : List ℕ
-trace_header = row_text default_writer trace_columns
-
--- the line of a row
-unfoldable pub trace_line : Row → List ℕ
-trace_line r = row_text default_writer (trace_fields r)
-
 -- how a trace lists rows: a line for each
 abbrev pub trace_form : Form
-trace_form = record { header = trace_header; line = trace_line }
+trace_form = record {
+  header = row_text default_writer trace_columns;
+  line = λ r. row_text default_writer (trace_fields r);
+}
 
 -- the text of a trace: its header, and then a line for each row
 unfoldable pub trace_of_rows : List Row → List ℕ

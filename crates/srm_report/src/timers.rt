@@ -5,7 +5,8 @@ ghost use Rattle.csv.specs.Writing.{comma, default_writer, row_text};
 ghost use Rattle.srm_report.specs.Listings.{lines_in};
 ghost use Rattle.srm_report.specs.Lines.{full_room, line_room, line_text, line_written};
 ghost use Rattle.srm_report.specs.Rows.{or_dash};
-ghost use Rattle.srm_report.specs.Timers.{timers_fields, timers_form, timers_line, timers_table};
+ghost use Rattle.srm_report.specs.Tables.{lines_of};
+ghost use Rattle.srm_report.specs.Timers.{timers_fields, timers_form, timers_rows, timers_table};
 
 use crate::fault::ReportFault;
 use crate::fields::{put_number, put_time, put_word};
@@ -88,7 +89,7 @@ fn put_rows(text: &mut Vec<u8>, rows: &[Row]) -> Result<(), AllocError>
 
 // Appends the line of a row, if it has one.
 fn append_row(text: &mut Vec<u8>, line: &mut Line, row: &Row) -> Result<(), AllocError>
-    ensures { text.new.items ≡ (if is_ok result then text.old.items ++ timers_line row.now else text.old.items) }
+    ensures { text.new.items ≡ (if is_ok result then text.old.items ++ lines_of (timers_rows row.now) else text.old.items) }
 {
     let Some(intervals) = row.adapted.get() else {
         return Ok(());

@@ -7,7 +7,6 @@ use Rattle.srm_report.specs.Losses.{delay_text, ratio}
 use Rattle.srm_report.proofs.LineLemmas.{HasFields, line_is_row, field, decimal_is_plain, delay_is_plain, time_is_plain}
 use Rattle.srm_report.proofs.loss_lines.put_loss.Goals.{in-None, in-Some}
 use Rattle.srm_report.proofs.loss_lines.put_loss.Goals as goal
-use Rattle.srm_report.specs.Rows.{or_dash}
 
 pub returns : goal.returns
 returns c =
@@ -25,7 +24,7 @@ returns c =
     ] in
     let delay : HasFields (line_written c.match-course.line) (text ∷ []) =
     record { text = put; plain = (delay_is_plain trip (Some course.detected) course.recovered, tt) } in
-    let recovered = field (or_dash decimal course.recovered) (time_is_plain course.recovered) c.put_time.ensures.written refl delay in
+    let recovered = field _ (time_is_plain course.recovered) c.put_time.ensures.written refl delay in
     let detected = field (decimal course.detected) (decimal_is_plain course.detected) c.put_number.ensures.written refl recovered in
     let number = field (decimal k.name.number) (decimal_is_plain k.name.number) c.put_number-2.ensures.written
     (ap decimal c.from.ensures) detected in

@@ -2,7 +2,6 @@ use Rattle.std.proofs.Common.{◌∙◌, ◌-◌, decimal, refl, ap}
 use Rattle.srm_report.specs.Members.{role_word}
 use Rattle.srm_report.proofs.LineLemmas.{line_is_row, no_field, field, decimal_is_plain, role_is_plain, time_is_plain}
 use Rattle.srm_report.proofs.member_lines.put_member.Goals as goal
-use Rattle.srm_report.specs.Rows.{or_dash}
 
 pub returns : goal.returns
 returns c =
@@ -19,8 +18,8 @@ returns c =
     let lost = field (decimal n.lost) (decimal_is_plain n.lost) c.put_sum-2.ensures.written refl fixed in
     let heard = field (decimal n.heard) (decimal_is_plain n.heard) c.put_number-5.ensures.written refl lost in
     let drawn = field (decimal n.drawn) (decimal_is_plain n.drawn) c.put_number-6.ensures.written refl heard in
-    let left = field (or_dash decimal n.left) (time_is_plain n.left) c.put_time.ensures.written refl drawn in
-    let joined = field (or_dash decimal n.joined) (time_is_plain n.joined) c.put_time-2.ensures.written refl left in
+    let left = field _ (time_is_plain n.left) c.put_time.ensures.written refl drawn in
+    let joined = field _ (time_is_plain n.joined) c.put_time-2.ensures.written refl left in
     let node = field (decimal k.node) (decimal_is_plain k.node) c.put_number-7.ensures.written (ap decimal c.from-2.ensures) joined in
     let role = field (role_word k.role) (role_is_plain k.role) c.put_word.ensures.written c.word_of_role.ensures.word node in
     let member = field (decimal m) (decimal_is_plain m) c.put_number-8.ensures.written (ap decimal c.from-3.ensures) role in

@@ -2,17 +2,16 @@ use Rattle.std.proofs.Common.{decimal, refl, ap}
 use Rattle.srm_report.specs.Trace.{cause_word, ref_text}
 use Rattle.srm_report.proofs.LineLemmas.{line_is_row, no_field, field, cause_is_plain, decimal_is_plain, ref_is_plain, time_is_plain}
 use Rattle.srm_report.proofs.timers.put_row.Goals as goal
-use Rattle.srm_report.specs.Rows.{or_dash}
 
 pub returns : goal.returns
 returns c =
     let r = c.args.row.now in
     let i = c.args.intervals in
-    let rep_delay = field (or_dash decimal i.repair.average_delay) (time_is_plain i.repair.average_delay) refl refl (no_field c.requires.empty) in
-    let rep_dup = field (or_dash decimal i.repair.average_duplicates) (time_is_plain i.repair.average_duplicates) c.put_averages.ensures.written
+    let rep_delay = field _ (time_is_plain i.repair.average_delay) refl refl (no_field c.requires.empty) in
+    let rep_dup = field _ (time_is_plain i.repair.average_duplicates) c.put_averages.ensures.written
     refl rep_delay in
-    let req_delay = field (or_dash decimal i.request.average_delay) (time_is_plain i.request.average_delay) refl refl rep_dup in
-    let req_dup = field (or_dash decimal i.request.average_duplicates) (time_is_plain i.request.average_duplicates)
+    let req_delay = field _ (time_is_plain i.request.average_delay) refl refl rep_dup in
+    let req_dup = field _ (time_is_plain i.request.average_duplicates)
     c.put_averages-2.ensures.written refl req_delay in
     let d2 = field (decimal i.repair.width) (decimal_is_plain i.repair.width) refl refl req_dup in
     let d1 = field (decimal i.repair.start) (decimal_is_plain i.repair.start) c.put_constants.ensures.written refl d2 in

@@ -1,14 +1,13 @@
 use Rattle.std.proofs.Common.{length, decimal, refl, ap}
-use Rattle.srm_report.specs.Trace.{cause_word, packet_text, ref_text, told_word}
+use Rattle.srm_report.specs.Trace.{cause_word, ref_text, told_word}
 use Rattle.srm_report.proofs.LineLemmas.{line_is_row, no_field, field, cause_is_plain, decimal_is_plain, ref_is_plain, sent_is_plain}
 use Rattle.srm_report.proofs.LineLemmas.{told_is_plain}
 use Rattle.srm_report.proofs.trace.put_row.Goals as goal
-use Rattle.srm_report.specs.Rows.{or_dash}
 
 pub returns : goal.returns
 returns c =
     let r = c.args.row.now in
-    let sent = field (or_dash (λ p. packet_text p.id) r.sent) (sent_is_plain r.sent) c.put_sent.ensures.written refl (no_field c.requires.empty) in
+    let sent = field _ (sent_is_plain r.sent) c.put_sent.ensures.written refl (no_field c.requires.empty) in
     let lost = field (decimal (length r.lost)) (decimal_is_plain (length r.lost)) c.put_number.ensures.written
     (ap decimal c.len.ensures) sent in
     let told = field (told_word r.told) (told_is_plain r.told) c.put_word.ensures.written c.word_of_told.ensures.word lost in

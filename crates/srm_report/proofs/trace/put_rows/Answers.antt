@@ -1,5 +1,5 @@
 use Rattle.std.proofs.Common.{◌≡◌, ◌∙◌, length, sym, append-nil, arith}
-use Rattle.srm_report.specs.Trace.{trace_form, trace_line}
+use Rattle.srm_report.specs.Trace.{trace_form}
 use Rattle.srm_report.proofs.ListingLemmas.{text-all, text-more}
 use Rattle.srm_report.proofs.trace.put_rows.Goals as goal
 
@@ -7,7 +7,6 @@ pub loop-row-init : goal.loop-row-init
 loop-row-init c = c.in_ok-reserve.ensures.items ∙ sym (append-nil c.args.text.now.items)
 
 pub loop-row-preserved : goal.loop-row-preserved
-unfolding trace_line
 loop-row-preserved c =
     text-more trace_form _ c.args.rows.now c.loop-row.row-index c.row-item.result _ _ _ c.loop-row-test.true c.row-item.is
     c.loop-row.invariant (c.text.ensures ∙ c.put_row.ensures) c.in_ok-extend_from_slice.ensures.items

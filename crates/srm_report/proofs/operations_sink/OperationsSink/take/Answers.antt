@@ -6,8 +6,8 @@ use Rattle.srm_report.proofs.operations_sink.OperationsSink.take.Goals as goal
 
 pub loop-row-preserved : goal.loop-row-preserved
 loop-row-preserved c =
-    next_row FindsOperations (in_turn_more HasOperations) c.args.self.now c.loop-row.self c.take_row.new.self c.args.rows.now c.loop-row.row-index
-    c.row-item.result c.loop-row-test.true c.row-item.is c.loop-row.invariant c.in_ok-take_row.ensures
+    next_row FindsOperations (in_turn_more HasOperations) c.args.self.now c.loop-row.self c.take_row.new.self c.args.rows.now
+    c.loop-row.row-index c.row-item.result c.loop-row-test.true c.row-item.is c.loop-row.invariant c.in_ok-take_row.ensures
 
 pub returns-clause-taken : goal.returns-clause-taken
 returns-clause-taken c =
