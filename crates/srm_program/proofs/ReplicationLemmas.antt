@@ -30,7 +30,7 @@ use Rattle.srm_report.specs.Tables.{lines_of, table_lines}
 use Rattle.srm_report.specs.Timers.{timers_columns, timers_fields, timers_rows, timers_table}
 use Rattle.srm_report.specs.Trace.{trace_columns, trace_fields, trace_of_rows}
 use Rattle.srm_report.proofs.LineLemmas.{decimal_is_plain, role_is_plain, time_is_plain, delay_is_plain, cause_is_plain, ref_is_plain}
-use Rattle.srm_report.proofs.LineLemmas.{last_delay_is_plain, last_is_plain, told_is_plain, sent_is_plain}
+use Rattle.srm_report.proofs.LineLemmas.{last_is_plain, told_is_plain, sent_is_plain}
 use Rattle.srm_program.specs.declared.fault.LabFault.{LabFault}
 use Rattle.srm_program.specs.declared.fault.LabFault.TheVariants.{BadCut, BadWidth, ShareFull, NoMemory, CountFull, WriteFault}
 use Rattle.srm_program.specs.Reports.{report_of, shown, failures_after_run, ByShow, EndsIn, TellsListing, TellsTable}
@@ -110,12 +110,12 @@ rows_are_lines Members p net rows totals = one_member rows 0 p.members
 rows_are_lines Losses p net rows totals =
     let d = decimal_is_plain in
     let t = time_is_plain in
-    mapped_lines _ (λ k. (d _, (d _, (d _, (d _, (t _, (t _, (delay_is_plain _ _ _, tt)))))))) _
+    mapped_lines _ (λ k. (d _, (d _, (d _, (d _, (t _, (t _, (delay_is_plain net _ _, tt)))))))) _
 rows_are_lines Operations p net rows totals =
     let d = decimal_is_plain in
     let t = time_is_plain in
     let l = last_is_plain in
-    let w = last_delay_is_plain net in
+    let w = delay_is_plain net in
     mapped_lines _ (λ n. (d _, (d _, (d _, (d _, (d _, (d _, (t _, (t _, (d _, (d _, (l _, (w _ _, tt))))))))))))) _
 rows_are_lines Links p net rows totals =
     let d = decimal_is_plain in

@@ -19,11 +19,10 @@ use Rattle.srm_member.specs.declared.row.About.{About}
 use Rattle.srm_report.specs.declared.line.Line.{Line}
 use Rattle.srm_report.specs.declared.recovery.Recovery.{Recovery}
 use Rattle.srm_report.specs.Lines.{line_text, line_written}
-use Rattle.srm_report.specs.Losses.{delay_text, ratio}
+use Rattle.srm_report.specs.Losses.{delay_of, ratio}
 use Rattle.srm_report.specs.Members.{role_word}
 pub use Rattle.srm_report.specs.Seeds.{IsPlain, ArePlain}
 use Rattle.srm_report.specs.Trace.{cause_word, name_text, packet_text, ref_text, told_word}
-use Rattle.srm_report.specs.Operations.{delay_of}
 use Rattle.srm_report.specs.Rows.{or_dash}
 
 -- ---- lines
@@ -112,16 +111,13 @@ pub time_is_plain : (o : Option ℕ) → IsPlain (or_dash decimal o)
 time_is_plain None = refl
 time_is_plain (Some at) = decimal_is_plain at
 
-pub delay_is_plain : (trip : ℕ) (detected recovered : Option ℕ) → IsPlain (delay_text trip detected recovered)
-delay_is_plain trip detected recovered = grind (arith, ratio_is_plain)
-
 pub last_is_plain : (o : Option Recovery) → IsPlain (or_dash (λ r. decimal r.member) o)
 last_is_plain None = refl
 last_is_plain (Some r) = decimal_is_plain r.member
 
-pub last_delay_is_plain : (net : Network) (source : ℕ) (o : Option Recovery) → IsPlain (or_dash (delay_of net source) o)
-last_delay_is_plain net source None = refl
-last_delay_is_plain net source (Some r) = ratio_is_plain (r.recovered - r.detected) (round net r.member source)
+pub delay_is_plain : (net : Network) (source : ℕ) (o : Option Recovery) → IsPlain (or_dash (delay_of net source) o)
+delay_is_plain net source None = refl
+delay_is_plain net source (Some r) = ratio_is_plain (r.recovered - r.detected) (round net r.member source)
 
 pub role_is_plain : (r : Role) → IsPlain (role_word r)
 role_is_plain r = grind arith

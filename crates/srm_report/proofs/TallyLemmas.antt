@@ -24,9 +24,9 @@ use Rattle.srm_report.specs.declared.recovery.Recovery.{Recovery}
 use Rattle.srm_report.specs.declared.sending.Sending.{Sending}
 use Rattle.srm_report.specs.declared.tally.Tally.{Tally}
 use Rattle.srm_report.specs.Courses.{TellLosses}
-use Rattle.srm_report.specs.Losses.{detected_at, loss_cmp, recovered_at}
+use Rattle.srm_report.specs.Losses.{detected_at, loss_cmp, recovered_at, recovery_by}
 use Rattle.srm_report.specs.Operations.{each_once, has_left, is_open, is_recovered, last_told, later, losses_of}
-use Rattle.srm_report.specs.Operations.{operation_columns, operation_fields, operations_table, recovery_by, sooner, tally_of}
+use Rattle.srm_report.specs.Operations.{operation_columns, operation_fields, operations_table, sooner, tally_of}
 use Rattle.srm_report.specs.Rows.{is_name}
 use Rattle.srm_report.specs.Sendings.{TellLeft, TellSent, sending_in}
 use Rattle.srm_report.specs.Tables.{table_lines}

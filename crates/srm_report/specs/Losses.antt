@@ -1,5 +1,5 @@
 -- The table of losses: of each name that a member lost, when that was detected, and when it was fixed.
-use Rattle.std.specs.Prelude.{ℕ, ◌-◌, false, ◌&&◌, List, [], ◌∷◌, ◌++◌, map, Option, Some, ◌==◌, codes, decimal}
+use Rattle.std.specs.Prelude.{ℕ, ◌-◌, false, ◌&&◌, List, [], ◌∷◌, ◌++◌, map, Option, Some, None, ◌==◌, codes, decimal}
 use Rattle.std.specs.declared.cmp.Ordering.{Ordering}
 use Rattle.std.specs.Ordering.{nat_cmp}
 use Rattle.std.specs.Cmp.Lexicographic.{slice_cmp}
@@ -12,6 +12,7 @@ use Rattle.srm_member.specs.declared.row.Row.{Row}
 use Rattle.srm_member.specs.Orderly.{brought}
 use Rattle.srm_member.specs.Kinds.{is_fixed}
 use Rattle.srm_report.specs.declared.loss.Loss.{Loss}
+use Rattle.srm_report.specs.declared.recovery.Recovery.{Recovery}
 use Rattle.srm_report.specs.Rows.{is_name, or_dash, time_of_first}
 use Rattle.srm_report.specs.Tables.{table_lines}
 
@@ -39,10 +40,15 @@ recovered_at rows k =
 abbrev pub ratio : ℕ → ℕ → List ℕ
 ratio took way = decimal took ++ codes "/" ++ decimal way
 
--- how long it took, over the round trip to the source
-abbrev pub delay_text : ℕ → Option ℕ → Option ℕ → List ℕ
-delay_text trip (Some detected) (Some recovered) = ratio (recovered - detected) trip
-delay_text trip _ _ = codes "-"
+-- how a member recovered that detected a loss, and had it fixed, at these times
+abbrev pub recovery_by : ℕ → Option ℕ → Option ℕ → Option Recovery
+recovery_by m (Some detected) (Some recovered) =
+    Some (record { member = m; detected = detected; recovered = recovered })
+recovery_by m _ _ = None
+
+-- how long a recovery took, over the round trip to the source
+abbrev pub delay_of : Network → ℕ → Recovery → List ℕ
+delay_of net source r = ratio (r.recovered - r.detected) (round net r.member source)
 
 -- the columns of the table
 abbrev pub loss_columns : List (List ℕ)
@@ -55,7 +61,7 @@ abbrev pub loss_fields : Network → Loss → Option ℕ → Option ℕ → List
 loss_fields net k detected recovered =
     decimal k.member ∷ decimal k.name.source ∷ decimal k.name.page ∷ decimal k.name.number
     ∷ or_dash decimal detected ∷ or_dash decimal recovered
-    ∷ delay_text (round net k.member k.name.source) detected recovered ∷ []
+    ∷ or_dash (delay_of net k.name.source) (recovery_by k.member detected recovered) ∷ []
 
 -- the row of a loss, as these rows tell of it
 abbrev pub loss_row : Network → List Row → Loss → List (List ℕ)

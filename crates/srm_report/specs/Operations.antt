@@ -1,13 +1,12 @@
 -- The table of operations: of each name that some member lost, how many lost it and have it again, and what was sent
 -- for it.
-use Rattle.std.specs.Prelude.{ℕ, ◌-◌, ◌==◌, Bool, false, not, ◌&&◌, List, [], ◌∷◌, ◌++◌, length, map, min}
+use Rattle.std.specs.Prelude.{ℕ, ◌==◌, Bool, false, not, ◌&&◌, List, [], ◌∷◌, ◌++◌, length, map, min}
 use Rattle.std.specs.Prelude.{Option, Some, None, is_some, nat_lt, cond, codes, decimal}
 use Rattle.std.specs.List.{count_by, filter, fold, list_any}
 use Rattle.srm_net.specs.declared.packet.Name.{Name}
 use Rattle.srm_net.specs.Names.{name_cmp}
 use Rattle.srm_net.specs.Network.{Network}
 use Rattle.srm_net.specs.Orders.{ordered}
-use Rattle.srm_net.specs.Paths.{round}
 use Rattle.srm_member.specs.declared.row.About.{About}
 use Rattle.srm_member.specs.declared.row.About.TheVariants.{Nothing, Of, Named}
 use Rattle.srm_member.specs.declared.row.Row.{Row}
@@ -17,7 +16,7 @@ use Rattle.srm_report.specs.declared.loss.Loss.{Loss}
 use Rattle.srm_report.specs.declared.recovery.Recovery.{Recovery}
 use Rattle.srm_report.specs.declared.sending.Sending.{Sending}
 use Rattle.srm_report.specs.declared.tally.Tally.{Tally}
-use Rattle.srm_report.specs.Losses.{loss_cmp, losses_in, detected_at, recovered_at, ratio}
+use Rattle.srm_report.specs.Losses.{loss_cmp, losses_in, detected_at, recovered_at, recovery_by, delay_of}
 use Rattle.srm_report.specs.Rows.{is_name, or_dash}
 use Rattle.srm_report.specs.Tables.{table_lines}
 
@@ -77,12 +76,6 @@ is_open rows k = not (is_recovered rows k) && not (has_left rows k.member)
 
 -- ---- the last to recover
 
--- how a member recovered that detected a loss, and had it fixed, at these times
-abbrev pub recovery_by : ℕ → Option ℕ → Option ℕ → Option Recovery
-recovery_by m (Some detected) (Some recovered) =
-    Some (record { member = m; detected = detected; recovered = recovered })
-recovery_by m _ _ = None
-
 -- the later of two recoveries, and the former of two at one time
 abbrev pub later : Option Recovery → Option Recovery → Option Recovery
 later last None = last
@@ -105,10 +98,6 @@ tally_of rows ks = record {
 -- the last recovery as it is told: where no loss is open
 abbrev pub last_told : Tally → Option Recovery
 last_told t = cond t.is_pending None t.last
-
--- how long a recovery took, over the round trip to the source
-abbrev pub delay_of : Network → ℕ → Recovery → List ℕ
-delay_of net source r = ratio (r.recovered - r.detected) (round net r.member source)
 
 -- the columns of the table
 abbrev pub operation_columns : List (List ℕ)

@@ -11,8 +11,8 @@ use Rattle.srm_report.specs.declared.course.Course.{Course}
 use Rattle.srm_report.specs.declared.loss.Loss.{Loss}
 use Rattle.srm_report.specs.declared.tally.Tally.{Tally}
 use Rattle.srm_report.specs.declared.recovery.Recovery.{Recovery}
-use Rattle.srm_report.specs.Losses.{detected_at, loss_cmp, losses_in, recovered_at}
-use Rattle.srm_report.specs.Operations.{each_once, has_left, is_recovered, later, recovery_by, sooner, tally_of}
+use Rattle.srm_report.specs.Losses.{detected_at, loss_cmp, losses_in, recovered_at, recovery_by}
+use Rattle.srm_report.specs.Operations.{each_once, has_left, is_recovered, later, sooner, tally_of}
 use Rattle.srm_report.specs.Rows.{is_name}
 
 -- all losses, by rising member

@@ -2,7 +2,8 @@
 ghost use Rattle.std.specs.Prelude.{◌≡◌, List, Some, IfOk, IfSome, false, get_or};
 ghost use Rattle.srm_member.specs.declared.row.Row.{Row as R};
 ghost use Rattle.srm_report.specs.Courses.{TellLosses};
-ghost use Rattle.srm_report.specs.Operations.{later, recovery_by};
+ghost use Rattle.srm_report.specs.Losses.{recovery_by};
+ghost use Rattle.srm_report.specs.Operations.{later};
 ghost use Rattle.srm_report.specs.Sendings.{TellLeft};
 ghost use Rattle.srm_report.specs.Tallies.{AreTallies, tallied as tallied_by, tally_in, all_losses};
 

@@ -1,9 +1,9 @@
-use Rattle.std.proofs.Common.{◌≡◌, ◌∙◌, [], ◌∷◌, ◌++◌, Some, decimal, refl, ap, sym}
+use Rattle.std.proofs.Common.{◌≡◌, ◌∙◌, [], ◌∷◌, ◌++◌, ℕ, Option, Some, decimal, refl, ap, sym}
 use Rattle.csv.specs.Machine.{line_feed}
 use Rattle.csv.specs.Writing.{comma}
-use Rattle.srm_net.specs.Paths.{round}
 use Rattle.srm_report.specs.Lines.{line_written}
-use Rattle.srm_report.specs.Losses.{delay_text, ratio}
+use Rattle.srm_report.specs.Losses.{delay_of, ratio, recovery_by}
+use Rattle.srm_report.specs.Rows.{or_dash}
 use Rattle.srm_report.proofs.LineLemmas.{HasFields, line_is_row, field, decimal_is_plain, delay_is_plain, time_is_plain}
 use Rattle.srm_report.proofs.loss_lines.put_loss.Goals.{in-None, in-Some}
 use Rattle.srm_report.proofs.loss_lines.put_loss.Goals as goal
@@ -12,18 +12,19 @@ pub returns : goal.returns
 returns c =
     let k = c.args.entry.now.0 in
     let course = c.args.entry.now.1 in
-    let trip = round c.args.net.now k.member k.name.source in
-    let text = delay_text trip (Some course.detected) course.recovered in
+    let delay_text = λ (o : Option ℕ).
+    or_dash (delay_of c.args.net.now k.name.source) (recovery_by k.member (Some course.detected) o) in
+    let text = delay_text course.recovered in
     let put : line_written c.match-course.line ≡ comma ∷ (text ++ line_feed ∷ []) =
     elim c.match-course.branch [
       | in-None w ↦ ap line_written w.line-is ∙ w.put_dash.ensures.written
-          ∙ (λ i. comma ∷ (delay_text trip (Some course.detected) (sym w.in-None.is i) ++ c.requires.empty i))
+          ∙ (λ i. comma ∷ (delay_text (sym w.in-None.is i) ++ c.requires.empty i))
       | in-Some w ↦ ap line_written w.line-is ∙ w.put_delay.ensures.written
           ∙ (λ i. comma ∷ (ratio (w.saturating_sub-took.ensures i) (w.round-round.ensures.value i) ++ c.requires.empty i))
-          ∙ (λ i. comma ∷ (delay_text trip (Some course.detected) (sym w.in-Some.is i) ++ line_feed ∷ []))
+          ∙ (λ i. comma ∷ (delay_text (sym w.in-Some.is i) ++ line_feed ∷ []))
     ] in
     let delay : HasFields (line_written c.match-course.line) (text ∷ []) =
-    record { text = put; plain = (delay_is_plain trip (Some course.detected) course.recovered, tt) } in
+    record { text = put; plain = (delay_is_plain c.args.net.now k.name.source _, tt) } in
     let recovered = field _ (time_is_plain course.recovered) c.put_time.ensures.written refl delay in
     let detected = field (decimal course.detected) (decimal_is_plain course.detected) c.put_number.ensures.written refl recovered in
     let number = field (decimal k.name.number) (decimal_is_plain k.name.number) c.put_number-2.ensures.written
