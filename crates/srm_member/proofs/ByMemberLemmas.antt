@@ -86,21 +86,6 @@ module _ {A : Type 0} (p : A → Bool) where
 
 -- ---- lists that are alike
 
-alike_self : (xs : List Row) → AreAlike xs xs
-alike_self xs m = refl
-
-alike_append : (xs ys us vs : List Row) → AreAlike xs ys → AreAlike us vs → AreAlike (xs ++ us) (ys ++ vs)
-alike_append xs ys us vs h k m =
-    filter-append (λ (r : Row). r.key.member == m) xs us
-    ∙ (λ i. h m i ++ k m i)
-    ∙ sym (filter-append (λ (r : Row). r.key.member == m) ys vs)
-
-pub alike_after : (before xs ys : List Row) → AreAlike xs ys → AreAlike (before ++ xs) (before ++ ys)
-alike_after before xs ys h = alike_append before before xs ys (alike_self before) h
-
-pub alike_within : (before xs ys after : List Row) → AreAlike xs ys → AreAlike (before ++ xs ++ after) (before ++ ys ++ after)
-alike_within before xs ys after h = alike_append (before ++ xs) (before ++ ys) after after (alike_after before xs ys h) (alike_self after)
-
 itself : (r : Row) → (r.key.member == r.key.member) ≡ true
 itself r = eq-eqb _ _ refl
 

@@ -1,9 +1,11 @@
 -- What is told after the line of a refusal, of the text that a session was given.
-use Rattle.std.proofs.Common.{◌≡◌, ℕ, Bool, true, false, List, Err, subst}
+use Rattle.std.proofs.Common.{◌≡◌, ℕ, Bool, true, false, List, Option, Result, Ok, Err, subst}
 use Rattle.srm_scenario.specs.declared.fault.ScenarioFault.TheVariants as scenario
 use Rattle.srm_program.specs.declared.fault.Fault.{Fault}
 use Rattle.srm_program.specs.declared.fault.Fault.TheVariants as fault
+use Rattle.srm_options.specs.declared.options.Options.{Options}
 use Rattle.srm_program.specs.Explained.{FollowsLine, KeepsText}
+use Rattle.srm_program.specs.Sessions.{TellsTextRefusals}
 
 module _ (asks : Bool) (message given text : List ℕ) (told : List ℕ) where
   same : (f : Fault) → text ≡ given → FollowsLine asks message text f told → FollowsLine asks message given f told
@@ -40,3 +42,14 @@ told_of_given T asks message given text told (fault.Scenario (scenario.BadLoss n
     same asks message given text told (fault.Scenario (scenario.BadLoss n)) kept h
 told_of_given T asks message given text told (fault.Scenario scenario.NoMemory) kept h =
     same asks message given text told (fault.Scenario scenario.NoMemory) kept h
+
+-- and when a run is refused is told of the same text
+pub refusals_of_given : {T : Type 0} (seed : ℕ) (o : Options) (given text : List ℕ) (old new : Option (List ℕ)) (r : Result T Fault)
+    → KeepsText r given text → TellsTextRefusals seed o text old new r → TellsTextRefusals seed o given old new r
+refusals_of_given {T} seed o given text old new (Ok v) kept h =
+    let r : Result T Fault = Ok v in subst (λ (l : List ℕ). TellsTextRefusals seed o l old new r) kept h
+refusals_of_given {T} seed o given text old new (Err (fault.Lab f)) kept h =
+    let r : Result T Fault = Err (fault.Lab f) in subst (λ (l : List ℕ). TellsTextRefusals seed o l old new r) kept h
+refusals_of_given seed o given text old new (Err (fault.Line f)) kept h = tt
+refusals_of_given seed o given text old new (Err (fault.Scenario f)) kept h = tt
+refusals_of_given seed o given text old new (Err fault.NoMemory) kept h = tt

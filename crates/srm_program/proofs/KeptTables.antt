@@ -25,8 +25,8 @@ use Rattle.srm_program.specs.declared.fault.LabFault.{LabFault}
 use Rattle.srm_program.specs.declared.fault.LabFault.TheVariants.{BadCut, BadWidth, ShareFull, NoMemory, CountFull, WriteFault}
 use Rattle.srm_program.specs.declared.task.Task.{Task}
 use Rattle.srm_program.specs.Askings.{ForEachSeed, IsKept, Reports}
-use Rattle.srm_program.specs.Reports.{ByShow, TellsListing, TellsTable, Writes, failures_after_run, shown}
-use Rattle.srm_program.specs.Runs.{KeepsRows, MayBreakOff, TellsRefusedFor, TellsReport, fault_of_run}
+use Rattle.srm_program.specs.Reports.{ByShow, TellsReport, TellsTable, Writes, failures_after_run, shown}
+use Rattle.srm_program.specs.Runs.{BreaksOff, KeepsRows, LeavesOff, MayBreakOff, TellsRefusedFor, fault_of_run}
 use Rattle.srm_program.proofs.TableTexts.{asked_told, table_told}
 use Rattle.srm_program.proofs.Texts.{keeps-itself}
 
@@ -47,21 +47,34 @@ kept_refused A T keeps p net seed o old new fault.BadWidth window asked met = (t
 abbrev pub IsWhole : Show → Type 0
 IsWhole show = ByShow show (λ text. ⊥) (Unit {0})
 
-whole_report : (T : Type 0) (p : PlainScenario) (net : Network) (seed : ℕ) (o : Options) (show : Show) (old new : Option (List ℕ))
-    (r : Result T LabFault) → IsWhole show → o.show ≡ show → TellsTable p net seed show old new r → TellsReport p net seed o old new r
-whole_report T p net seed o show old new r whole is told =
-    subst (λ (s : Show). ByShow s (λ text. TellsListing text (MayBreakOff p net seed o) (setting_of p net seed) old new r)
-    (TellsTable p net seed s old new r)) (sym is) (by show whole told)
+whole_report : (T : Type 0) (p : PlainScenario) (net : Network) (seed : ℕ) (asked show : Show) (old new : Option (List ℕ))
+    (r : Result T LabFault) → IsWhole show → asked ≡ show → TellsTable p net seed show old new r → TellsReport p net seed asked old new r
+whole_report T p net seed asked show old new r whole is told =
+    subst (λ (s : Show). TellsReport p net seed s old new r) (sym is) (by show whole told)
   where
-    by : (s : Show) → IsWhole s → TellsTable p net seed s old new r
-        → ByShow s (λ text. TellsListing text (MayBreakOff p net seed o) (setting_of p net seed) old new r)
-        (TellsTable p net seed s old new r)
+    by : (s : Show) → IsWhole s → TellsTable p net seed s old new r → TellsReport p net seed s old new r
     by Trace whole told = absurd whole
     by Members whole told = told
     by Losses whole told = told
     by Operations whole told = told
     by Links whole told = told
     by Timers whole told = absurd whole
+
+-- such a table is not left anywhere
+whole_left : (T : Type 0) (p : PlainScenario) (net : Network) (seed : ℕ) (o : Options) (show : Show) (old new : Option (List ℕ))
+    (r : Result T LabFault) → IsWhole show → o.show ≡ show → BreaksOff p net seed o old new r
+whole_left T p net seed o show old new r whole is =
+    subst (λ (s : Show). ByShow s (λ text. LeavesOff text (MayBreakOff p net seed o) (setting_of p net seed) old new r) (Unit {0}))
+    (sym is) (by show whole)
+  where
+    by : (s : Show) → IsWhole s
+        → ByShow s (λ text. LeavesOff text (MayBreakOff p net seed o) (setting_of p net seed) old new r) (Unit {0})
+    by Trace whole = absurd whole
+    by Members whole = tt
+    by Losses whole = tt
+    by Operations whole = tt
+    by Links whole = tt
+    by Timers whole = absurd whole
 
 module _ {K : Type 0} (keeps : K → List Row → Type 0) where
   -- nothing is told of a run that was refused
@@ -111,7 +124,12 @@ module _ {K : Type 0} (keeps : K → List Row → Type 0) where
           let p = task.session.scenario.now in
           let net = task.session.net.now in
           let told = nothing_told (Vec K × List ℕ) T p net seed task.options show (o.taken at) f (kept.kept seed h) (kept.refused seed h) in
-          (whole_report T p net seed task.options show (o.taken at) (o.taken at) (Err f) whole is told.0, told.1);
+          whole_report T p net seed task.options.show show (o.taken at) (o.taken at) (Err f) whole is told.0;
+      refusals = λ seed h.
+          let p = task.session.scenario.now in
+          let net = task.session.net.now in
+          let told = nothing_told (Vec K × List ℕ) T p net seed task.options show (o.taken at) f (kept.kept seed h) (kept.refused seed h) in
+          (told.1, whole_left T p net seed task.options show (o.taken at) (o.taken at) (Err f) whole is);
     }
 
     -- the report of a whole run, of which the outlet took the table
@@ -127,10 +145,15 @@ module _ {K : Type 0} (keeps : K → List Row → Type 0) where
           let p = task.session.scenario.now in
           let net = task.session.net.now in
           let t = rows_kept task rs v ks are kept seed h in
-          let w = writes seed h t.0 t.1 t.2 t.3 t.4 in (
-            whole_report T p net seed task.options show (o.taken old) (o.taken new) r whole is
-                (table_told p net seed show t.0 t.1 v.1 t.2 (o.taken old) (o.taken new) r w),
-            asked_told p net seed task.options (kept.refused seed h) (o.taken old) (o.taken new) (shown show p net t.0 v.1) r w,
+          whole_report T p net seed task.options.show show (o.taken old) (o.taken new) r whole is
+          (table_told p net seed show t.0 t.1 v.1 t.2 (o.taken old) (o.taken new) r (writes seed h t.0 t.1 t.2 t.3 t.4));
+      refusals = λ seed h.
+          let p = task.session.scenario.now in
+          let net = task.session.net.now in
+          let t = rows_kept task rs v ks are kept seed h in (
+            asked_told p net seed task.options (kept.refused seed h) (o.taken old) (o.taken new) (shown show p net t.0 v.1) r
+                (writes seed h t.0 t.1 t.2 t.3 t.4),
+            whole_left T p net seed task.options show (o.taken old) (o.taken new) r whole is,
           );
     }
 

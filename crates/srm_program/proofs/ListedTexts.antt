@@ -24,9 +24,10 @@ use Rattle.srm_report.specs.ListingSinks.{AreOverOne, PutsAll, PutsFront, PutsRo
 use Rattle.srm_report.specs.SinkLaws.{all_more, front_more}
 use Rattle.srm_program.specs.declared.fault.LabFault.{LabFault}
 use Rattle.srm_program.specs.declared.fault.LabFault.TheVariants.{BadCut, BadWidth, ShareFull, NoMemory, CountFull, WriteFault}
-use Rattle.srm_program.specs.Reports.{failures_after_run, most_gathered, ByShow, TakesAllBut, TakesFront, TellsListing, TellsTable}
-use Rattle.srm_program.specs.Runs.{MayBreakOff, StandsAfter, HandsRows, TellsRefusedFor, TellsRunFor}
+use Rattle.srm_program.specs.Reports.{failures_after_run, ByShow, TakesFront, TellsListing, TellsReport}
+use Rattle.srm_program.specs.Runs.{most_gathered, BreaksOff, HandsRows, LeavesOff, MayBreakOff, StandsAfter, TakesAllBut}
 use Rattle.srm_options.specs.declared.options.Options.{Options}
+use Rattle.srm_options.specs.declared.options.Show.{Show}
 use Rattle.srm_options.specs.declared.options.Show.TheVariants.{Trace, Timers}
 use Rattle.srm_program.proofs.Texts.{keeps-itself}
 
@@ -52,27 +53,38 @@ told standing.NoMemory n m e = cc
 told standing.Stopped n m e = cc
 
 -- the trace, and the table of timers, are such texts
-pub trace_shown : {T : Type 0} (p : PlainScenario) (net : Network) (seed : ℕ) (o : Options) (old new : Option (List ℕ))
-    (r : Result T LabFault) → o.show ≡ Trace
-    → TellsListing (text_in trace_form) (MayBreakOff p net seed o) (setting_of p net seed) old new r → TellsRefusedFor p net seed o r
-    → TellsRunFor p net seed o old new r
+pub trace_shown : {T : Type 0} (p : PlainScenario) (net : Network) (seed : ℕ) (show : Show) (old new : Option (List ℕ))
+    (r : Result T LabFault) → show ≡ Trace → TellsListing (text_in trace_form) (setting_of p net seed) old new r
+    → TellsReport p net seed show old new r
 unfolding trace_of_rows
-trace_shown p net seed o old new r e h k = (
-  subst (λ s. ByShow s (λ text. TellsListing text (MayBreakOff p net seed o) (setting_of p net seed) old new r)
-      (TellsTable p net seed o.show old new r)) (sym e) h,
-  k,
-)
+trace_shown p net seed show old new r e h = subst (λ s. TellsReport p net seed s old new r) (sym e) h
 
-pub timers_shown : {T : Type 0} (p : PlainScenario) (net : Network) (seed : ℕ) (o : Options) (old new : Option (List ℕ))
-    (r : Result T LabFault) → o.show ≡ Timers
-    → TellsListing (text_in timers_form) (MayBreakOff p net seed o) (setting_of p net seed) old new r → TellsRefusedFor p net seed o r
-    → TellsRunFor p net seed o old new r
+pub timers_shown : {T : Type 0} (p : PlainScenario) (net : Network) (seed : ℕ) (show : Show) (old new : Option (List ℕ))
+    (r : Result T LabFault) → show ≡ Timers → TellsListing (text_in timers_form) (setting_of p net seed) old new r
+    → TellsReport p net seed show old new r
 unfolding timers_table
-timers_shown p net seed o old new r e h k = (
-  subst (λ s. ByShow s (λ text. TellsListing text (MayBreakOff p net seed o) (setting_of p net seed) old new r)
-      (TellsTable p net seed o.show old new r)) (sym e) h,
-  k,
-)
+timers_shown p net seed show old new r e h = subst (λ s. TellsReport p net seed s old new r) (sym e) h
+
+pub trace_left : {T : Type 0} (p : PlainScenario) (net : Network) (seed : ℕ) (o : Options) (old new : Option (List ℕ))
+    (r : Result T LabFault) → o.show ≡ Trace
+    → LeavesOff (text_in trace_form) (MayBreakOff p net seed o) (setting_of p net seed) old new r → BreaksOff p net seed o old new r
+unfolding trace_of_rows
+trace_left p net seed o old new r e h =
+    subst (λ s. ByShow s (λ text. LeavesOff text (MayBreakOff p net seed o) (setting_of p net seed) old new r) (Unit {0})) (sym e) h
+
+pub timers_left : {T : Type 0} (p : PlainScenario) (net : Network) (seed : ℕ) (o : Options) (old new : Option (List ℕ))
+    (r : Result T LabFault) → o.show ≡ Timers
+    → LeavesOff (text_in timers_form) (MayBreakOff p net seed o) (setting_of p net seed) old new r → BreaksOff p net seed o old new r
+unfolding timers_table
+timers_left p net seed o old new r e h =
+    subst (λ s. ByShow s (λ text. LeavesOff text (MayBreakOff p net seed o) (setting_of p net seed) old new r) (Unit {0})) (sym e) h
+
+-- ---- a run that broke off
+
+-- what was taken but for its last bytes is a front
+front_taken : (text : List Row → List ℕ) (holds : World → Type 0) (s : Setting) (old new : Option (List ℕ))
+    → TakesAllBut text holds s old new → (out : List ℕ) × TakesFront text s old new out
+front_taken text holds s old new b = (b.3.0, (b.0, b.1, (b.3.1, b.3.2), b.3.4))
 
 -- ---- what the outlet took, of a sink that was fresh and had nothing gathered
 
@@ -98,8 +110,8 @@ module _ {L O : Type 0} (taken : O → Option (List ℕ)) (form : Form) (a : Lis
       ∙ ap (λ (l : List ℕ). l ++ (put.0 ++ [])) none ∙ append-nil put.0 ∙ all_text b rows at put in
       subst (λ (l : List ℕ). Appends (taken (outlet_under a)) (taken (outlet_under c)) l) out all.2.bytes
 
-  module _ (breaks : LabFault → World → Type 0) (s : Setting) (none_written : written_by a ≡ 0)
-      (room : gathering_room a ≡ most_gathered) (old : O) (is : outlet_under a ≡ old) where
+  module _ (s : Setting) (none_written : written_by a ≡ 0) (room : gathering_room a ≡ most_gathered) (old : O)
+      (is : outlet_under a ≡ old) where
     -- a front of it
     front_of : (c : ListingSink L O) (w : World) (text : List ℕ) → IsReached s w → text ≡ text_in form w.trace
         → (f : PutsFront taken a text c) → TakesFront (text_in form) s (taken (outlet_under a)) (taken (outlet_under c)) f.0
@@ -131,38 +143,58 @@ module _ {L O : Type 0} (taken : O → Option (List ℕ)) (form : Form) (a : Lis
 
     -- of the outlet itself, before and after
     pub seen : {T : Type 0} (c : ListingSink L O) (end : O) (r : Result T LabFault) → outlet_under c ≡ end
-        → TellsListing (text_in form) breaks s (taken (outlet_under a)) (taken (outlet_under c)) r
-        → TellsListing (text_in form) breaks s (taken old) (taken end) r
+        → TellsListing (text_in form) s (taken (outlet_under a)) (taken (outlet_under c)) r
+        → TellsListing (text_in form) s (taken old) (taken end) r
     seen c end r same h =
-        subst (λ (x : O). TellsListing (text_in form) breaks s (taken x) (taken end) r) is
-        (subst (λ (x : O). TellsListing (text_in form) breaks s (taken (outlet_under a)) (taken x) r) same h)
+        subst (λ (x : O). TellsListing (text_in form) s (taken x) (taken end) r) is
+        (subst (λ (x : O). TellsListing (text_in form) s (taken (outlet_under a)) (taken x) r) same h)
 
     -- after a refusal of the run
-    pub refused_rows : (T U : Type 0) (c : ListingSink L O) (end : O) (f : LabFault) → outlet_under c ≡ end
+    pub refused_rows : (T U : Type 0) (breaks : LabFault → World → Type 0) (c : ListingSink L O) (end : O) (f : LabFault)
+        → outlet_under c ≡ end
         → AreOverOne a c → HandsRows (PutsRows taken form) (PutsPart taken form) breaks s a (Err f) c
         → StandsAfter {T = T} (Err f) (stage_of c)
-        → TellsListing {T = U} (text_in form) breaks s (taken old) (taken end) (Err f)
-    refused_rows T U c end f same one h at = seen {T = U} c end (Err f) same (by f h at)
+        → TellsListing {T = U} (text_in form) s (taken old) (taken end) (Err f)
+    refused_rows T U breaks c end f same one h at = seen {T = U} c end (Err f) same (by f h at)
       where
         by : (f : LabFault) → HandsRows (PutsRows taken form) (PutsPart taken form) breaks s a (Err f) c
             → StandsAfter {T = T} (Err f) (stage_of c)
-            → TellsListing {T = U} (text_in form) breaks s (taken (outlet_under a)) (taken (outlet_under c))
+            → TellsListing {T = U} (text_in form) s (taken (outlet_under a)) (taken (outlet_under c))
             (Err f)
         by BadCut h at = subst (λ (x : ListingSink L O). Keeps (taken (outlet_under a)) (taken (outlet_under x))) (sym h)
             (keeps-itself (taken (outlet_under a)))
         by BadWidth h at = subst (λ (x : ListingSink L O). Keeps (taken (outlet_under a)) (taken (outlet_under x))) (sym h)
             (keeps-itself (taken (outlet_under a)))
-        by ShareFull h at = broken_off c (breaks ShareFull) one at h
+        by ShareFull h at = front_taken (text_in form) (breaks ShareFull) s _ _ (broken_off c (breaks ShareFull) one at h)
         by NoMemory h at = let f = fronted c h in (f.0, f.1)
-        by CountFull h at = (h.0, broken_off c (breaks CountFull) one at h.1)
+        by CountFull h at = (h.0, front_taken (text_in form) (breaks CountFull) s _ _ (broken_off c (breaks CountFull) one at h.1))
         by (WriteFault n) h at = let f = fronted c h in (f.0, f.1, counted c n f.0 at f.2)
+
+    -- and up to where
+    pub left_rows : (T U : Type 0) (breaks : LabFault → World → Type 0) (c : ListingSink L O) (end : O) (f : LabFault)
+        → outlet_under c ≡ end → AreOverOne a c
+        → HandsRows (PutsRows taken form) (PutsPart taken form) breaks s a (Err f) c → StandsAfter {T = T} (Err f) (stage_of c)
+        → LeavesOff {T = U} (text_in form) breaks s (taken old) (taken end) (Err f)
+    left_rows T U breaks c end f same one h at =
+        subst (λ (x : O). LeavesOff {T = U} (text_in form) breaks s (taken x) (taken end) (Err f)) is
+        (subst (λ (x : O). LeavesOff {T = U} (text_in form) breaks s (taken (outlet_under a)) (taken x) (Err f)) same (by f h at))
+      where
+        by : (f : LabFault) → HandsRows (PutsRows taken form) (PutsPart taken form) breaks s a (Err f) c
+            → StandsAfter {T = T} (Err f) (stage_of c)
+            → LeavesOff {T = U} (text_in form) breaks s (taken (outlet_under a)) (taken (outlet_under c)) (Err f)
+        by ShareFull h at = broken_off c (breaks ShareFull) one at h
+        by CountFull h at = broken_off c (breaks CountFull) one at h.1
+        by BadCut h at = tt
+        by BadWidth h at = tt
+        by NoMemory h at = tt
+        by (WriteFault n) h at = tt
 
     -- where the last bytes were not taken
     pub unflushed_rows : (U : Type 0) (b c : ListingSink L O) (end : O) (w : World) (rows : List Row) (n : ℕ) → outlet_under c ≡ end
         → IsReached s w → rows ≡ w.trace → stage_of b ≡ stage.Live → PutsRows taken form a rows b
         → PutsFront taken b [] c
         → stage_of c ≡ stage.Refused (sink.Stopped n)
-        → TellsListing {T = U} (text_in form) breaks s (taken old) (taken end) (Err (WriteFault n))
+        → TellsListing {T = U} (text_in form) s (taken old) (taken end) (Err (WriteFault n))
     unflushed_rows U b c end w rows n same reached all at put rest stopped =
         let f = front_more taken a b c put.0 [] put.2 rest in
         let whole : put.0 ++ [] ≡ text_in form w.trace = append-nil put.0 ∙ all_text b rows at put ∙ ap (text_in form) all in
@@ -172,7 +204,7 @@ module _ {L O : Type 0} (taken : O → Option (List ℕ)) (form : Form) (a : Lis
     -- after the whole run
     pub flushed_rows : (U : Type 0) (v : U) (b c : ListingSink L O) (end : O) (w : World) (rows : List Row) → outlet_under c ≡ end
         → IsLast s w → rows ≡ w.trace → stage_of b ≡ stage.Live → PutsRows taken form a rows b → gathered_by c ≡ []
-        → PutsAll taken b [] c → TellsListing {T = U} (text_in form) breaks s (taken old) (taken end) (Ok v)
+        → PutsAll taken b [] c → TellsListing {T = U} (text_in form) s (taken old) (taken end) (Ok v)
     flushed_rows U v b c end w rows same last all at put empty rest =
         let r : Result U LabFault = Ok v in
         seen c end r same (

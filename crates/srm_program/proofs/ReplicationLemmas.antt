@@ -33,7 +33,7 @@ use Rattle.srm_report.proofs.LineLemmas.{decimal_is_plain, role_is_plain, time_i
 use Rattle.srm_report.proofs.LineLemmas.{last_is_plain, told_is_plain, sent_is_plain}
 use Rattle.srm_program.specs.declared.fault.LabFault.{LabFault}
 use Rattle.srm_program.specs.declared.fault.LabFault.TheVariants.{BadCut, BadWidth, ShareFull, NoMemory, CountFull, WriteFault}
-use Rattle.srm_program.specs.Reports.{report_of, shown, failures_after_run, ByShow, EndsIn, TellsListing, TellsTable}
+use Rattle.srm_program.specs.Reports.{report_of, shown, failures_after_run, EndsIn, TellsReport}
 use Rattle.srm_program.specs.Replications.{columns_shown, rows_shown, rows_of_run, rows_of_seed, replicated_rows, replications_of}
 use Rattle.srm_program.specs.Replications.{EndsOfSeed, EndInTurn, MeetsFullOfSeed, TakesRuns}
 use Rattle.srm_program.specs.Replications.{PutsNext, MakesLines, TellsReplications}
@@ -177,16 +177,15 @@ module _ (show : Show) (p : PlainScenario) (net : Network) where
 
 -- ---- what a run of one seed tells
 
-pub whole_told : (T : Type 0) (v : T) (breaks : LabFault → World → Type 0) (p : PlainScenario) (net : Network) (seed : ℕ) (show : Show)
-    (old new : Option (List ℕ)) → ByShow show (λ text. TellsListing {T = T} text breaks (setting_of p net seed) old new (Ok v))
-    (TellsTable {T = T} p net seed show old new (Ok v))
+pub whole_told : (T : Type 0) (v : T) (p : PlainScenario) (net : Network) (seed : ℕ) (show : Show)
+    (old new : Option (List ℕ)) → TellsReport {T = T} p net seed show old new (Ok v)
     → (w : World) × EndsIn p net seed w × Appends old new (report_of show p net w)
-whole_told T v breaks p net seed Trace old new h = h
-whole_told T v breaks p net seed Members old new h = h
-whole_told T v breaks p net seed Losses old new h = h
-whole_told T v breaks p net seed Operations old new h = h
-whole_told T v breaks p net seed Links old new h = h
-whole_told T v breaks p net seed Timers old new h = h
+whole_told T v p net seed Trace old new h = h
+whole_told T v p net seed Members old new h = h
+whole_told T v p net seed Losses old new h = h
+whole_told T v p net seed Operations old new h = h
+whole_told T v p net seed Links old new h = h
+whole_told T v p net seed Timers old new h = h
 
 -- ---- runs under way
 

@@ -16,35 +16,45 @@ use Rattle.srm_program.specs.declared.fault.Fault.TheVariants.{Line, Scenario, L
 use Rattle.srm_options.specs.declared.options.Options.{Options}
 use Rattle.srm_program.specs.declared.fault.LabFault.{LabFault}
 use Rattle.srm_program.specs.Explained.{KeepsText}
-use Rattle.srm_program.specs.Sessions.{TellsSession, TellsTask, TellsText, TellsFeed, reading_failures}
+use Rattle.srm_program.specs.Runs.{TellsRefusals}
+use Rattle.srm_program.specs.Sessions.{ByTask, OfRun, TellsSession, TellsText, TellsTextRefusals, TellsFeed, reading_failures}
 
--- what is told of an accepted scenario that is run, and not only checked
-task_of : {T : Type 0} (count : Option ℕ) (p : PlainScenario) (seed : ℕ) (o : Options) (old new : Option (List ℕ)) (r : Result T LabFault)
-    → o.check ≡ false → o.replications ≡ count → TellsTask false count p seed o old new r
-    → TellsTask o.check o.replications p seed o old new r
-task_of count p seed o old new r runs asked told =
-    subst (λ (b : Bool). TellsTask b o.replications p seed o old new r) (sym runs)
-    (subst (λ (k : Option ℕ). TellsTask false k p seed o old new r) (sym asked) told)
+-- a scenario that is run, and not only checked
+run_of : (o : Options) (checked : Type 0) (replicated : ℕ → Type 0) (ran : Type 0) → o.check ≡ false → o.replications ≡ None → ran
+    → ByTask o.check o.replications checked replicated ran
+run_of o checked replicated ran runs one h =
+    subst (λ (b : Bool). ByTask b o.replications checked replicated ran) (sym runs)
+    (subst (λ (k : Option ℕ). ByTask false k checked replicated ran) (sym one) h)
 
--- the session of a text is that of the scenario that it describes, with the seed of its losses
-pub session_of_text : {T : Type 0} (p : PlainScenario) (net : Network) (text : List ℕ) (seed : ℕ) (o : Options) (old new : Option (List ℕ))
-    (r : Result T Fault)
-    → scenario_of_text text ≡ Ok p → o.check ≡ false → o.replications ≡ None → net ≡ network_of (with_seed p seed)
-    → TellsSession (with_seed p seed) net seed o old new r
-    → TellsText seed o text old new r
-session_of_text {T} p net text seed o old new r is runs one made told =
-    describes r (subst (λ (w : Network). TellsSession (with_seed p seed) w seed o old new r) made told)
-  where
-    describes : (r : Result T Fault) → TellsSession (with_seed p seed) (network_of p) seed o old new r → TellsText seed o text old new r
-    describes (Ok v) told =
-        let r : Result T LabFault = Ok v in
-        (p, is, task_of None (with_seed p seed) seed o old new r runs one told)
-    describes (Err (Lab f)) told =
-        let r : Result T LabFault = Err f in
-        (p, is, task_of None (with_seed p seed) seed o old new r runs one told)
-    describes (Err (Line f)) told = absurd told
-    describes (Err (Scenario f)) told = absurd told
-    describes (Err NoMemory) told = told
+module _ (p : PlainScenario) (net : Network) (text : List ℕ) (seed : ℕ) (o : Options) (old new : Option (List ℕ))
+    (is : scenario_of_text text ≡ Ok p) (runs : o.check ≡ false) (one : o.replications ≡ None)
+    (made : net ≡ network_of (with_seed p seed)) where
+  -- the session of a text is that of the scenario that it describes, with the seed of its losses
+  pub session_of_text : {T : Type 0} (r : Result T Fault) → TellsSession (with_seed p seed) net seed o.show old new r
+      → TellsText seed o text old new r
+  session_of_text {T} r told = describes r (subst (λ (w : Network). TellsSession (with_seed p seed) w seed o.show old new r) made told)
+    where
+      describes : (r : Result T Fault) → TellsSession (with_seed p seed) (network_of p) seed o.show old new r
+          → TellsText seed o text old new r
+      describes (Ok v) told = (p, is, run_of o _ _ _ runs one told)
+      describes (Err (Lab f)) told = (p, is, run_of o _ _ _ runs one told)
+      describes (Err (Line f)) told = absurd told
+      describes (Err (Scenario f)) told = absurd told
+      describes (Err NoMemory) told = told
+
+  -- and so are its refusals
+  pub refusals_of_text : {T : Type 0} (r : Result T Fault) → OfRun (TellsRefusals (with_seed p seed) net seed o old new) r
+      → TellsTextRefusals seed o text old new r
+  refusals_of_text {T} r told =
+      describes r (subst (λ (w : Network). OfRun (TellsRefusals (with_seed p seed) w seed o old new) r) made told)
+    where
+      describes : (r : Result T Fault) → OfRun (TellsRefusals (with_seed p seed) (network_of (with_seed p seed)) seed o old new) r
+          → TellsTextRefusals seed o text old new r
+      describes (Ok v) told = run_of o _ _ _ runs one (p, is, told)
+      describes (Err (Lab f)) told = run_of o _ _ _ runs one (p, is, told)
+      describes (Err (Line f)) told = tt
+      describes (Err (Scenario f)) told = tt
+      describes (Err NoMemory) told = tt
 
 -- what is told of a text counts no failure of the feed
 pub text_read : {T : Type 0} (text : List ℕ) (seed : ℕ) (o : Options) (old new : Option (List ℕ)) (r : Result T Fault) (n : ℕ)

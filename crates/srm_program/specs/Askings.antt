@@ -18,8 +18,9 @@ use Rattle.srm_interfaces.specs.declared.sink.Stage.TheVariants.{Fresh}
 use Rattle.srm_engine.specs.Openings.{HoldOpeningRecords}
 use Rattle.srm_program.specs.declared.task.Task.{Task}
 use Rattle.srm_program.specs.declared.fault.LabFault.{LabFault}
-use Rattle.srm_program.specs.Reports.{failures_after_run, most_gathered, TellsListing, TellsTable}
-use Rattle.srm_program.specs.Runs.{KeepsRows, MayBreakOff, StandsAfter, TellsRefusedFor, TellsRows, TellsRunFor}
+use Rattle.srm_program.specs.Reports.{failures_after_run, TellsListing, TellsReport, TellsTable}
+use Rattle.srm_program.specs.Runs.{most_gathered, KeepsRows, LeavesOff, MayBreakOff, StandsAfter, TellsRefusals}
+use Rattle.srm_program.specs.Runs.{TellsRefusedFor, TellsRows}
 
 -- this holds of a task's scenario on its network, for each seed whose opening records these are
 abbrev pub ForEachSeed : Task → List Record → (PlainScenario → Network → ℕ → Type 0) → Type 0
@@ -76,15 +77,21 @@ module _ {O T : Type 0} (o : outlet.Ghosts O) where
     pub table : ForEachSeed task rs (λ p net seed. TellsTable p net seed show (o.taken old) (o.taken new) r)
     pub refused : ForEachSeed task rs (λ p net seed. TellsRefusedFor p net seed task.options r)
 
-  -- what comes of a table that lists rows: how often its outlet failed, what it took, and the refusals
+  -- what comes of a table that lists rows: how often its outlet failed, what it took, the refusals, and where a run
+  -- that broke off left it
   pub record IsListed (form : Form) (task : Task) (rs : List Record) (old : O) (r : Result T LabFault) (new : O)
       : Type 0 where
     pub failures : o.failures new ≡ failures_after_run r (o.failures old)
-    pub table : ForEachSeed task rs (λ p net seed. TellsListing (text_in form)
-        (MayBreakOff p net seed task.options) (setting_of p net seed) (o.taken old) (o.taken new) r)
+    pub table : ForEachSeed task rs (λ p net seed. TellsListing (text_in form) (setting_of p net seed)
+        (o.taken old) (o.taken new) r)
     pub refused : ForEachSeed task rs (λ p net seed. TellsRefusedFor p net seed task.options r)
+    pub left : ForEachSeed task rs (λ p net seed. LeavesOff (text_in form) (MayBreakOff p net seed task.options)
+        (setting_of p net seed) (o.taken old) (o.taken new) r)
 
-  -- what comes of a report: how often its outlet failed, and what it took
+  -- what comes of a report: how often its outlet failed, what it took, and the refusals
   pub record Reports (task : Task) (rs : List Record) (old : O) (r : Result T LabFault) (new : O) : Type 0 where
     pub failures : o.failures new ≡ failures_after_run r (o.failures old)
-    pub report : ForEachSeed task rs (λ p net seed. TellsRunFor p net seed task.options (o.taken old) (o.taken new) r)
+    pub report : ForEachSeed task rs (λ p net seed. TellsReport p net seed task.options.show
+        (o.taken old) (o.taken new) r)
+    pub refusals : ForEachSeed task rs (λ p net seed. TellsRefusals p net seed task.options
+        (o.taken old) (o.taken new) r)

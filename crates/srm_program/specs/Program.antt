@@ -13,7 +13,8 @@ use Rattle.srm_command_line.specs.declared.request.Request.{Request}
 use Rattle.srm_program.specs.Explained.{asks_explanation, FollowsLine}
 use Rattle.srm_program.specs.RefusalLines.{line_of_fault}
 pub use Rattle.srm_options.specs.Asked.{MayBeAsked}
-use Rattle.srm_program.specs.Sessions.{TellsFeed, ReadsSessionToEnd, reading_failures, session_failures}
+use Rattle.srm_program.specs.Sessions.{TellsFeed, TellsTextRefusals, ReadsSessionToEnd}
+use Rattle.srm_program.specs.Sessions.{reading_failures, session_failures}
 
 -- a device before and after: its bytes, where they are known, and how often it failed. The bytes of a feed are those
 -- still to come, those of an outlet what it has taken
@@ -87,13 +88,32 @@ exit_status (Ok v) = 0
 exit_status (Err f) = status_of_fault f
 
 -- what the program does for what the command line asks for, over the devices that it reads from, writes to and tells
--- refusals on: something comes of it, as the exit status and the outlet for errors tell
-abbrev pub AnswersRequest : Request → Device → Device → Device → ℕ → Type 0
-AnswersRequest request feed outlet errors status =
-    (done : Result (Unit {0}) Fault) × (given : List ℕ)
+-- refusals on: something comes of it, as the exit status and the outlet for errors tell, of which this holds and of the
+-- text that the feed gave
+abbrev pub AnswersSo :
+    (Result (Unit {0}) Fault → List ℕ → Type 0) → Request → Device → Device → Device → ℕ → Type 0
+AnswersSo holds request feed outlet errors status =
+    (done : Result (Unit {0}) Fault) × (given : List ℕ) × holds done given
     × Consumes feed.old feed.new given × (length given ≤ LONGEST_TEXT + 1)
     × CarriesOut request.asked given outlet.old outlet.new feed.new done
     × (feed.fails ≡ reading_failures done feed.failed)
     × (outlet.fails ≡ session_failures done outlet.failed)
     × TellsErrors errors (asks_explanation request.asked) (string_bytes request.message) given done
     × (status ≡ exit_status done)
+
+-- so, whatever comes of it
+abbrev pub AnswersRequest : Request → Device → Device → Device → ℕ → Type 0
+AnswersRequest request feed outlet errors status =
+    AnswersSo (λ done given. Unit {0}) request feed outlet errors status
+
+-- when the run that is asked for is refused, and where a run that breaks off left the table
+abbrev pub TellsAskedRefusals : {T : Type 0} → Result (ℕ × Options) LineFault → List ℕ
+    → Option (List ℕ) → Option (List ℕ) → Result T Fault → Type 0
+TellsAskedRefusals (Ok asked) text old new r = TellsTextRefusals asked.0 asked.1 text old new r
+TellsAskedRefusals (Err f) text old new r = Unit {0}
+
+-- so, and a run is refused where it may be
+abbrev pub RefusesRequest : Request → Device → Device → Device → ℕ → Type 0
+RefusesRequest request feed outlet errors status =
+    AnswersSo (λ done given. TellsAskedRefusals request.asked given outlet.old outlet.new done)
+    request feed outlet errors status

@@ -1,5 +1,5 @@
 -- The report of a run, and what an outlet takes of it.
-use Rattle.std.specs.Prelude.{◌≡◌, ℕ, ◌+◌, ◌<◌, ◌≤◌, List, ◌++◌, length, take, Option, Result, Ok, Err}
+use Rattle.std.specs.Prelude.{◌≡◌, ℕ, ◌+◌, ◌<◌, List, ◌++◌, length, take, Option, Result, Ok, Err}
 use Rattle.std.specs.Io.KnownBytes.{Appends, Keeps}
 use Rattle.srm_net.specs.Network.{Network}
 use Rattle.srm_scenario.specs.Plain.{PlainScenario}
@@ -66,10 +66,6 @@ TellsTable p net seed show old new (Err f) = Keeps old new
 
 -- ---- tables that list rows
 
--- up to how many bytes of such a table are gathered before they are written
-abbrev pub most_gathered : ℕ
-most_gathered = 8192
-
 -- an outlet took these bytes, a front of the table of the sequential run which lists its rows in this text: of its rows
 -- up to some event
 abbrev pub TakesFront :
@@ -77,31 +73,29 @@ abbrev pub TakesFront :
 TakesFront text s old new out =
     (w : World) × IsReached s w × ((rest : List ℕ) × (text w.trace ≡ out ++ rest)) × Appends old new out
 
--- an outlet took such a table of the rows up to a world of which this holds, but for its last bytes, no more than are
--- gathered
-abbrev pub TakesAllBut :
-    (List Row → List ℕ) → (World → Type 0) → Setting → Option (List ℕ) → Option (List ℕ) → Type 0
-TakesAllBut text holds s old new =
-    (w : World) × IsReached s w × holds w
-    × ((out rest : List ℕ) × (text w.trace ≡ out ++ rest) × (length rest ≤ most_gathered) × Appends old new out)
-
--- what an outlet took of a table of the sequential run which lists its rows in this text: all of it, or a front of it,
--- of as many bytes as a fault of the outlet tells, up to 2^64 - 1; and nothing where the cut or the width was refused.
--- Where the run broke off for what is counted, it took all up to a world in which that may be, but for the last bytes;
--- and CountFull says that the run meets a step for which the packet count is used up
-abbrev pub TellsListing : {T : Type 0} → (List Row → List ℕ) → (LabFault → World → Type 0) → Setting
+-- what an outlet took of a table of the sequential run which lists its rows in this text: all of it; or a front of it,
+-- of as many bytes as a fault of the outlet tells, up to 2^64 - 1; or nothing, where the cut or the width was refused.
+-- CountFull says that the run meets a step for which the packet count is used up
+abbrev pub TellsListing : {T : Type 0} → (List Row → List ℕ) → Setting
     → Option (List ℕ) → Option (List ℕ) → Result T LabFault → Type 0
-TellsListing text breaks s old new (Ok v) = (w : World) × IsLast s w × Appends old new (text w.trace)
-TellsListing text breaks s old new (Err (WriteFault written)) =
+TellsListing text s old new (Ok v) = (w : World) × IsLast s w × Appends old new (text w.trace)
+TellsListing text s old new (Err (WriteFault written)) =
     (out : List ℕ) × TakesFront text s old new out × GrewBy 0 (length out) written
-TellsListing text breaks s old new (Err CountFull) = RunMeetsFull s × TakesAllBut text (breaks CountFull) s old new
-TellsListing text breaks s old new (Err ShareFull) = TakesAllBut text (breaks ShareFull) s old new
-TellsListing text breaks s old new (Err NoMemory) = (out : List ℕ) × TakesFront text s old new out
-TellsListing text breaks s old new (Err BadCut) = Keeps old new
-TellsListing text breaks s old new (Err BadWidth) = Keeps old new
+TellsListing text s old new (Err CountFull) = RunMeetsFull s × ((out : List ℕ) × TakesFront text s old new out)
+TellsListing text s old new (Err ShareFull) = (out : List ℕ) × TakesFront text s old new out
+TellsListing text s old new (Err NoMemory) = (out : List ℕ) × TakesFront text s old new out
+TellsListing text s old new (Err BadCut) = Keeps old new
+TellsListing text s old new (Err BadWidth) = Keeps old new
 
 -- this holds of the text of a table that lists rows, and that of every other table
 abbrev pub ByShow : Show → ((List Row → List ℕ) → Type 0) → Type 0 → Type 0
 ByShow Trace listed written = listed trace_of_rows
 ByShow Timers listed written = listed timers_table
 ByShow show listed written = written
+
+-- what an outlet took of the report of a run: that of the sequential run, for the seed and the table alone. After a
+-- refusal it is of the trace and the table of timers a front, and of another table nothing but where the outlet failed
+abbrev pub TellsReport : {T : Type 0} → PlainScenario → Network → ℕ → Show
+    → Option (List ℕ) → Option (List ℕ) → Result T LabFault → Type 0
+TellsReport p net seed show old new r =
+    ByShow show (λ text. TellsListing text (setting_of p net seed) old new r) (TellsTable p net seed show old new r)

@@ -1,5 +1,6 @@
 -- What a run is asked for, and what comes of it.
-use Rattle.std.specs.Prelude.{◌≡◌, ℕ, List, Option, Result, Ok, Err}
+use Rattle.std.specs.Prelude.{◌≡◌, ℕ, ◌≤◌, List, ◌++◌, length, Option, Result, Ok, Err}
+use Rattle.std.specs.Io.KnownBytes.{Appends}
 use Rattle.std.specs.Global.{Vec}
 use Rattle.srm_net.specs.Network.{Network}
 use Rattle.srm_scenario.specs.Plain.{PlainScenario, network_of}
@@ -17,7 +18,7 @@ use Rattle.srm_interfaces.specs.declared.sink.Stage.TheVariants.{Live, Refused}
 use Rattle.srm_interfaces.specs.Sinks.{most_rows}
 use Rattle.srm_engine.specs.declared.window_fault.WindowFault.TheVariants as window
 use Rattle.srm_engine.specs.Streams.{TakesTraceFront, TakesUpTo, MeetsFullWithin}
-use Rattle.srm_model.specs.World.{World, IsOutcome, RunMeetsFull}
+use Rattle.srm_model.specs.World.{World, IsReached, IsOutcome, RunMeetsFull}
 use Rattle.srm_model.specs.WindowChains.{AreWindows}
 use Rattle.srm_model.specs.WindowRuns.{jobs_of}
 use Rattle.srm_engine.specs.Outcomes.{HoldOpeningRecords}
@@ -30,7 +31,7 @@ use Rattle.srm_program.specs.declared.fault.LabFault.TheVariants.{WriteFault}
 use Rattle.srm_options.specs.declared.options.Engine.{Engine}
 use Rattle.srm_options.specs.declared.options.Engine.TheVariants.{Step, Window}
 use Rattle.srm_options.specs.declared.options.Options.{Options}
-use Rattle.srm_program.specs.Reports.{ByShow, TellsListing, TellsTable, failures_after_run}
+use Rattle.srm_program.specs.Reports.{ByShow, failures_after_run}
 pub use Rattle.srm_options.specs.Asked.{MayShareBag}
 
 -- the run may be cut into windows and jobs as is asked for
@@ -66,21 +67,36 @@ MayBreakOffBy engine s net o f w = ⊥
 abbrev pub MayBreakOff : PlainScenario → Network → ℕ → Options → LabFault → World → Type 0
 MayBreakOff p net seed o f w = MayBreakOffBy o.engine (setting_of p net seed) net o f w
 
--- what an outlet took of the report of a run: that of the sequential run, for the seed and the table alone, whichever
--- engine, crew, number of workers, cut and width are asked for. After a refusal it is of the trace and the table of
--- timers a front, up to a world in which the engine may break off, and of another table nothing but where the outlet
--- failed
-abbrev pub TellsReport : {T : Type 0} → PlainScenario → Network → ℕ → Options
-    → Option (List ℕ) → Option (List ℕ) → Result T LabFault → Type 0
-TellsReport p net seed o old new r =
-    ByShow o.show (λ text. TellsListing text (MayBreakOff p net seed o) (setting_of p net seed) old new r)
-    (TellsTable p net seed o.show old new r)
+-- up to how many bytes of a table that lists rows are gathered before they are written
+abbrev pub most_gathered : ℕ
+most_gathered = 8192
 
--- what comes of a run: its report, or a refusal, which the engine may bring
-abbrev pub TellsRunFor : {T : Type 0} → PlainScenario → Network → ℕ → Options
+-- an outlet took the table that lists rows in this text, of those up to a world of which this holds, but for its last
+-- bytes, no more than are gathered
+abbrev pub TakesAllBut :
+    (List Row → List ℕ) → (World → Type 0) → Setting → Option (List ℕ) → Option (List ℕ) → Type 0
+TakesAllBut text holds s old new =
+    (w : World) × IsReached s w × holds w
+    × ((out rest : List ℕ) × (text w.trace ≡ out ++ rest) × (length rest ≤ most_gathered) × Appends old new out)
+
+-- where a run breaks off for what is counted, the outlet took such a table up to a world in which that may be, but for
+-- the last bytes
+abbrev pub LeavesOff : {T : Type 0} → (List Row → List ℕ) → (LabFault → World → Type 0) → Setting
     → Option (List ℕ) → Option (List ℕ) → Result T LabFault → Type 0
-TellsRunFor p net seed o old new r =
-    TellsReport p net seed o old new r × TellsRefusedFor p net seed o r
+LeavesOff text breaks s old new (Err CountFull) = TakesAllBut text (breaks CountFull) s old new
+LeavesOff text breaks s old new (Err ShareFull) = TakesAllBut text (breaks ShareFull) s old new
+LeavesOff text breaks s old new r = Unit {0}
+
+-- so of the table that is shown of a run
+abbrev pub BreaksOff : {T : Type 0} → PlainScenario → Network → ℕ → Options
+    → Option (List ℕ) → Option (List ℕ) → Result T LabFault → Type 0
+BreaksOff p net seed o old new r =
+    ByShow o.show (λ text. LeavesOff text (MayBreakOff p net seed o) (setting_of p net seed) old new r) (Unit {0})
+
+-- when a run is refused, and where a run that breaks off left the table that is shown
+abbrev pub TellsRefusals : {T : Type 0} → PlainScenario → Network → ℕ → Options
+    → Option (List ℕ) → Option (List ℕ) → Result T LabFault → Type 0
+TellsRefusals p net seed o old new r = TellsRefusedFor p net seed o r × BreaksOff p net seed o old new r
 
 -- ---- rows of which a watch keeps something
 

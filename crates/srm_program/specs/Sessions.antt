@@ -1,5 +1,5 @@
 -- What comes of a session, from a scenario to its report.
-use Rattle.std.specs.Prelude.{⊤, ◌≡◌, ℕ, Bool, true, false, List, Option, Some, None, Result, Ok, Err}
+use Rattle.std.specs.Prelude.{⊤, ◌≡◌, ℕ, Bool, true, false, List, Option, Some, None, Result, Ok, Err, MatchResult}
 use Rattle.std.specs.Io.KnownBytes.{IsAtEnd, Keeps}
 use Rattle.srm_net.specs.Network.{Network}
 use Rattle.srm_scenario.specs.declared.fault.ScenarioFault.{ScenarioFault}
@@ -10,9 +10,10 @@ use Rattle.srm_program.specs.declared.fault.LabFault.{LabFault}
 use Rattle.srm_program.specs.declared.fault.Fault.{Fault}
 use Rattle.srm_program.specs.declared.fault.Fault.TheVariants as fault
 use Rattle.srm_options.specs.declared.options.Options.{Options}
+use Rattle.srm_options.specs.declared.options.Show.{Show}
 use Rattle.srm_program.specs.Replications.{TellsReplications}
-use Rattle.srm_program.specs.Reports.{failures_after_run}
-use Rattle.srm_program.specs.Runs.{TellsRunFor}
+use Rattle.srm_program.specs.Reports.{failures_after_run, TellsReport}
+use Rattle.srm_program.specs.Runs.{TellsRefusals}
 
 -- the count of an outlet's failures after a session: one more exactly where the answer is that it failed
 abbrev pub session_failures : {T : Type 0} → Result T Fault → ℕ → ℕ
@@ -24,14 +25,21 @@ session_failures (Err fault.NoMemory) n = n
 
 -- what an outlet took of the session of an accepted scenario: what its run tells, and nothing where memory ran out
 -- before
-abbrev pub TellsSession : {T : Type 0} → PlainScenario → Network → ℕ → Options
+abbrev pub TellsSession : {T : Type 0} → PlainScenario → Network → ℕ → Show
     → Option (List ℕ) → Option (List ℕ) → Result T Fault → Type 0
-TellsSession p net seed o old new (Ok v) = TellsRunFor p net seed o old new (let r : Result _ LabFault = Ok v in r)
-TellsSession {T} p net seed o old new (Err (fault.Lab f)) =
-    TellsRunFor p net seed o old new (let r : Result T LabFault = Err f in r)
-TellsSession p net seed o old new (Err (fault.Line f)) = ⊥
-TellsSession p net seed o old new (Err (fault.Scenario f)) = ⊥
-TellsSession p net seed o old new (Err fault.NoMemory) = Keeps old new
+TellsSession p net seed show old new (Ok v) =
+    TellsReport p net seed show old new (let r : Result _ LabFault = Ok v in r)
+TellsSession {T} p net seed show old new (Err (fault.Lab f)) =
+    TellsReport p net seed show old new (let r : Result T LabFault = Err f in r)
+TellsSession p net seed show old new (Err (fault.Line f)) = ⊥
+TellsSession p net seed show old new (Err (fault.Scenario f)) = ⊥
+TellsSession p net seed show old new (Err fault.NoMemory) = Keeps old new
+
+-- this holds of what comes of a run, where the session came so far
+abbrev pub OfRun : {T : Type 0} → (Result T LabFault → Type 0) → Result T Fault → Type 0
+OfRun holds (Ok v) = holds (Ok v)
+OfRun holds (Err (fault.Lab f)) = holds (Err f)
+OfRun holds (Err f) = Unit {0}
 
 -- the count of a feed's failures after a session: one more exactly where the answer is that it failed
 abbrev pub reading_failures : {T : Type 0} → Result T Fault → ℕ → ℕ
@@ -42,14 +50,21 @@ reading_failures (Err (fault.Line f)) n = n
 reading_failures (Err (fault.Lab f)) n = n
 reading_failures (Err fault.NoMemory) n = n
 
+-- this holds of a scenario that is only checked, this of so many replications of its run, and this of its run, as is
+-- asked for
+abbrev pub ByTask : Bool → Option ℕ → Type 0 → (ℕ → Type 0) → Type 0 → Type 0
+ByTask true count checked replicated ran = checked
+ByTask false (Some count) checked replicated ran = replicated count
+ByTask false None checked replicated ran = ran
+
 -- what an outlet took of an accepted scenario: what its run tells, or what its replications tell where so many are
 -- asked for; nothing where it was only to be checked, which cannot be refused
-abbrev pub TellsTask : {T : Type 0} → Bool → Option ℕ → PlainScenario → ℕ → Options
+abbrev pub TellsTask : {T : Type 0} → PlainScenario → ℕ → Options
     → Option (List ℕ) → Option (List ℕ) → Result T LabFault → Type 0
-TellsTask false None p seed o old new r = TellsRunFor p (network_of p) seed o old new r
-TellsTask false (Some count) p seed o old new r = TellsReplications p (network_of p) seed count o.show old new r
-TellsTask true count p seed o old new (Ok v) = Keeps old new
-TellsTask true count p seed o old new (Err f) = ⊥
+TellsTask p seed o old new r =
+    ByTask o.check o.replications (MatchResult r (λ v. Keeps old new) (λ f. ⊥))
+    (λ count. TellsReplications p (network_of p) seed count o.show old new r)
+    (TellsReport p (network_of p) seed o.show old new r)
 
 -- what an outlet took of the session of a text, with random words and losses of this seed: what the run of its scenario
 -- tells; nothing where the text is refused, by its first fault, and nothing where memory ran out before the run
@@ -57,13 +72,21 @@ abbrev pub TellsText : {T : Type 0} → ℕ → Options → List ℕ
     → Option (List ℕ) → Option (List ℕ) → Result T Fault → Type 0
 TellsText seed o text old new (Ok v) =
     (p : PlainScenario) × (faults.scenario_of_text text ≡ Ok p)
-    × TellsTask o.check o.replications (with_seed p seed) seed o old new (let r : Result _ LabFault = Ok v in r)
+    × TellsTask (with_seed p seed) seed o old new (let r : Result _ LabFault = Ok v in r)
 TellsText {T} seed o text old new (Err (fault.Lab f)) =
     (p : PlainScenario) × (faults.scenario_of_text text ≡ Ok p)
-    × TellsTask o.check o.replications (with_seed p seed) seed o old new (let r : Result T LabFault = Err f in r)
+    × TellsTask (with_seed p seed) seed o old new (let r : Result T LabFault = Err f in r)
 TellsText seed o text old new (Err (fault.Line f)) = ⊥
 TellsText seed o text old new (Err (fault.Scenario f)) = faults.RefusesText f text × Keeps old new
 TellsText seed o text old new (Err fault.NoMemory) = Keeps old new
+
+-- when the run of the scenario of a text is refused, and where a run that breaks off left the table
+abbrev pub TellsTextRefusals : {T : Type 0} → ℕ → Options → List ℕ
+    → Option (List ℕ) → Option (List ℕ) → Result T Fault → Type 0
+TellsTextRefusals seed o text old new r =
+    OfRun (λ ran. ByTask o.check o.replications (Unit {0}) (λ count. Unit {0})
+    ((p : PlainScenario) × (faults.scenario_of_text text ≡ Ok p)
+    × TellsRefusals (with_seed p seed) (network_of (with_seed p seed)) seed o old new ran)) r
 
 -- what an outlet took of the session of a feed that gave this text: nothing where the feed failed, and else what its
 -- text tells

@@ -1,7 +1,7 @@
 //! The members of a scenario, made by their roles.
 ghost use Rattle.std.specs.Prelude.{◌≡◌, ◌<◌, ◌-◌, ◌^◌};
-ghost use Rattle.srm_program.specs.Runs.{MayShareBag};
-ghost use Rattle.srm_program.specs.Sessions.{session_failures, TellsSession};
+ghost use Rattle.srm_program.specs.Runs.{MayShareBag, TellsRefusals};
+ghost use Rattle.srm_program.specs.Sessions.{session_failures, OfRun, TellsSession};
 
 use crate::fault::Fault;
 use crate::made::{Made, made_members};
@@ -30,8 +30,10 @@ pub(crate) fn run_members<R: Threads + Wait + Sync, O: Outlet>(
     requires workers { MayShareBag options.workers }
     requires count { O.failures outlet.old < 2 ^ 64 - 1 }
     ensures failures { O.failures outlet.new ≡ session_failures result (O.failures outlet.old) }
-    ensures report { TellsSession session.entry.scenario.now session.entry.net.now seed options
+    ensures report { TellsSession session.entry.scenario.now session.entry.net.now seed options.show
         (O.taken outlet.old) (O.taken outlet.new) result }
+    ensures refusals { OfRun (TellsRefusals session.entry.scenario.now session.entry.net.now seed options
+        (O.taken outlet.old) (O.taken outlet.new)) result }
 {
     let mut members: Vec<Box<dyn Member>> = Vec::with_capacity(
         alloc,

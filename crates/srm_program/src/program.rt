@@ -2,7 +2,7 @@
 ghost use Rattle.std.specs.Prelude.{◌≡◌, ◌<◌, ◌-◌, ◌^◌, ℕ, List, [], IfOk, string_bytes};
 ghost use Rattle.srm_program.specs.Explained.{KeepsText};
 ghost use Rattle.srm_program.specs.RefusalLines.{line_of_fault};
-ghost use Rattle.srm_program.specs.Program.{device, exit_status, full_line, status_of_fault, AnswersRequest, MayBeAsked, RunsNothing, TakesEither, TakesFaultLine, TakesLine, TellsErrors};
+ghost use Rattle.srm_program.specs.Program.{device, exit_status, full_line, status_of_fault, AnswersRequest, MayBeAsked, RefusesRequest, RunsNothing, TakesEither, TakesFaultLine, TakesLine, TellsErrors};
 ghost use Rattle.srm_program.specs.Sessions.{reading_failures, session_failures};
 
 use crate::explained::{asks_explanation, following};
@@ -39,7 +39,12 @@ pub fn program<R: Threads + Wait + Sync, F: Feed, O: Outlet, E: Outlet>(
     requires feed { F.failures feed.old < 2 ^ 64 - 1 }
     requires outlet { O.failures outlet.old < 2 ^ 64 - 1 }
     requires errors { E.failures errors.old < 2 ^ 64 - 1 }
-    ensures { AnswersRequest request
+    ensures report { AnswersRequest request
+        (device (F.remaining feed.old) (F.remaining feed.new) (F.failures feed.old) (F.failures feed.new))
+        (device (O.taken outlet.old) (O.taken outlet.new) (O.failures outlet.old) (O.failures outlet.new))
+        (device (E.taken errors.old) (E.taken errors.new) (E.failures errors.old) (E.failures errors.new))
+        result }
+    ensures refusals { RefusesRequest request
         (device (F.remaining feed.old) (F.remaining feed.new) (F.failures feed.old) (F.failures feed.new))
         (device (O.taken outlet.old) (O.taken outlet.new) (O.failures outlet.old) (O.failures outlet.new))
         (device (E.taken errors.old) (E.taken errors.new) (E.failures errors.old) (E.failures errors.new))

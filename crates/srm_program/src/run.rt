@@ -4,8 +4,8 @@ ghost use Rattle.srm_scenario.specs.Plain.{network_of};
 ghost use Rattle.srm_engine.specs.Openings.{HoldOpeningRecords};
 ghost use Rattle.srm_engine.specs.Starts.{AreOpening};
 ghost use Rattle.srm_program.specs.Askings.{MayStep, Tabled};
-ghost use Rattle.srm_program.specs.Reports.{failures_after_run};
-ghost use Rattle.srm_program.specs.Runs.{MayShareBag, TellsRunFor};
+ghost use Rattle.srm_program.specs.Reports.{failures_after_run, TellsReport};
+ghost use Rattle.srm_program.specs.Runs.{MayShareBag, TellsRefusals};
 
 use crate::asked::Asked;
 use crate::fault::LabFault;
@@ -69,7 +69,9 @@ pub fn run<R: Threads + Wait + Sync, O: Outlet>(
     // The count rises exactly where the answer is `WriteFault`, and then by one.
     ensures failures { O.failures outlet.new ≡ failures_after_run result (O.failures outlet.old) }
     ensures report { (seed : ℕ) → HoldOpeningRecords scenario.now net.now seed (map (λ b. plain b) members.items)
-        → TellsRunFor scenario.now net.now seed options (O.taken outlet.old) (O.taken outlet.new) result }
+        → TellsReport scenario.now net.now seed options.show (O.taken outlet.old) (O.taken outlet.new) result }
+    ensures refusals { (seed : ℕ) → HoldOpeningRecords scenario.now net.now seed (map (λ b. plain b) members.items)
+        → TellsRefusals scenario.now net.now seed options (O.taken outlet.old) (O.taken outlet.new) result }
 {
     let session = Session { scenario, net };
     let task = Task { session, options };

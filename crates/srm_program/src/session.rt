@@ -5,7 +5,7 @@ ghost use Rattle.srm_scenario.specs.declared.bytes.TheConstants.{LONGEST_TEXT};
 ghost use Rattle.srm_program.specs.Explained.{KeepsText};
 ghost use Rattle.srm_options.specs.Asked.{MayBeReplicated};
 ghost use Rattle.srm_program.specs.Runs.{MayShareBag};
-ghost use Rattle.srm_program.specs.Sessions.{reading_failures, session_failures, ReadsSessionToEnd, TellsFeed, TellsText};
+ghost use Rattle.srm_program.specs.Sessions.{reading_failures, session_failures, ReadsSessionToEnd, TellsFeed, TellsText, TellsTextRefusals};
 
 use crate::fault::Fault;
 use crate::members::run_members;
@@ -73,6 +73,7 @@ pub fn simulate<R: Threads + Wait + Sync, F: Feed, O: Outlet>(
     // From what is known to be still to come of the feed to the outlet's.
     ensures report { IfSome (F.remaining feed.old) (λ text.
         TellsFeed seed options text (O.taken outlet.old) (O.taken outlet.new) result.done) }
+    ensures refusals { TellsTextRefusals seed options result.text.items (O.taken outlet.old) (O.taken outlet.new) result.done }
 {
     let text = match read_text(alloc, feed) {
         Ok(text) => text,
@@ -115,6 +116,7 @@ pub fn simulate_text<R: Threads + Wait + Sync, O: Outlet>(
     // The count rises exactly where the answer is `WriteFault`, and then by one.
     ensures failures { O.failures outlet.new ≡ session_failures result (O.failures outlet.old) }
     ensures report { TellsText seed options text.now (O.taken outlet.old) (O.taken outlet.new) result }
+    ensures refusals { TellsTextRefusals seed options text.now (O.taken outlet.old) (O.taken outlet.new) result }
 {
     let scenario = match scenario_of_text(alloc, text) {
         Ok(scenario) => scenario,

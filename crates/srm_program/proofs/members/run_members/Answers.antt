@@ -75,3 +75,19 @@ returns-in-Err-clause-report g c =
     c.in-Err.ensures.report c.args.seed
     (all-boxed (λ b. (own-1.entry b.vtable).1.plain b.value) record_made c.loop-made.members.items
     (into_iter_items c.loop-made.made-iterator) _ none c.loop-made.invariant.2)
+
+pub returns-in-Ok-clause-refusals : goal.returns-in-Ok-clause-refusals
+returns-in-Ok-clause-refusals g c =
+    let ok = c.loop-made.made-iterator.rest.ok in
+    let none : into_iter_items c.loop-made.made-iterator ≡ [] = grind (arith, common_steps) in
+    c.in-Ok.ensures.refusals c.args.seed
+    (all-boxed (λ b. (own-1.entry b.vtable).1.plain b.value) record_made c.loop-made.members.items
+    (into_iter_items c.loop-made.made-iterator) _ none c.loop-made.invariant.2)
+
+pub returns-in-Err-clause-refusals : goal.returns-in-Err-clause-refusals
+returns-in-Err-clause-refusals g c =
+    let ok = c.loop-made.made-iterator.rest.ok in
+    let none : into_iter_items c.loop-made.made-iterator ≡ [] = grind (arith, common_steps) in
+    c.in-Err.ensures.refusals c.args.seed
+    (all-boxed (λ b. (own-1.entry b.vtable).1.plain b.value) record_made c.loop-made.members.items
+    (into_iter_items c.loop-made.made-iterator) _ none c.loop-made.invariant.2)

@@ -1,7 +1,6 @@
 use Rattle.std.proofs.Common.{◌≡◌, ◌∙◌, ◌++◌, [], Some, ap}
 use Rattle.srm_report.specs.Tables.{table_lines}
 use Rattle.srm_program.specs.Reports.{report_of}
-use Rattle.srm_program.specs.Runs.{MayBreakOff}
 use Rattle.srm_program.specs.Replications.{columns_shown, rows_of_run}
 use Rattle.srm_program.proofs.ReplicationLemmas.{columns_are_line, report_by_rows, rows_are_lines, whole_told}
 use Rattle.srm_program.proofs.replicating.lines_of_run.Goals as goal
@@ -11,8 +10,8 @@ returns-in-Ok-seeded_lines g c =
     let p = c.args.session.scenario.now in
     let net = c.args.session.net.now in
     let show = c.args.options.show in
-    let told = whole_told (Unit {0}) tt (MayBreakOff p net c.args.seed c.args.options) p net c.args.seed show
-    (Some c.new-outlet.result.writer.items) (Some c.run_members.new.outlet.writer.items) c.in-Ok.ensures.report.0 in
+    let told = whole_told (Unit {0}) tt p net c.args.seed show
+    (Some c.new-outlet.result.writer.items) (Some c.run_members.new.outlet.writer.items) c.in-Ok.ensures.report in
     let w = told.0 in
     let none : c.new-outlet.result.writer.items ≡ [] = ap (λ v. v.items) c.new-outlet.ensures.writer ∙ c.new.ensures.items in
     let table : c.as_slice.result.now ≡ table_lines (columns_shown show) (rows_of_run show p net w) =

@@ -3,7 +3,7 @@ use Rattle.srm_scenario.proofs.Texts.{too_long}
 use Rattle.srm_scenario.proofs.Texts as texts
 use Rattle.std.specs.Io.KnownBytes.{Consumes}
 use Rattle.srm_program.specs.Explained.{KeepsText}
-use Rattle.srm_program.specs.Sessions.{TellsFeed}
+use Rattle.srm_program.specs.Sessions.{TellsFeed, TellsTextRefusals}
 use Rattle.srm_program.proofs.Texts.{keeps-itself, long_known, text_read, whole_read}
 use Rattle.srm_program.proofs.session.simulate.Goals as goal
 
@@ -41,3 +41,9 @@ returns-clause-taken g c =
     given.2.0 given.1 in
     let bound : length text ≤ 1048576 = c.in-Ok.ensures.bound in
     (text, consumed, omega arith, kept.0, kept.1)
+
+pub returns-clause-refusals : goal.returns-clause-refusals
+returns-clause-refusals g c =
+    subst (λ (l : List ℕ). TellsTextRefusals c.args.seed c.args.options l (g.O.Outlet.taken c.args.outlet.now)
+    (g.O.Outlet.taken c.simulate_text-done.new.outlet) c.simulate_text-done.result) c.deref.ensures.value
+    c.simulate_text-done.ensures.refusals

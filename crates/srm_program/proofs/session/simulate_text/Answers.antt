@@ -1,14 +1,24 @@
 use Rattle.std.proofs.Common.{◌∙◌, ap, subst}
 use Rattle.srm_scenario.specs.Plain.{PlainScenario, network_of, with_seed}
-use Rattle.srm_program.specs.Sessions.{TellsSession}
-use Rattle.srm_program.proofs.Texts.{session_of_text}
+use Rattle.srm_program.specs.Runs.{TellsRefusals}
+use Rattle.srm_program.specs.Sessions.{OfRun, TellsSession}
+use Rattle.srm_program.proofs.Texts.{refusals_of_text, session_of_text}
 use Rattle.srm_program.proofs.session.simulate_text.Goals as goal
 
 pub returns-in-None-clause-report : goal.returns-in-None-clause-report
 returns-in-None-clause-report g c =
-    session_of_text c.in-Ok.scenario c.in-Ok-net.net c.args.text.now c.args.seed c.args.options _ _ c.run_members.result
-    c.in-Ok.ensures.scenario c.if-options.false c.in-None.is
-    (c.in-Ok-net.ensures ∙ ap (λ (p : PlainScenario). network_of p) c.with_seed-scenario.ensures)
-    (subst (λ (p : PlainScenario). TellsSession p c.in-Ok-net.net c.args.seed c.args.options
+    session_of_text c.in-Ok.scenario c.in-Ok-net.net c.args.text.now c.args.seed c.args.options _ _ c.in-Ok.ensures.scenario
+    c.if-options.false c.in-None.is
+    (c.in-Ok-net.ensures ∙ ap (λ (p : PlainScenario). network_of p) c.with_seed-scenario.ensures) c.run_members.result
+    (subst (λ (p : PlainScenario). TellsSession p c.in-Ok-net.net c.args.seed c.args.options.show
     (g.O.Outlet.taken c.args.outlet.now) (g.O.Outlet.taken c.run_members.new.outlet) c.run_members.result)
     c.with_seed-scenario.ensures c.run_members.ensures.report)
+
+pub returns-in-None-clause-refusals : goal.returns-in-None-clause-refusals
+returns-in-None-clause-refusals g c =
+    refusals_of_text c.in-Ok.scenario c.in-Ok-net.net c.args.text.now c.args.seed c.args.options _ _ c.in-Ok.ensures.scenario
+    c.if-options.false c.in-None.is
+    (c.in-Ok-net.ensures ∙ ap (λ (p : PlainScenario). network_of p) c.with_seed-scenario.ensures) c.run_members.result
+    (subst (λ (p : PlainScenario). OfRun (TellsRefusals p c.in-Ok-net.net c.args.seed c.args.options
+    (g.O.Outlet.taken c.args.outlet.now) (g.O.Outlet.taken c.run_members.new.outlet)) c.run_members.result)
+    c.with_seed-scenario.ensures c.run_members.ensures.refusals)
