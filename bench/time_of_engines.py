@@ -7,7 +7,7 @@ Runs PROGRAM on a chain, a tree and a star of N nodes (256 by default, at most 1
 aside. Member 0 draws 4,096 times, one draw each 10 ticks, and of its packets one in forty is dropped, at one link after the
 other. Links take 1,000 ticks (wide windows: many events each) or 1 tick (narrow ones: few). What is shown is the table of
 links, which is short, so that the time is the engine's. Windows are as wide as the least delay of a link, and a job has as
-many members as go evenly to four jobs for each worker.
+many members as go evenly to four jobs for each worker, and with a team to sixteen.
 
 All engines must write the same bytes; where one does not, nothing more is timed, and the status is 1. Prints the least wall
 time of N runs, and that time over the sequential engine's. It asserts nothing about speed.
@@ -64,9 +64,10 @@ def scenario(shape: str, nodes: int, delay: int, draws: int) -> bytes:
 
 def engines(nodes: int, workers: int) -> dict[str, list[str]]:
     """The options of each engine, by its name."""
-    cut = min(MOST_CUT, max(1, nodes // (4 * workers)))
-    window = ["--engine", "window", "--width", "least", "--workers", str(workers), "--cut", str(cut)]
-    return {"step": [], **{f"window, {crew}": [*window, "--crew", crew] for crew in ("plain", "pool", "bag", "team")}}
+    window = ["--engine", "window", "--width", "least", "--workers", str(workers)]
+    jobs = {"plain": 4, "pool": 4, "bag": 4, "team": 16}
+    cuts = {crew: min(MOST_CUT, max(1, nodes // (each * workers))) for crew, each in jobs.items()}
+    return {"step": [], **{f"window, {crew}": [*window, "--crew", crew, "--cut", str(cut)] for crew, cut in cuts.items()}}
 
 
 def is_read(program: Program, name: str, text: bytes) -> bool:

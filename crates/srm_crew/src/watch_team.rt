@@ -97,7 +97,7 @@ fn advance_in_team<'a, R: Wait, M: Participant, K: Drop, W: Watch<K> + Copy, J: 
         return advance_watched(alloc, work.session, &work.watch, jobs);
     }
     let due = due_in_all(jobs.as_slice());
-    let Ok(pieces) = pieces_of(alloc, jobs, due / room + 1, room - 1) else {
+    let Ok(pieces) = pieces_of(alloc, jobs, (due / room).max(1), room - 1) else {
         return Err(CellFault::NoMemory);
     };
     let Ok(given) = to_advance(alloc, pieces) else {
