@@ -11,6 +11,7 @@ invariant-loop-cell g l =
     × (length l.kept.items ≡ length l.fn.job.kept.items)
     × (drop l.cell-index l.kept.items ≡ drop l.cell-index l.fn.job.kept.items)
     × All (IsOfMember g.M.Participant.plain (length l.session.net.now.hosts)) (drop l.cell-index l.cell-items)
-    × CellsSoFar g.M.Participant.plain (g.W.Watch.keeps l.watch) l.session.scenario.now l.session.net.now l.fn.job (take l.cell-index l.cell-items)
-    (drop l.cell-index l.cell-items) (take l.cell-index l.fn.job.kept.items) (take l.cell-index l.kept.items) l.sent.items
+    × CellsSoFar g.M.Participant.plain (g.W.Watch.keeps l.watch) l.session.scenario.now l.session.net.now l.fn.job
+    (take l.cell-index l.cell-items) (drop l.cell-index l.cell-items) (take l.cell-index l.fn.job.kept.items)
+    (take l.cell-index l.kept.items) l.sent.items
     × All (λ x. IsSent l.session.scenario.now l.session.net.now x) l.sent.items
