@@ -1,6 +1,6 @@
 -- What the positions of a built tree give, and what comes to a link.
 use Rattle.std.proofs.Common.{arith}
-use Rattle.std.proofs.Common.{◌≡◌, ℕ, ◌+◌, ◌<◌, Bool, true, false, not, ◌&&◌, length, Some, refl, sym, ap, ◌∙◌, subst}
+use Rattle.std.proofs.Common.{◌≡◌, ℕ, ◌+◌, ◌<◌, Bool, true, false, not, ◌&&◌, length, Some, sym, ap, ◌∙◌, subst}
 use Rattle.std.proofs.Common.{slice_get}
 use Rattle.std.specs.List.{list_any}
 use Rattle.srm_net.specs.declared.link.LinkSpec.{LinkSpec}

@@ -1,10 +1,11 @@
 -- The route between two nodes is a path, and is found where there is one.
 use Rattle.std.proofs.Common.{◌≡◌, ◌⊎◌, ℕ, zero, suc, ◌+◌, ◌<◌, ◌≤◌, Bool, true, false, List, [], ◌∷◌, length, Option, Some, None, refl}
-use Rattle.std.proofs.Common.{sym, ap, ◌∙◌, subst, inl, inr, arith, eqb, eq-eqb, eqb-true, slice_get, All, unwrap_or}
+use Rattle.std.proofs.Common.{sym, ap, ◌∙◌, subst, inl, inr, arith, eqb, eq-eqb, eqb-true, slice_get, All, unwrap_or, cond}
+use Rattle.std.specs.Option.{option_or, option_map}
 use Rattle.std.proofs.lemmas.Bool.{cases_Bool, both_ways, false≢true}
 use Rattle.srm_net.specs.declared.link.LinkSpec.{LinkSpec}
 use Rattle.srm_net.specs.Network.{Network, Joins, IsWalk, IsWithin, IsTree}
-use Rattle.srm_net.specs.Paths.{is_in, far_end, way_by, unless_passed, way_on, first_way, route_within, route}
+use Rattle.srm_net.specs.Paths.{is_in, far_end, way_on, first_way, route_within, route}
 use Rattle.srm_net.proofs.Lists.{all_get}
 use Rattle.srm_net.proofs.Numbers.{Apart, Below, in_tail, in_cases, not_head, not_tail, not_in, not_in_cons, few_apart, apart_from_distinct}
 use Rattle.srm_net.proofs.Walks.{only_path, walk_first}
@@ -28,15 +29,14 @@ joins_far k u x h3 = grind arith
 
 -- ---- what was found is a path
 
-unless_found : (further : ℕ → Option (List ℕ)) (passed : List ℕ) (b : Bool) (x : ℕ) (ls : List ℕ) → unless_passed b x further ≡ Some ls
-    → (b ≡ false) × (further x ≡ Some ls)
-unless_found further passed true x ls h = cc
-unless_found further passed false x ls h = (refl, h)
+unless_found : (b : Bool) (o : Option (List ℕ)) (ls : List ℕ) → cond b None o ≡ Some ls → (b ≡ false) × (o ≡ Some ls)
+unless_found true o ls h = cc
+unless_found false o ls h = (refl, h)
 
 way_on_found : (further : ℕ → Option (List ℕ)) (passed : List ℕ) (o : Option ℕ) (ls : List ℕ) → way_on further passed o ≡ Some ls → (x : ℕ)
     × (o ≡ Some x) × (is_in passed x ≡ false) × (further x ≡ Some ls)
 way_on_found further passed None ls h = cc
-way_on_found further passed (Some x) ls h = let r = unless_found further passed (is_in passed x) x ls h in (x, refl, r.0, r.1)
+way_on_found further passed (Some x) ls h = let r = unless_found (is_in passed x) (further x) ls h in (x, refl, r.0, r.1)
 
 abbrev FirstStep : (ℕ → Option (List ℕ)) → List ℕ → ℕ → ℕ → List LinkSpec → List ℕ → Type 0
 FirstStep further passed u l ks ls =
@@ -49,7 +49,7 @@ next_step further passed u l k ks ls f = (suc f.0, f.1, f.2, f.3, f.4, f.5, f.6,
 
 way_by_found : (further : ℕ → Option (List ℕ)) (passed : List ℕ) (u l : ℕ) (k : LinkSpec) (ks : List LinkSpec) (o p : Option (List ℕ))
     (ls : List ℕ)
-    → o ≡ way_on further passed (far_end k u) → way_by l o p ≡ Some ls →
+    → o ≡ way_on further passed (far_end k u) → option_or (option_map (λ ls. l ∷ ls) o) p ≡ Some ls →
     ((ms : List ℕ) → p ≡ Some ms → FirstStep further passed u (l + 1) ks ms) → FirstStep further passed u l (k ∷ ks) ls
 way_by_found further passed u l k ks None p ls e h more = next_step further passed u l k ks ls (more ls h)
 way_by_found further passed u l k ks (Some ms) p ls e h more =
@@ -102,7 +102,7 @@ found_path (suc m) links passed u v ls n h =
 abbrev pub Found : Option (List ℕ) → Type 0
 Found o = (ls : List ℕ) × (o ≡ Some ls)
 
-way_by_there : (l : ℕ) (o p : Option (List ℕ)) → Found o ⊎ Found p → Found (way_by l o p)
+way_by_there : (l : ℕ) (o p : Option (List ℕ)) → Found o ⊎ Found p → Found (option_or (option_map (λ ls. l ∷ ls) o) p)
 way_by_there l (Some ls) p h = (l ∷ ls, refl)
 way_by_there l None p (inl h) = cc
 way_by_there l None p (inr h) = h

@@ -1,7 +1,8 @@
 -- Routes between nodes and between members, and what becomes of a packet on them.
-use Rattle.std.specs.Prelude.{ℕ, zero, suc, ◌+◌, ◌/◌, Bool, true, false, not, ◌&&◌, ◌||◌, List, [], ◌∷◌, Option}
+use Rattle.std.specs.Prelude.{ℕ, zero, suc, ◌+◌, ◌/◌, Bool, false, not, ◌&&◌, ◌||◌, List, [], ◌∷◌, Option}
 use Rattle.std.specs.Prelude.{Some, None, map, unwrap_or, length, slice_get, slice_index, ◌==◌, if◌then◌else◌}
 use Rattle.std.specs.List.{list_any, range_with_len}
+use Rattle.std.specs.Option.{option_or, option_map}
 use Rattle.std.specs.declared.cmp.Ordering.{Ordering}
 use Rattle.std.specs.Ordering.{nat_cmp}
 use Rattle.std.specs.Cmp.Lexicographic.{slice_cmp}
@@ -22,26 +23,16 @@ is_in ns n = list_any (λ k. k == n) ns
 abbrev pub far_end : LinkSpec → ℕ → Option ℕ
 far_end k u = if k.a == u then Some k.b else if k.b == u then Some k.a else None
 
--- the way by link l and on from there, if there is one, or else another
-abbrev pub way_by : ℕ → Option (List ℕ) → Option (List ℕ) → Option (List ℕ)
-way_by l (Some ls) other = Some (l ∷ ls)
-way_by l None other = other
-
--- `further x`, unless node x was passed
-abbrev pub unless_passed : Bool → ℕ → (ℕ → Option (List ℕ)) → Option (List ℕ)
-unless_passed true x further = None
-unless_passed false x further = further x
-
--- the way on by a link that leads to this node, if any
+-- the way on by a link that leads to this node, if any: `further` from there, unless the node was passed
 abbrev pub way_on : (ℕ → Option (List ℕ)) → List ℕ → Option ℕ → Option (List ℕ)
 way_on further passed None = None
-way_on further passed (Some x) = unless_passed (is_in passed x) x further
+way_on further passed (Some x) = if is_in passed x then None else further x
 
 -- the first way from node u, by the links in their order, l the number of the first of them
 abbrev pub first_way : (ℕ → Option (List ℕ)) → List ℕ → ℕ → ℕ → List LinkSpec → Option (List ℕ)
 first_way further passed u l [] = None
 first_way further passed u l (k ∷ ks) =
-    way_by l (way_on further passed (far_end k u)) (first_way further passed u (l + 1) ks)
+    option_or (option_map (λ ls. l ∷ ls) (way_on further passed (far_end k u))) (first_way further passed u (l + 1) ks)
 
 -- a way of at most n links from node u to node v that meets none of the nodes passed, if there is one
 unfoldable pub route_within : ℕ → List LinkSpec → List ℕ → ℕ → ℕ → Option (List ℕ)
