@@ -4,7 +4,7 @@ use Rattle.std.proofs.Common.{ap, ◌∙◌, subst, arith, ◌==◌}
 use Rattle.std.specs.Option.{option_map}
 use Rattle.std.specs.declared.cmp.Ordering.{Ordering}
 use Rattle.std.specs.declared.cmp.Ordering.TheVariants.{Less, Equal, Greater}
-use Rattle.std.specs.Ordering.{eq_by_cmp, is_eq, is_gt, is_lt, ordering_reverse}
+use Rattle.std.specs.Ordering.{eq_by_cmp, is_eq, is_gt, is_lt, min_by_ordering, ordering_reverse}
 use Rattle.std.specs.FinMap.Entries.{find, is_sorted, below_all}
 use Rattle.std.proofs.lemmas.Bool.Decides.{nat_tests}
 use Rattle.std.proofs.lemmas.Bool.{or_right}
@@ -16,7 +16,7 @@ use Rattle.srm_net.specs.Names.{name_cmp}
 use Rattle.srm_net.proofs.Basics.{T_first, T_second, is_Equal}
 use Rattle.srm_net.proofs.TotalOrders.{tied_names}
 use Rattle.srm_member.specs.declared.due.Due.{Due}
-use Rattle.srm_member.specs.Record.{Missing, Repairing, due_cmp, by_order, earlier_timer, earliest}
+use Rattle.srm_member.specs.Record.{Missing, Repairing, due_cmp, earlier_timer, earliest}
 use Rattle.srm_member.specs.Pending.{has, RisesByName, IsFirst, IsIndexed, pending_timers, request_timer, repair_timer}
 use Rattle.srm_member.specs.Pending.{expiry_of, is_at_time}
 use Rattle.srm_member.proofs.Indexes.{due_total, due_same, same, same_rank, due_eq, due_itself}
@@ -50,7 +50,7 @@ step_none d ds e = (
       (λ t. let no = sym (ap (λ l. has l x) e) ∙ t in cc),
 )
 
-step_some : (d m : Due) (ds : List Due) → IsFirst ds (Some m) → (o : Ordering) → due_cmp d m ≡ o → IsFirst (d ∷ ds) (Some (by_order o d m))
+step_some : (d m : Due) (ds : List Due) → IsFirst ds (Some m) → (o : Ordering) → due_cmp d m ≡ o → IsFirst (d ∷ ds) (Some (min_by_ordering o d m))
 step_some d m ds h Less e = (
   at_head d ds,
   λ x k. either (eq_by_cmp due_cmp x d) (has ds x) k (is_gt (due_cmp d x) ≡ false)

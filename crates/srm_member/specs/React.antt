@@ -1,8 +1,8 @@
 -- How a member answers a cause: the table for senders, receivers and late joiners, and the table for listeners.
 use Rattle.std.specs.Prelude.{ℕ, zero, suc, ◌+◌, ◌-◌, ◌*◌, ◌/◌, min, Bool, true, false, not, ◌&&◌, List, [], ◌∷◌, ◌++◌}
-use Rattle.std.specs.Prelude.{map, filter, length, Option, Some, None, is_some, unwrap_or, nat_lt, nat_le, ◌==◌}
-use Rattle.std.specs.Prelude.{slice_index, if◌then◌else◌}
-use Rattle.std.specs.List.{list_any}
+use Rattle.std.specs.Prelude.{map, filter, length, Option, Some, None, is_some, unwrap_or, nat_lt, nat_le}
+use Rattle.std.specs.Prelude.{slice_index, ◌==◌, if◌then◌else◌}
+use Rattle.std.specs.Option.{option_map_or}
 use Rattle.std.specs.Ordering.{eq_by_cmp}
 use Rattle.std.specs.FinMap.Entries.{put, find}
 use Rattle.rand_pcg.specs.Pcg.{pcg32}
@@ -12,6 +12,7 @@ use Rattle.srm_net.specs.declared.packet.Heard.{Heard}
 use Rattle.srm_net.specs.declared.packet.Body.{Body}
 use Rattle.srm_net.specs.declared.packet.Body.TheVariants.{Drawop, Request, Repair, Session}
 use Rattle.srm_net.specs.Roles.{is_sender, is_late, is_listener}
+use Rattle.srm_net.specs.Paths.{is_in}
 use Rattle.srm_net.specs.Names.{page_of, name_in, name_cmp, page_cmp}
 use Rattle.srm_member.specs.declared.cause.Cause.{Cause}
 use Rattle.srm_member.specs.declared.cause.Cause.TheVariants.{Join, Arrival, Ask, Answer, Draw, Report}
@@ -96,13 +97,9 @@ back_off at n e m0 =
 
 -- ---- progress and losses
 
--- whether a page is one of those that a late member wants whole
-abbrev pub wants : MemberState → ℕ → Bool
-wants m page = list_any (λ p. p == page) m.fixed.pages
-
 -- where a page begins for this member. A late member does not ask for what came before on pages that it does not want
 abbrev pub begins_at : MemberState → PageId → ℕ → ℕ
-begins_at m p begin = if is_late m.fixed.role && not (wants m p.page) then begin else 0
+begins_at m p begin = if is_late m.fixed.role && not (is_in m.fixed.pages p.page) then begin else 0
 
 -- meet a page: its entry, which is made where there is none
 abbrev pub meet : MemberState → PageId → ℕ → Progress
@@ -184,16 +181,12 @@ hear_data at n ink repaired m =
     quietly (with_mended n ink (with_progress (page_of n) s (with_mending_seen at n repaired m))) Fixed []
     else quietly (with_progress (page_of n) s m) Again []
 
--- who set the repair timer, or, where there is none, who sent the repair
-abbrev pub requester_or : ℕ → Option Repairing → ℕ
-requester_or who None = who
-requester_or who (Some r) = r.requester
-
 -- the base of a name's rest: the distance to its source; at the source itself the distance to the requester of the
 -- pending repair timer, or without one to the member that sent the repair
 abbrev pub base : MemberState → Name → ℕ → ℕ
 base m n who = distance_to m
-    (if n.source == m.fixed.member then requester_or who (find name_cmp n m.repairs) else n.source)
+    (if n.source == m.fixed.member then option_map_or (λ r. r.requester) (find name_cmp n m.repairs) who
+    else n.source)
 
 -- after a repair by this member, which ends a pending repair timer
 abbrev pub with_rest : ℕ → Name → ℕ → MemberState → MemberState

@@ -1,8 +1,7 @@
 -- What a member knows: its record, the timers in it, and what it ends with.
 use Rattle.std.specs.Prelude.{ℕ, ◌+◌, Bool, ◌==◌, if◌then◌else◌, List, [], ◌∷◌, ◌++◌, map, Option, Some, None}
 use Rattle.std.specs.declared.cmp.Ordering.{Ordering}
-use Rattle.std.specs.declared.cmp.Ordering.TheVariants.{Less, Equal, Greater}
-use Rattle.std.specs.Ordering.{nat_cmp}
+use Rattle.std.specs.Ordering.{nat_cmp, min_by_ordering}
 use Rattle.std.specs.Cmp.Lexicographic.{slice_cmp}
 use Rattle.rand_pcg.specs.Lcg.{Lcg, started, increment_of}
 use Rattle.rand_pcg.specs.Pcg.{multiplier_64}
@@ -86,16 +85,10 @@ numbers_of_due d = d.time ∷ rank_number d.rank ∷ d.name.source ∷ d.name.pa
 abbrev pub due_cmp : Due → Due → Ordering
 due_cmp d e = slice_cmp nat_cmp (numbers_of_due d) (numbers_of_due e)
 
--- the first of two timers, by how they compare
-abbrev pub by_order : Ordering → Due → Due → Due
-by_order Less d e = d
-by_order Equal d e = d
-by_order Greater d e = e
-
 -- the earlier of a timer and another, if there is another
 abbrev pub earlier_timer : Due → Option Due → Due
 earlier_timer d None = d
-earlier_timer d (Some e) = by_order (due_cmp d e) d e
+earlier_timer d (Some e) = min_by_ordering (due_cmp d e) d e
 
 -- the least of these timers
 abbrev pub earliest : List Due → Option Due
