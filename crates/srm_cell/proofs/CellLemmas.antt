@@ -1,13 +1,13 @@
 -- A cell's own step, and what a late arrival leaves of it.
 use Rattle.std.proofs.Common.{◌≡◌, ℕ, ◌≤◌, Bool, true, false, cond, List, [], ◌∷◌, refl, sym, ap, ◌∙◌, ◌≢◌, arith, Ordering, Less}
 use Rattle.std.proofs.Common.{Equal, Greater, ltb-true, lt-ltb, nat_lt, Option, Some, None, option_map}
-use Rattle.std.specs.Ordering.{ordering_reverse}
-use Rattle.srm_cell.specs.Cells.{Done, Event, Full, Idle, PlainCell, Spent, StepOutcome, Stepped, before, by_key, earlier, first_arrival}
-use Rattle.srm_cell.specs.Cells.{first_mark, handle, hear_at, next_event, next_timer, own_step, step_at, timer_event, timer_key}
+use Rattle.std.specs.Ordering.{min_by_ordering, ordering_reverse}
+use Rattle.srm_cell.specs.Cells.{Done, Event, Full, Idle, PlainCell, Spent, StepOutcome, Stepped, before, cause_of_timer, earlier}
+use Rattle.srm_cell.specs.Cells.{first_arrival, first_mark, handle, hear_at, next_event, next_timer, own_step, step_at, timer_key}
 use Rattle.srm_cell.specs.Flights.{flight_cmp}
 use Rattle.srm_cell.specs.declared.flight.Flight.{Flight}
 use Rattle.srm_member.proofs.OrderLemmas.{head_le}
-use Rattle.srm_member.specs.Record.{Record, by_order, due_cmp, earliest, earlier_timer, timers}
+use Rattle.srm_member.specs.Record.{Record, due_cmp, earliest, earlier_timer, timers}
 use Rattle.srm_member.specs.declared.cause.Cause.{Cause}
 use Rattle.srm_member.specs.declared.due.Due.{Due}
 use Rattle.srm_net.specs.Keys.{key_cmp}
@@ -24,8 +24,8 @@ abbrev pub keep : Bool → Event → Option Event
 keep b e = cond b (Some e) None
 
 picked : (r : Ordering) (bd be : Bool) (d e : Event) → (r ≢ Greater → be ≡ true → bd ≡ true) → (r ≡ Greater → bd ≡ true → be ≡ true) →
-    cond (elim r [ Less ↦ bd | Equal ↦ bd | Greater ↦ be ]) (Some (by_key r d e)) None
-    ≡ cond bd (cond be (Some (by_key r d e)) (Some d)) (keep be e)
+    cond (elim r [ Less ↦ bd | Equal ↦ bd | Greater ↦ be ]) (Some (min_by_ordering r d e)) None
+    ≡ cond bd (cond be (Some (min_by_ordering r d e)) (Some d)) (keep be e)
 picked Less true true d e f g = refl
 picked Less true false d e f g = refl
 picked Less false true d e f g = cc (f (λ e. cc) refl)
@@ -46,13 +46,13 @@ first_le k l h = head_le k.time l.time _ h
 pub second_le : (k l : Key) → key_cmp k l ≡ Greater → l.time ≤ k.time
 second_le k l h = first_le l k (λ g. let e : Greater ≡ Less = sym g ∙ key_total.antisymm l k ∙ ap ordering_reverse h in cc)
 
-pub before-by_key : (till : ℕ) (r : Ordering) (d e : Event) → before till (Some (by_key r d e))
+pub before-min : (till : ℕ) (r : Ordering) (d e : Event) → before till (Some (min_by_ordering r d e))
     ≡ cond (elim r [ Less ↦ nat_lt d.key.time till | Equal ↦ nat_lt d.key.time till | Greater ↦ nat_lt e.key.time till ])
-    (Some (by_key r d e)) None
-before-by_key till r d e = grind arith
+    (Some (min_by_ordering r d e)) None
+before-min till r d e = grind arith
 
 both_kept : (bd be : Bool) (r : Ordering) (d e : Event) → key_cmp d.key e.key ≡ r → earlier (keep bd d) (keep be e)
-    ≡ cond bd (cond be (Some (by_key r d e)) (Some d)) (keep be e)
+    ≡ cond bd (cond be (Some (min_by_ordering r d e)) (Some d)) (keep be e)
 both_kept true true r d e h = rw h
 both_kept true false r d e h = refl
 both_kept false be r d e h = refl
@@ -66,13 +66,16 @@ before-earlier till None y = refl
 before-earlier till (Some d) None = none_left (nat_lt d.key.time till) d
 before-earlier till (Some d) (Some e) =
     let r = key_cmp d.key e.key in
-    before-by_key till r d e
+    before-min till r d e
     ∙ picked r (nat_lt d.key.time till) (nat_lt e.key.time till) d e
     (λ ng be. let le = first_le d.key e.key ng in let lt = ltb-true _ _ be in lt-ltb _ _ (omega arith))
     (λ g bd. let le = second_le d.key e.key g in let lt = ltb-true _ _ bd in lt-ltb _ _ (omega arith))
     ∙ sym (both_kept (nat_lt d.key.time till) (nat_lt e.key.time till) r d e refl)
 
 -- ---- the first of all timers
+
+abbrev timer_event : ℕ → PlainCell → Due → Event
+timer_event m c d = record { key = timer_key m d; cause = Some (cause_of_timer d.rank d.name); rest = c }
 
 abbrev pub first_timer : ℕ → PlainCell → List Due → Option Event
 first_timer m c [] = None
@@ -81,8 +84,8 @@ first_timer m c (d ∷ ds) = earlier (Some (timer_event m c d)) (first_timer m c
 timer_keys : (m : ℕ) (d e : Due) → key_cmp (timer_key m d) (timer_key m e) ≡ due_cmp d e
 timer_keys m d e = let s = nat_cmp_self m in simp s
 
-sooner_by : (m : ℕ) (c : PlainCell) (r : Ordering) (d e : Due) → next_timer m c (Some (by_order r d e))
-    ≡ Some (by_key r (timer_event m c d) (timer_event m c e))
+sooner_by : (m : ℕ) (c : PlainCell) (r : Ordering) (d e : Due) → next_timer m c (Some (min_by_ordering r d e))
+    ≡ Some (min_by_ordering r (timer_event m c d) (timer_event m c e))
 sooner_by m c Less d e = refl
 sooner_by m c Equal d e = refl
 sooner_by m c Greater d e = refl
@@ -91,7 +94,7 @@ sooner_timer : (m : ℕ) (c : PlainCell) (d : Due) (o : Option Due) → next_tim
     ≡ earlier (Some (timer_event m c d)) (next_timer m c o)
 sooner_timer m c d None = refl
 sooner_timer m c d (Some e) =
-    sooner_by m c (due_cmp d e) d e ∙ ap (λ r. Some (by_key r (timer_event m c d) (timer_event m c e))) (sym (timer_keys m d e))
+    sooner_by m c (due_cmp d e) d e ∙ ap (λ r. Some (min_by_ordering r (timer_event m c d) (timer_event m c e))) (sym (timer_keys m d e))
 
 first_timer_is : (m : ℕ) (c : PlainCell) (ds : List Due) → next_timer m c (earliest ds) ≡ first_timer m c ds
 first_timer_is m c [] = refl

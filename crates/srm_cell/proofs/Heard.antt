@@ -2,7 +2,7 @@
 use Rattle.std.proofs.Common.{arith}
 use Rattle.std.proofs.Common.{◌≡◌, ◌≢◌, ℕ, Bool, cond, List, [], ◌∷◌, Option, Some, None, option_map, refl, sym, ap, ◌∙◌, subst, Ordering}
 use Rattle.std.proofs.Common.{Less, Equal, Greater, is_lt}
-use Rattle.std.specs.Ordering.{is_gt, ordering_reverse}
+use Rattle.std.specs.Ordering.{is_gt, min_by_ordering, ordering_reverse}
 use Rattle.srm_net.specs.declared.key.Key.{Key}
 use Rattle.srm_net.specs.declared.packet.Packet.{Packet}
 use Rattle.srm_net.specs.Keys.{key_cmp}
@@ -18,7 +18,7 @@ use Rattle.srm_cell.specs.declared.pending.Source.{Source}
 use Rattle.srm_cell.specs.declared.pending.Source.TheVariants.{Inbox}
 use Rattle.srm_cell.specs.declared.pending.Pending.{Pending}
 use Rattle.srm_cell.specs.Flights.{flight_cmp}
-use Rattle.srm_cell.specs.Cells.{PlainCell, Event, arrival_key, by_key, earlier, first_arrival, first_mark, next_timer, next_event, hear_at}
+use Rattle.srm_cell.specs.Cells.{PlainCell, Event, arrival_key, earlier, first_arrival, first_mark, next_timer, next_event, hear_at}
 use Rattle.srm_cell.specs.Pending.{Stands, arriving, first_of, sooner_pending}
 use Rattle.srm_cell.proofs.CellLemmas.{earlier-map, event_map}
 use Rattle.srm_cell.proofs.Tidy.{Least, flight_keys, least_earlier}
@@ -42,18 +42,19 @@ less_not r h g = let x : Less ≡ Greater = sym h ∙ g in cc
 equal_not : (r : Ordering) → r ≡ Equal → r ≢ Greater
 equal_not r h g = let x : Equal ≡ Greater = sym h ∙ g in cc
 
-first_kept : (r : Ordering) (d e : Event) → r ≢ Greater → by_key r d e ≡ d
+first_kept : (r : Ordering) (d e : Event) → r ≢ Greater → min_by_ordering r d e ≡ d
 first_kept r d e h = grind arith
 
-second_kept : (r : Ordering) (d e : Event) → r ≡ Greater → by_key r d e ≡ e
-second_kept r d e h = ap (λ q. by_key q d e) h
+second_kept : (r : Ordering) (d e : Event) → r ≡ Greater → min_by_ordering r d e ≡ e
+second_kept r d e h = ap (λ q. min_by_ordering q d e) h
 
 all_kept : (d e f : Event) → key_cmp d.key e.key ≢ Greater → key_cmp e.key f.key ≢ Greater
-    → by_key (key_cmp d.key f.key) d f ≡ by_key (key_cmp d.key e.key) d e
+    → min_by_ordering (key_cmp d.key f.key) d f ≡ min_by_ordering (key_cmp d.key e.key) d e
 all_kept d e f h g = first_kept _ d f (lesser_once d.key e.key f.key h g) ∙ sym (first_kept _ d e h)
 
 of_three : (d e f : Event) (r s : Ordering) → key_cmp d.key e.key ≡ r → key_cmp e.key f.key ≡ s
-    → by_key (key_cmp (by_key r d e).key f.key) (by_key r d e) f ≡ by_key (key_cmp d.key (by_key s e f).key) d (by_key s e f)
+    → min_by_ordering (key_cmp (min_by_ordering r d e).key f.key) (min_by_ordering r d e) f
+    ≡ min_by_ordering (key_cmp d.key (min_by_ordering s e f).key) d (min_by_ordering s e f)
 of_three d e f r s h g = grind (arith, all_kept, greater_once)
 
 earlier_of_three : (x y z : Option Event) → earlier (earlier x y) z ≡ earlier x (earlier y z)
@@ -82,7 +83,7 @@ module _ (m : ℕ) (p : Packet) (at : ℕ) where
 
   place_by : (c : PlainCell) (f : Flight) (fs : List Flight) (r : Ordering) (b : Bool) → b ≡ is_lt (ordering_reverse r)
       → first_arrival m (heard c) (cond b (f ∷ place flight_cmp flight fs) (flight ∷ f ∷ fs))
-      ≡ Some (by_key r (coming flight (record c { inbox = f ∷ fs })) (event_map heard (coming f (record c { inbox = fs }))))
+      ≡ Some (min_by_ordering r (coming flight (record c { inbox = f ∷ fs })) (event_map heard (coming f (record c { inbox = fs }))))
   place_by c f fs r b h = grind arith
 
   -- the first arrival is the packet's, or what was the first

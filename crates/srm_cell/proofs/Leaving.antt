@@ -14,7 +14,6 @@ use Rattle.srm_member.specs.React.{Reaction, react}
 use Rattle.srm_member.proofs.AllIn.{AllIn, AllIn-place}
 use Rattle.srm_member.proofs.OrderLemmas.{from_refl}
 use Rattle.srm_cell.specs.declared.flight.Flight.{Flight}
-use Rattle.srm_scenario.specs.Presence.{is_up_to}
 use Rattle.srm_cell.specs.Setting.{HasOwnRanks, EndsAtLeave, cause_of_mark}
 use Rattle.srm_cell.specs.Cells.{PlainCell, hear_at, Event, first_arrival, first_mark, next_event, before, Idle, Full, Spent, Done}
 use Rattle.srm_cell.specs.Cells.{Stepped, sending_step, handle, step_at, own_step, arrival_key, mark_key}
@@ -22,7 +21,7 @@ use Rattle.srm_cell.specs.OwnRuns.{own_end}
 use Rattle.srm_cell.proofs.CellLemmas.{first_timer, next_event_is}
 use Rattle.srm_cell.proofs.CellSteps.{before_some}
 use Rattle.srm_cell.proofs.Rising.{OnEvent, earlier_on, OnStep}
-use Rattle.srm_cell.proofs.Tidy.{NotBefore, Least, IsTidy, RestTidy, above_least, next_tidy, tidy_step}
+use Rattle.srm_cell.proofs.Tidy.{is_up_to, NotBefore, Least, IsTidy, RestTidy, above_least, next_tidy, tidy_step}
 use Rattle.srm_cell.proofs.Counts.{Taken, next_taken}
 use Rattle.srm_cell.proofs.Clear.{IsTail, RestOf, next_rest, StepOf, step_is_of, all_tail, ranks_tail}
 use Rattle.srm_cell.proofs.OwnRunLemmas.{end_by, end_first, end_now}

@@ -11,7 +11,7 @@ use Rattle.srm_scenario.specs.declared.mark.Mark.{Mark}
 use Rattle.srm_member.specs.declared.due.Due.{Due}
 use Rattle.srm_member.specs.Record.{Record, due_of}
 use Rattle.srm_cell.specs.declared.flight.Flight.{Flight}
-use Rattle.srm_cell.specs.Cells.{PlainCell, Event, first_arrival, first_mark, next_timer, timer_event, next_event, earlier, before}
+use Rattle.srm_cell.specs.Cells.{PlainCell, Event, first_arrival, first_mark, next_timer, next_event, earlier, before}
 use Rattle.srm_cell.specs.Cells.{step_at, own_step, handle, Idle}
 use Rattle.srm_cell.specs.declared.pending.Pending.{Pending}
 use Rattle.srm_cell.specs.Pending.{Stands, sooner_pending}
@@ -56,7 +56,7 @@ pub timer_known : (m n : ℕ) (p : PlainCell) (o : Option Record) (d : Due) → 
     (next_timer m p (due_of p.holds)) (next_timer m p (due_of p.holds))
 timer_known m n p o d number holds h =
     let due : due_of p.holds ≡ Some d = held_due o p.holds holds ∙ sym h in (
-      timer_event m p d,
+      _,
       ap (next_timer m p) due,
       (λ i. record { time = d.time; member = number i; rank = d.rank; a = d.name.source; b = d.name.page; c = d.name.number }),
       ap (next_timer m p) due,

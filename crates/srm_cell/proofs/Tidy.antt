@@ -1,14 +1,15 @@
 -- Cells whose inboxes and scripts are in order, and what the least event says of them.
 use Rattle.std.proofs.Common.{◌≡◌, ℕ, ◌<◌, ◌≤◌, ◌+◌, true, List, [], ◌∷◌, sym, ap, ◌∙◌, subst, ◌≢◌}
-use Rattle.std.proofs.Common.{arith, Ordering, Less, Equal, Greater, Option, Some, None, is_lt}
+use Rattle.std.proofs.Common.{arith, Ordering, Less, Equal, Greater, Option, Some, None, is_lt, Bool, nat_le}
+use Rattle.std.specs.Option.{option_map_or}
+use Rattle.std.specs.Ordering.{min_by_ordering}
 use Rattle.srm_cell.proofs.CellLemmas.{first_le, first_timer, next_event_is}
 use Rattle.srm_cell.proofs.CellSteps.{flight_total}
 use Rattle.srm_cell.proofs.Rising.{Above, OnEvent, OnStep, earlier_on}
-use Rattle.srm_cell.specs.Cells.{arrival_key, mark_key, timer_key, Event, PlainCell, by_key, earlier, first_arrival}
+use Rattle.srm_cell.specs.Cells.{arrival_key, mark_key, timer_key, Event, PlainCell, earlier, first_arrival}
 use Rattle.srm_cell.specs.Cells.{first_mark, handle, hear, hear_at, next_event, step_at}
 use Rattle.srm_cell.specs.Flights.{flight_cmp}
 use Rattle.srm_cell.specs.OwnRuns.{told_to}
-use Rattle.srm_scenario.specs.Presence.{is_up_to}
 use Rattle.srm_cell.specs.Setting.{Traffic, arrival_of}
 use Rattle.srm_cell.specs.declared.flight.Flight.{Flight}
 use Rattle.srm_member.proofs.AllIn.{AllIn}
@@ -51,7 +52,7 @@ abbrev pub Least : Key → Option Event → Type 0
 Least k None = Unit {0}
 Least k (Some e) = NotBefore k e.key
 
-least_parts : (k : Key) (r : Ordering) (d e : Event) → key_cmp d.key e.key ≡ r → NotBefore k (by_key r d e).key → NotBefore k d.key
+least_parts : (k : Key) (r : Ordering) (d e : Event) → key_cmp d.key e.key ≡ r → NotBefore k (min_by_ordering r d e).key → NotBefore k d.key
     × NotBefore k e.key
 least_parts k Less d e q h = (
   h,
@@ -157,6 +158,10 @@ tidy_told s (Some p) m c t = tidy_hear_at p (arrival_of s p m) c t
 pub arrival_is : (s : Traffic) (p : Packet) (m at : ℕ) → arrival_of s p m ≡ Some at → (m < s.members) × (m ≢ p.id.sender)
     × (p.sent + s.distance p.id.sender m ≡ at)
 arrival_is s p m at h = grind arith
+
+-- whether a time is no later than a leave, if there is one
+abbrev pub is_up_to : ℕ → Option ℕ → Bool
+is_up_to at leave = option_map_or (nat_le at) leave true
 
 -- a packet does not arrive after the member left
 pub arrival_up_to : (s : Traffic) (p : Packet) (m at : ℕ) → arrival_of s p m ≡ Some at → is_up_to at (s.leave m) ≡ true

@@ -1,8 +1,7 @@
 -- One member's cell: its record, what is on the way to it, and the rest of its script. A cell's own step.
 use Rattle.std.specs.Prelude.{◌≡◌, ◌≢◌, ℕ, ◌+◌, true, List, [], ◌∷◌, ◌++◌, map, Option, Some, None, nat_lt, ◌==◌}
 use Rattle.std.specs.Prelude.{if◌then◌else◌}
-use Rattle.std.specs.declared.cmp.Ordering.{Ordering}
-use Rattle.std.specs.declared.cmp.Ordering.TheVariants.{Less, Equal, Greater}
+use Rattle.std.specs.Ordering.{min_by_ordering}
 use Rattle.srm_net.specs.declared.key.Key.{Key}
 use Rattle.srm_net.specs.declared.packet.Name.{Name}
 use Rattle.srm_net.specs.declared.packet.Body.{Body}
@@ -68,17 +67,11 @@ pub record Event : Type 0 where
   pub cause : Option Cause
   pub rest : PlainCell
 
--- the one with the lesser key
-abbrev pub by_key : Ordering → Event → Event → Event
-by_key Less d e = d
-by_key Equal d e = d
-by_key Greater d e = e
-
 -- the event with the lesser key, if there is any
 abbrev pub earlier : Option Event → Option Event → Option Event
 earlier None e = e
 earlier (Some d) None = Some d
-earlier (Some d) (Some e) = Some (by_key (key_cmp d.key e.key) d e)
+earlier (Some d) (Some e) = Some (min_by_ordering (key_cmp d.key e.key) d e)
 
 -- the key of an arrival
 abbrev pub arrival_key : ℕ → Flight → Key
@@ -131,18 +124,14 @@ abbrev pub cause_of_timer : Rank → Name → Cause
 cause_of_timer rank.Request n = Ask n
 cause_of_timer _ n = Answer n
 
--- a timer of the record
-abbrev pub timer_event : ℕ → PlainCell → Due → Event
-timer_event m c d = record {
-  key = timer_key m d;
-  cause = Some (cause_of_timer d.rank d.name);
-  rest = c;
-}
-
 -- the record's next timer
 abbrev pub next_timer : ℕ → PlainCell → Option Due → Option Event
 next_timer m c None = None
-next_timer m c (Some d) = Some (timer_event m c d)
+next_timer m c (Some d) = Some (record {
+  key = timer_key m d;
+  cause = Some (cause_of_timer d.rank d.name);
+  rest = c;
+})
 
 -- a cell's least own pending event
 unfoldable pub next_event : ℕ → PlainCell → Option Event

@@ -18,7 +18,6 @@ use Rattle.srm_scenario.specs.Presence.{is_present}
 use Rattle.srm_member.specs.declared.cause.Cause.{Cause}
 use Rattle.srm_member.specs.declared.cause.Cause.TheVariants.{Join, Draw, Report}
 use Rattle.srm_member.specs.declared.fixed.Fixed.{Fixed}
-use Rattle.srm_member.specs.declared.backoff.BackoffFactor.{BackoffFactor}
 use Rattle.srm_member.specs.declared.backoff.BackoffFactor.TheVariants.{Two, Three}
 use Rattle.srm_member.specs.Intervals.{Limits}
 
@@ -52,10 +51,6 @@ no_member = record { node = 0; role = Receiver; stream = 0; join = 0; leave = No
 abbrev pub member_at : PlainScenario → ℕ → MemberSpec
 member_at s m = unwrap_or (slice_get s.members m) no_member
 
--- the factor of backoffs that a scenario's number names
-abbrev pub factor_of : ℕ → BackoffFactor
-factor_of n = if n == 3 then Three else Two
-
 -- a constant of timers, with the least and the most that it is adapted to
 abbrev pub limits_of : ℕ → ℕ → ℕ → Limits
 limits_of first least most = record { first = first; least = least; most = most }
@@ -65,7 +60,7 @@ abbrev pub fixed_of : PlainScenario → Network → ℕ → ℕ → Fixed
 fixed_of s net seed m = record {
   member = m;
   role = (member_at s m).role;
-  backoff = factor_of s.room.backoff;
+  backoff = if s.room.backoff == 3 then Three else Two;
   c1 = limits_of s.constants.c1 s.room.least.c1 s.room.most.c1;
   c2 = limits_of s.constants.c2 s.room.least.c2 s.room.most.c2;
   d1 = limits_of s.constants.d1 s.room.least.d1 s.room.most.d1;

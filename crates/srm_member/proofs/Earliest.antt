@@ -50,7 +50,8 @@ step_none d ds e = (
       (λ t. let no = sym (ap (λ l. has l x) e) ∙ t in cc),
 )
 
-step_some : (d m : Due) (ds : List Due) → IsFirst ds (Some m) → (o : Ordering) → due_cmp d m ≡ o → IsFirst (d ∷ ds) (Some (min_by_ordering o d m))
+step_some : (d m : Due) (ds : List Due) → IsFirst ds (Some m) → (o : Ordering) → due_cmp d m ≡ o
+    → IsFirst (d ∷ ds) (Some (min_by_ordering o d m))
 step_some d m ds h Less e = (
   at_head d ds,
   λ x k. either (eq_by_cmp due_cmp x d) (has ds x) k (is_gt (due_cmp d x) ≡ false)
