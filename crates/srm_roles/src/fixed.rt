@@ -1,9 +1,10 @@
 //! The part of a member's record that never changes.
-ghost use Rattle.std.specs.Prelude.{◌≡◌, ◌<◌, length, IfOk};
+ghost use Rattle.std.specs.Prelude.{◌≡◌, ◌<◌, length, IfOk, ◌==◌, if◌then◌else◌};
+ghost use Rattle.srm_member.specs.declared.backoff.BackoffFactor.TheVariants.{Two, Three};
 ghost use Rattle.srm_scenario.specs.Plain.{network_of};
 ghost use Rattle.srm_member.specs.Fit.{IsBounded};
 ghost use Rattle.srm_scenario.specs.Accepted.{HasRoom};
-ghost use Rattle.srm_roles.specs.Opening.{factor_of, limits_of, fixed_of};
+ghost use Rattle.srm_roles.specs.Opening.{limits_of, fixed_of};
 
 use srm_member::backoff::BackoffFactor;
 use srm_member::distances::Distances;
@@ -57,7 +58,7 @@ pub fn fixed_of(
 
 // The factor of backoffs that a scenario's number names.
 fn factor_of(backoff: u64) -> BackoffFactor
-    ensures { result ≡ factor_of backoff }
+    ensures { result ≡ (if backoff == 3 then Three else Two) }
 {
     if backoff == 3 {
         BackoffFactor::Three
