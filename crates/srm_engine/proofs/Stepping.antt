@@ -2,6 +2,7 @@
 use Rattle.std.proofs.Common.{◌≡◌, ◌≢◌, ℕ, suc, ◌+◌, ◌<◌, ◌≤◌, ◌^◌, true, false, cond, List, [], ◌∷◌, ◌++◌, length, Option, Some}
 use Rattle.std.proofs.Common.{None, option_map, refl, sym, ap, ◌∙◌, subst, slice_get, slice_set, nat_lt, ◌==◌, eqb-true, eq-eqb}
 use Rattle.std.proofs.Common.{lt-ltb, le_refl, arith, zero-add, Ordering}
+use Rattle.std.specs.Ordering.{min_by_ordering}
 use Rattle.std.proofs.lemmas.Bool.{eqb-false}
 use Rattle.std.specs.List.{cons_option}
 use Rattle.std.proofs.Math.ListN.{length-set}
@@ -11,7 +12,7 @@ use Rattle.srm_member.specs.declared.row.Row.{Row}
 use Rattle.srm_cell.specs.Setting.{Setting, IsFit, arrival_of}
 use Rattle.srm_cell.specs.Flights.{BringsNone}
 use Rattle.srm_cell.specs.Crossings.{packets_of}
-use Rattle.srm_cell.specs.Cells.{PlainCell, Event, by_key, earlier, next_event, time_of, before, Idle, Full, Spent, Done, Stepped, step_at}
+use Rattle.srm_cell.specs.Cells.{PlainCell, Event, earlier, next_event, time_of, before, Idle, Full, Spent, Done, Stepped, step_at}
 use Rattle.srm_cell.specs.Cells.{own_step, hear}
 use Rattle.srm_cell.specs.OwnRuns.{told_to}
 use Rattle.srm_cell.proofs.CellSteps.{IsOf, IsStepOf, next_event_of, step_at_of, SentBy, before_some, some_not_idle}
@@ -41,13 +42,13 @@ abbrev FromOn : ℕ → Option Event → Type 0
 FromOn i None = Unit {0}
 FromOn i (Some e) = i ≤ e.key.member
 
-by_key_from : (i : ℕ) (r : Ordering) (d e : Event) → i ≤ d.key.member → i ≤ e.key.member → FromOn i (Some (by_key r d e))
-by_key_from i r d e h g = grind arith
+least_from : (i : ℕ) (r : Ordering) (d e : Event) → i ≤ d.key.member → i ≤ e.key.member → FromOn i (Some (min_by_ordering r d e))
+least_from i r d e h g = grind arith
 
 earlier_from : (i : ℕ) (x y : Option Event) → FromOn i x → FromOn i y → FromOn i (earlier x y)
 earlier_from i None y h g = g
 earlier_from i (Some d) None h g = h
-earlier_from i (Some d) (Some e) h g = by_key_from i (key_cmp d.key e.key) d e h g
+earlier_from i (Some d) (Some e) h g = least_from i (key_cmp d.key e.key) d e h g
 
 from_of : (i : ℕ) (x : Option Event) → IsOf i x → FromOn i x
 from_of i None h = tt

@@ -9,10 +9,9 @@ use Rattle.srm_engine.specs.declared.fault.RunFault.TheVariants as fault
 use Rattle.srm_engine.specs.declared.stream_fault.StreamFault.{StreamFault}
 use Rattle.srm_engine.specs.declared.stream_fault.StreamFault.TheVariants.{Run, Stopped}
 use Rattle.srm_engine.specs.declared.window_fault.WindowFault.TheVariants as window
-use Rattle.srm_model.specs.World.{World, IsLast}
-use Rattle.srm_model.specs.WindowChains.{AreWindows, window_jobs}
+use Rattle.srm_model.specs.World.{World}
 use Rattle.srm_engine.specs.Streams.{run_fault_in, TakesUpTo}
-use Rattle.srm_engine.specs.Windowed.{rule_of, IsCut, MayBeWide, TellsRunAsked, MayRefuse, MayCome}
+use Rattle.srm_engine.specs.Windowed.{rule_of, IsCut, IsHandedWindows, MayBeWide, TellsRunAsked, MayRefuse, MayCome}
 
 -- ---- what is asked for
 
@@ -52,9 +51,7 @@ MeetsWindowRefusal s rule cut old x new = IfSome (run_fault_in x) (λ e. MayRefu
 module _ {C : Type 0} (handed : C → List (List cell.PlainJob) → C → Type 0) where
   -- what a crew was handed in a run: exactly the windows' jobs, window after window; or when the run is refused
   abbrev pub TellsCalls : {A : Type 0} → Setting → (World → ℕ) → ℕ → C → Result A StreamFault → C → Type 0
-  TellsCalls s rule cut old (Ok v) new =
-      (begins : List World) × (w : World) × AreWindows s rule begins w × IsLast s w
-      × handed old (window_jobs rule cut begins) new
+  TellsCalls s rule cut old (Ok v) new = IsHandedWindows handed s rule cut old new
   TellsCalls s rule cut old (Err e) new = MeetsWindowRefusal s rule cut old e new
 
   -- so of a run that is asked for so

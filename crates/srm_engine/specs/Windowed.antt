@@ -1,12 +1,10 @@
 -- What the windowed engine is given, and what it tells.
-use Rattle.std.specs.Prelude.{◌≡◌, ◌<◌, ◌+◌, ◌^◌, ℕ, List, slice_index, Result, Ok, Err}
+use Rattle.std.specs.Prelude.{◌≡◌, ◌<◌, ◌+◌, ◌^◌, ℕ, List, slice_index, Result, Err}
 use Rattle.srm_net.specs.Network.{Network}
-use Rattle.srm_scenario.specs.Plain.{PlainScenario}
 use Rattle.srm_member.specs.declared.row.Row.{Row}
-use Rattle.srm_member.specs.Record.{Record}
 use Rattle.srm_ledger.specs.Seats.{LedgerView, SeatView}
 use Rattle.srm_ledger.specs.Weights.{whole_weight}
-use Rattle.srm_cell.specs.Setting.{Traffic, Setting, setting_of}
+use Rattle.srm_cell.specs.Setting.{Traffic, Setting}
 use Rattle.srm_cell.specs.Cells.{Event, Full}
 use Rattle.srm_cell.specs.Crossings.{crossings}
 use Rattle.srm_cell.specs.Jobs as cell
@@ -19,11 +17,10 @@ use Rattle.srm_engine.specs.declared.fault.RunFault.TheVariants as fault
 use Rattle.srm_engine.specs.declared.outcome.Outcome.{Outcome}
 use Rattle.srm_engine.specs.declared.window_fault.WindowFault.{WindowFault}
 use Rattle.srm_engine.specs.declared.window_fault.WindowFault.TheVariants as window
-use Rattle.srm_model.specs.World.{World, IsLast, IsOutcome, RunMeetsFull}
+use Rattle.srm_model.specs.World.{World, IsLast, RunMeetsFull}
 use Rattle.srm_model.specs.Windows.{IsWidth, promise_end}
 use Rattle.srm_model.specs.WindowRuns.{jobs_of}
 use Rattle.srm_model.specs.WindowChains.{AreWindows, IsNext, width_rule, least_width, window_jobs}
-use Rattle.srm_engine.specs.Openings.{HoldOpeningRecords}
 pub use Rattle.srm_engine.specs.Groups.{IsCut}
 
 -- ---- what is given
@@ -48,6 +45,12 @@ PassesShare t trace js =
     (rows : List Row) × AreRowsOfSome js rows
     × (k : ℕ) × (2 ^ 47 < counted_in (crossings t trace) k + counted_in (crossings t rows) k)
 
+-- so at one of a run's windows, of the trace up to it and its jobs
+abbrev pub PassesShareAtWindow : Setting → (World → ℕ) → ℕ → Type 0
+PassesShareAtWindow s rule cut =
+    (w : World) × (begins : List World) × AreWindows s rule begins w
+    × PassesShare s.traffic w.trace (jobs_of cut (rule w) w)
+
 -- the seat is the whole one of this ledger, and its shares are the crossings of these rows
 pub record IsCounted (t : Traffic) (l : LedgerView) (rows : List Row) (seat : SeatView) : Type 0 where
   pub ledger : seat.ledger ≡ l.name
@@ -68,12 +71,12 @@ MayRefuseWindow s till cut w window.ShareFull = PassesShare s.traffic w.trace (j
 abbrev pub MayCome : Setting → (World → ℕ) → ℕ → World → WindowFault → Type 0
 MayCome s rule cut w e = (begins : List World) × AreWindows s rule begins w × MayRefuseWindow s (rule w) cut w e
 
--- when a run in windows may be refused: for memory; as some window of it; and before any call of the crew, where the
--- cut or the width is
+-- when a run in windows may be refused: for memory; where it meets a step for which the packet count is used up; where
+-- crossings are too many for a share; and before any call of the crew, where the cut or the width is refused
 abbrev pub MayRefuse : {C : Type 0} → Setting → (World → ℕ) → ℕ → C → RunFault → C → Type 0
 MayRefuse s rule cut old fault.NoMemory new = Unit {0}
 MayRefuse s rule cut old fault.CountFull new = RunMeetsFull s
-MayRefuse s rule cut old fault.ShareFull new = (w : World) × MayCome s rule cut w window.ShareFull
+MayRefuse s rule cut old fault.ShareFull new = PassesShareAtWindow s rule cut
 MayRefuse s rule cut old fault.BadCut new = new ≡ old
 MayRefuse s rule cut old fault.BadWidth new = new ≡ old
 
@@ -86,18 +89,8 @@ TellsRunAsked net asked (Err fault.BadWidth) = IsCut asked.cut × ¬ MayBeWide n
 TellsRunAsked net asked r = IsCut asked.cut × MayBeWide net asked.width
 
 module _ {C : Type 0} (handed : C → List (List cell.PlainJob) → C → Type 0) where
-  -- what a run in windows tells: the outcome of the sequential run, for which the crew was handed exactly the windows'
-  -- jobs, window after window; or why it is refused
-  abbrev pub TellsWindowRun : Setting → (World → ℕ) → ℕ → C → Result Outcome RunFault → C → Type 0
-  TellsWindowRun s rule cut old (Ok v) new =
-      IsOutcome s v.trace.items v.exits.items v.totals
-      × ((begins : List World) × (w : World) × AreWindows s rule begins w × IsLast s w
-      × handed old (window_jobs rule cut begins) new)
-  TellsWindowRun s rule cut old (Err e) new = MayRefuse s rule cut old e new
-
-  -- so for every seed whose opening records the boxes hold
-  abbrev pub RunsInWindows : PlainScenario → Network → List Record → (Setting → World → ℕ) → ℕ → C
-      → Result Outcome RunFault → C → Type 0
-  RunsInWindows p net rs rule cut old r new =
-      (seed : ℕ) → HoldOpeningRecords p net seed rs
-      → TellsWindowRun (setting_of p net seed) (rule (setting_of p net seed)) cut old r new
+  -- the crew was handed exactly the jobs of the windows of a whole run, window after window
+  abbrev pub IsHandedWindows : Setting → (World → ℕ) → ℕ → C → C → Type 0
+  IsHandedWindows s rule cut old new =
+      (begins : List World) × (w : World) × AreWindows s rule begins w × IsLast s w
+      × handed old (window_jobs rule cut begins) new

@@ -1,8 +1,9 @@
 //! The run in windows.
-ghost use Rattle.std.specs.Prelude.{◌≡◌, ℕ, map};
+ghost use Rattle.std.specs.Prelude.{◌≡◌, ℕ, map, IfErr, IfOk, OnOk};
 ghost use Rattle.srm_scenario.specs.Plain.{network_of};
-ghost use Rattle.srm_engine.specs.Openings.{HoldOpeningRecords};
-ghost use Rattle.srm_engine.specs.Windowed.{rule_of, TellsRunAsked, RunsInWindows};
+ghost use Rattle.srm_model.specs.World.{IsOutcome};
+ghost use Rattle.srm_engine.specs.Openings.{HoldOpeningRecords, InRuns};
+ghost use Rattle.srm_engine.specs.Windowed.{rule_of, IsHandedWindows, MayRefuse, TellsRunAsked};
 
 use crate::fault::RunFault;
 use crate::kept_rows::KeptRows;
@@ -44,8 +45,12 @@ pub fn window_run<M: Participant, C: Crew<M>>(
     ensures ready { C.ready crew.new }
     ensures serves { C.serves crew.new scenario.now net.now }
     ensures asked { TellsRunAsked net.now asked result }
-    ensures run { RunsInWindows C.handed scenario.now net.now (map M.plain members.items)
-        (λ s. rule_of s net.now asked.width) asked.cut crew.old result crew.new }
+    ensures outcome { InRuns scenario.now net.now (map M.plain members.items)
+        (λ s. IfOk result (λ v. IsOutcome s v.trace.items v.exits.items v.totals)) }
+    ensures windows { InRuns scenario.now net.now (map M.plain members.items)
+        (λ s. OnOk result (IsHandedWindows C.handed s (rule_of s net.now asked.width) asked.cut crew.old crew.new)) }
+    ensures refused { InRuns scenario.now net.now (map M.plain members.items)
+        (λ s. IfErr result (λ e. MayRefuse s (rule_of s net.now asked.width) asked.cut crew.old e crew.new)) }
 {
     let mut kept = KeptRows::new(alloc);
     match window_stream(alloc, scenario, net, members, crew, asked, &mut kept) {
