@@ -19,7 +19,7 @@ use Rattle.srm_member.specs.declared.row.About.{About}
 use Rattle.srm_report.specs.declared.line.Line.{Line}
 use Rattle.srm_report.specs.declared.recovery.Recovery.{Recovery}
 use Rattle.srm_report.specs.Lines.{line_text, line_written}
-use Rattle.srm_report.specs.Losses.{delay_of, ratio}
+use Rattle.srm_report.specs.Losses.{delay_of}
 use Rattle.srm_report.specs.Members.{role_word}
 pub use Rattle.srm_report.specs.Seeds.{IsPlain, ArePlain}
 use Rattle.srm_report.specs.Trace.{cause_word, name_text, packet_text, ref_text, told_word}
@@ -91,7 +91,7 @@ pair_is_plain : (m n : ℕ) (mark : List ℕ) → IsPlain mark → IsPlain (deci
 pair_is_plain m n mark h = joined_is_plain (decimal m ++ mark) (decimal n) (joined_is_plain (decimal m) mark (decimal_is_plain m) h)
     (decimal_is_plain n)
 
-pub ratio_is_plain : (took way : ℕ) → IsPlain (ratio took way)
+ratio_is_plain : (took way : ℕ) → IsPlain (decimal took ++ codes "/" ++ decimal way)
 ratio_is_plain took way = pair_is_plain took way (codes "/") refl
 
 pub packet_is_plain : (p : PacketId) → IsPlain (packet_text p)

@@ -36,19 +36,15 @@ recovered_at rows k =
     time_of_first (λ r. (r.key.member == k.member)
     && (is_fixed r.told && option_map_or (is_name k.name) (brought r.about) false)) rows
 
--- a time over another, not reduced
-abbrev pub ratio : ℕ → ℕ → List ℕ
-ratio took way = decimal took ++ codes "/" ++ decimal way
-
 -- how a member recovered that detected a loss, and had it fixed, at these times
 abbrev pub recovery_by : ℕ → Option ℕ → Option ℕ → Option Recovery
 recovery_by m (Some detected) (Some recovered) =
     Some (record { member = m; detected = detected; recovered = recovered })
 recovery_by m _ _ = None
 
--- how long a recovery took, over the round trip to the source
+-- how long a recovery took, over the round trip to the source, not reduced
 abbrev pub delay_of : Network → ℕ → Recovery → List ℕ
-delay_of net source r = ratio (r.recovered - r.detected) (round net r.member source)
+delay_of net source r = decimal (r.recovered - r.detected) ++ codes "/" ++ decimal (round net r.member source)
 
 -- the columns of the table
 abbrev pub loss_columns : List (List ℕ)

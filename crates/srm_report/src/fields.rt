@@ -2,7 +2,6 @@
 ghost use Rattle.std.specs.Prelude.{◌≡◌, ◌+◌, ◌<◌, ◌≤◌, ◌∷◌, ◌++◌, codes, length, decimal};
 ghost use Rattle.csv.specs.Writing.{comma};
 ghost use Rattle.srm_report.specs.Lines.{line_room, line_written};
-ghost use Rattle.srm_report.specs.Losses.{ratio};
 ghost use Rattle.srm_report.specs.Rows.{or_dash};
 ghost use Rattle.srm_report.specs.Trace.{name_text, packet_text};
 
@@ -68,7 +67,7 @@ pub(crate) fn put_time(line: &mut Line, time: Option<u64>)
 pub(crate) fn put_delay(line: &mut Line, took: u64, way: u64)
     requires { 42 ≤ line_room line.old }
     ensures room { line_room line.old ≤ line_room line.new + 42 }
-    ensures written { line_written line.new ≡ comma ∷ (ratio took way ++ line_written line.old) }
+    ensures written { line_written line.new ≡ comma ∷ (decimal took ++ codes "/" ++ decimal way ++ line_written line.old) }
 {
     line.put_digits(way);
     line.put_byte(b'/');

@@ -1,8 +1,8 @@
-use Rattle.std.proofs.Common.{◌≡◌, ◌∙◌, [], ◌∷◌, ◌++◌, ℕ, Option, Some, decimal, refl, ap, sym}
+use Rattle.std.proofs.Common.{◌≡◌, ◌∙◌, [], ◌∷◌, ◌++◌, ℕ, Option, Some, codes, decimal, refl, ap, sym}
 use Rattle.csv.specs.Machine.{line_feed}
 use Rattle.csv.specs.Writing.{comma}
 use Rattle.srm_report.specs.Lines.{line_written}
-use Rattle.srm_report.specs.Losses.{delay_of, ratio, recovery_by}
+use Rattle.srm_report.specs.Losses.{delay_of, recovery_by}
 use Rattle.srm_report.specs.Rows.{or_dash}
 use Rattle.srm_report.proofs.LineLemmas.{HasFields, line_is_row, field, decimal_is_plain, delay_is_plain, time_is_plain}
 use Rattle.srm_report.proofs.loss_lines.put_loss.Goals.{in-None, in-Some}
@@ -20,7 +20,8 @@ returns c =
       | in-None w ↦ ap line_written w.line-is ∙ w.put_dash.ensures.written
           ∙ (λ i. comma ∷ (delay_text (sym w.in-None.is i) ++ c.requires.empty i))
       | in-Some w ↦ ap line_written w.line-is ∙ w.put_delay.ensures.written
-          ∙ (λ i. comma ∷ (ratio (w.saturating_sub-took.ensures i) (w.round-round.ensures.value i) ++ c.requires.empty i))
+          ∙ (λ i. comma ∷ (decimal (w.saturating_sub-took.ensures i) ++ codes "/" ++ decimal (w.round-round.ensures.value i)
+          ++ c.requires.empty i))
           ∙ (λ i. comma ∷ (delay_text (sym w.in-Some.is i) ++ line_feed ∷ []))
     ] in
     let delay : HasFields (line_written c.match-course.line) (text ∷ []) =

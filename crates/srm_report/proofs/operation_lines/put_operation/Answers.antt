@@ -1,7 +1,7 @@
-use Rattle.std.proofs.Common.{◌≡◌, ◌∙◌, [], ◌∷◌, Option, None, Some, codes, decimal, refl, ap, sym, subst}
+use Rattle.std.proofs.Common.{◌≡◌, ◌∙◌, [], ◌∷◌, ◌++◌, Option, None, Some, codes, decimal, refl, ap, sym, subst}
 use Rattle.srm_report.specs.declared.recovery.Recovery.{Recovery}
 use Rattle.srm_report.specs.Lines.{line_written}
-use Rattle.srm_report.specs.Losses.{delay_of, ratio}
+use Rattle.srm_report.specs.Losses.{delay_of}
 use Rattle.srm_report.specs.Operations.{last_told}
 use Rattle.srm_report.proofs.LineLemmas.{HasFields, line_is_row, no_field, field, decimal_is_plain, delay_is_plain, time_is_plain}
 use Rattle.srm_report.proofs.operation_lines.put_operation.Goals.{in-None, in-Some}
@@ -28,7 +28,7 @@ returns c =
           let r = w.in-Some.last in
           let told : Some r ≡ last_told t = sym w.in-Some.is ∙ c.last_of.ensures in
           let delay = field _ (delay_is_plain net n.source (Some r)) w.put_delay.ensures.written
-          (λ i. ratio (w.saturating_sub-took.ensures i) (w.round.ensures.value i)) empty in
+          (λ i. decimal (w.saturating_sub-took.ensures i) ++ codes "/" ++ decimal (w.round.ensures.value i)) empty in
           let last = field (decimal r.member) (decimal_is_plain r.member) w.put_number.ensures.written (ap decimal w.from.ensures) delay in
           subst (λ o. HasFields (line_written c.match-last_of.line) (last_fields o)) told
           (subst (λ l. HasFields (line_written l) (last_fields (Some r))) (sym w.line-is) last)
