@@ -25,9 +25,9 @@ use Rattle.srm_program.specs.declared.fault.LabFault.{LabFault}
 use Rattle.srm_program.specs.declared.fault.LabFault.TheVariants.{BadCut, BadWidth, ShareFull, NoMemory, CountFull, WriteFault}
 use Rattle.srm_program.specs.declared.task.Task.{Task}
 use Rattle.srm_program.specs.Askings.{ForEachSeed, IsKept, Reports}
-use Rattle.srm_program.specs.Reports.{ByShow, TellsReport, TellsTable, Writes, failures_after_run, shown}
+use Rattle.srm_program.specs.Reports.{ByShow, TellsReport, TellsTable, Writes, failures_after_run}
 use Rattle.srm_program.specs.Runs.{BreaksOff, KeepsRows, LeavesOff, MayBreakOff, TellsRefusedFor, fault_of_run}
-use Rattle.srm_program.proofs.TableTexts.{asked_told, table_told}
+use Rattle.srm_program.proofs.TableTexts.{asked_told, shown, table_told}
 use Rattle.srm_program.proofs.Texts.{keeps-itself}
 
 -- the refusal of a run whose rows are watched
@@ -39,7 +39,7 @@ pub kept_refused : (A T : Type 0) {C K : Type 0} (keeps : K → List Row → Typ
 kept_refused A T keeps p net seed o old new fault.NoMemory window asked met = (tt, λ e. asked)
 kept_refused A T keeps p net seed o old new fault.CountFull window asked met = (met.1.2.0, λ e. asked)
 kept_refused A T keeps p net seed o old new fault.ShareFull window asked met =
-    (tt, (window, asked, (met.1.0, met.0, met.1.1, met.1.2)))
+    (tt, (window, asked, (met.0, met.1.0, met.1.1, met.1.2)))
 kept_refused A T keeps p net seed o old new fault.BadCut window asked met = (tt, (window, asked))
 kept_refused A T keeps p net seed o old new fault.BadWidth window asked met = (tt, (window, asked.0, asked.1))
 

@@ -1,7 +1,9 @@
 -- What an outlet took of a table of rows that was written through a sink.
-use Rattle.std.proofs.Common.{◌≡◌, ◌∙◌, ℕ, List, [], ◌++◌, ◌+◌, ◌-◌, ◌^◌, ◌≤◌, min, length, Option, Result, Ok, Err, refl, sym, ap, subst}
-use Rattle.std.proofs.Common.{append-nil, ◌<◌, IfOk}
+use Rattle.std.proofs.Common.{◌≡◌, ◌∙◌, ℕ, List, [], ◌∷◌, ◌++◌, ◌+◌, ◌-◌, ◌^◌, ◌≤◌, min, length, Option, Result, Ok, Err, refl, sym}
+use Rattle.std.proofs.Common.{append-nil, ◌<◌, IfOk, map, ap, subst}
+use Rattle.std.specs.List.{flat_map}
 use Rattle.std.specs.Io.KnownBytes.{Appends, Keeps}
+use Rattle.csv.specs.Writing.{default_writer, row_text}
 use Rattle.srm_net.specs.Network.{Network}
 use Rattle.srm_scenario.specs.Plain.{PlainScenario}
 use Rattle.srm_member.specs.declared.row.Row.{Row}
@@ -16,8 +18,9 @@ use Rattle.srm_report.specs.declared.standing.Standing.{Standing}
 use Rattle.srm_report.specs.declared.standing.Standing.TheVariants as standing
 use Rattle.srm_report.specs.declared.listing_sink.ListingSink.{ListingSink}
 use Rattle.srm_report.specs.Listings.{Form, text_in}
-use Rattle.srm_report.specs.Timers.{timers_form, timers_table}
-use Rattle.srm_report.specs.Trace.{trace_form, trace_of_rows}
+use Rattle.srm_report.specs.Tables.{lines_of, table_lines}
+use Rattle.srm_report.specs.Timers.{timers_columns, timers_form, timers_rows}
+use Rattle.srm_report.specs.Trace.{trace_columns, trace_fields, trace_form}
 use Rattle.srm_report.specs.Standings.{text_next, IsText, GrewBy}
 use Rattle.srm_report.specs.ListingSinks.{stage_at, stage_of, outlet_under, gathered_by, gathering_room, written_by, Wrote}
 use Rattle.srm_report.specs.ListingSinks.{AreOverOne, PutsAll, PutsFront, PutsRows, PutsPart}
@@ -29,6 +32,7 @@ use Rattle.srm_program.specs.Runs.{most_gathered, BreaksOff, HandsRows, LeavesOf
 use Rattle.srm_options.specs.declared.options.Options.{Options}
 use Rattle.srm_options.specs.declared.options.Show.{Show}
 use Rattle.srm_options.specs.declared.options.Show.TheVariants.{Trace, Timers}
+use Rattle.srm_program.proofs.ReplicationLemmas.{lines_joined}
 use Rattle.srm_program.proofs.Texts.{keeps-itself}
 
 -- ---- where a sink stands
@@ -52,32 +56,53 @@ told standing.Live n m e = cc
 told standing.NoMemory n m e = cc
 told standing.Stopped n m e = cc
 
--- the trace, and the table of timers, are such texts
+-- ---- the trace, and the table of timers, are by rows
+
+traced : (rows : List Row) → flat_map (λ r. row_text default_writer (trace_fields r)) rows ≡ lines_of (map trace_fields rows)
+unfolding lines_of
+traced [] = refl
+traced (r ∷ rows) = ap (λ l. row_text default_writer (trace_fields r) ++ l) (traced rows)
+
+timed : (rows : List Row) → flat_map (λ r. lines_of (timers_rows r)) rows ≡ lines_of (flat_map timers_rows rows)
+unfolding lines_of
+timed [] = refl
+timed (r ∷ rows) = ap (λ l. lines_of (timers_rows r) ++ l) (timed rows) ∙ sym (lines_joined (timers_rows r) (flat_map timers_rows rows))
+
+trace_is : text_in trace_form ≡ (λ (rows : List Row). table_lines trace_columns (map trace_fields rows))
+unfolding table_lines
+trace_is = λ i rows. row_text default_writer trace_columns ++ traced rows i
+
+timers_are : text_in timers_form ≡ (λ (rows : List Row). table_lines timers_columns (flat_map timers_rows rows))
+unfolding table_lines
+timers_are = λ i rows. row_text default_writer timers_columns ++ timed rows i
+
 pub trace_shown : {T : Type 0} (p : PlainScenario) (net : Network) (seed : ℕ) (show : Show) (old new : Option (List ℕ))
     (r : Result T LabFault) → show ≡ Trace → TellsListing (text_in trace_form) (setting_of p net seed) old new r
     → TellsReport p net seed show old new r
-unfolding trace_of_rows
-trace_shown p net seed show old new r e h = subst (λ s. TellsReport p net seed s old new r) (sym e) h
+trace_shown p net seed show old new r e h =
+    subst (λ s. TellsReport p net seed s old new r) (sym e)
+    (subst (λ text. TellsListing text (setting_of p net seed) old new r) trace_is h)
 
 pub timers_shown : {T : Type 0} (p : PlainScenario) (net : Network) (seed : ℕ) (show : Show) (old new : Option (List ℕ))
     (r : Result T LabFault) → show ≡ Timers → TellsListing (text_in timers_form) (setting_of p net seed) old new r
     → TellsReport p net seed show old new r
-unfolding timers_table
-timers_shown p net seed show old new r e h = subst (λ s. TellsReport p net seed s old new r) (sym e) h
+timers_shown p net seed show old new r e h =
+    subst (λ s. TellsReport p net seed s old new r) (sym e)
+    (subst (λ text. TellsListing text (setting_of p net seed) old new r) timers_are h)
 
 pub trace_left : {T : Type 0} (p : PlainScenario) (net : Network) (seed : ℕ) (o : Options) (old new : Option (List ℕ))
     (r : Result T LabFault) → o.show ≡ Trace
     → LeavesOff (text_in trace_form) (MayBreakOff p net seed o) (setting_of p net seed) old new r → BreaksOff p net seed o old new r
-unfolding trace_of_rows
 trace_left p net seed o old new r e h =
-    subst (λ s. ByShow s (λ text. LeavesOff text (MayBreakOff p net seed o) (setting_of p net seed) old new r) (Unit {0})) (sym e) h
+    subst (λ s. ByShow s (λ text. LeavesOff text (MayBreakOff p net seed o) (setting_of p net seed) old new r) (Unit {0})) (sym e)
+    (subst (λ text. LeavesOff text (MayBreakOff p net seed o) (setting_of p net seed) old new r) trace_is h)
 
 pub timers_left : {T : Type 0} (p : PlainScenario) (net : Network) (seed : ℕ) (o : Options) (old new : Option (List ℕ))
     (r : Result T LabFault) → o.show ≡ Timers
     → LeavesOff (text_in timers_form) (MayBreakOff p net seed o) (setting_of p net seed) old new r → BreaksOff p net seed o old new r
-unfolding timers_table
 timers_left p net seed o old new r e h =
-    subst (λ s. ByShow s (λ text. LeavesOff text (MayBreakOff p net seed o) (setting_of p net seed) old new r) (Unit {0})) (sym e) h
+    subst (λ s. ByShow s (λ text. LeavesOff text (MayBreakOff p net seed o) (setting_of p net seed) old new r) (Unit {0})) (sym e)
+    (subst (λ text. LeavesOff text (MayBreakOff p net seed o) (setting_of p net seed) old new r) timers_are h)
 
 -- ---- a run that broke off
 

@@ -14,62 +14,30 @@ use Rattle.srm_scenario.specs.declared.parts.MemberSpec.{MemberSpec}
 use Rattle.srm_scenario.specs.Plain.{PlainScenario}
 use Rattle.srm_member.specs.declared.intervals.Intervals.{Intervals}
 use Rattle.srm_member.specs.declared.row.Row.{Row}
-use Rattle.srm_cell.specs.Crossings.{crossings}
-use Rattle.srm_cell.specs.Setting.{setting_of, traffic_of}
-use Rattle.srm_model.specs.World.{World}
+use Rattle.srm_cell.specs.Setting.{setting_of}
+use Rattle.srm_model.specs.World.{World, IsLast}
 use Rattle.srm_options.specs.declared.options.Show.{Show}
 use Rattle.srm_options.specs.declared.options.Show.TheVariants.{Trace, Members, Losses, Operations, Links, Timers}
-use Rattle.srm_report.specs.Links.{links_table}
-use Rattle.srm_report.specs.Losses.{losses_table}
-use Rattle.srm_report.specs.Operations.{operations_table}
-use Rattle.srm_report.specs.Members.{member_rows, members_table}
+use Rattle.srm_report.specs.Members.{member_rows}
 use Rattle.srm_report.specs.Seeds.{IsLine, AreLines}
 use Rattle.srm_report.specs.SinkLaws.{count_more}
 use Rattle.srm_report.specs.Standings.{GrewBy}
 use Rattle.srm_report.specs.Tables.{lines_of, table_lines}
-use Rattle.srm_report.specs.Timers.{timers_columns, timers_fields, timers_rows, timers_table}
-use Rattle.srm_report.specs.Trace.{trace_columns, trace_fields, trace_of_rows}
+use Rattle.srm_report.specs.Timers.{timers_fields, timers_rows}
 use Rattle.srm_report.proofs.LineLemmas.{decimal_is_plain, role_is_plain, time_is_plain, delay_is_plain, cause_is_plain, ref_is_plain}
 use Rattle.srm_report.proofs.LineLemmas.{last_is_plain, told_is_plain, sent_is_plain}
 use Rattle.srm_program.specs.declared.fault.LabFault.{LabFault}
 use Rattle.srm_program.specs.declared.fault.LabFault.TheVariants.{BadCut, BadWidth, ShareFull, NoMemory, CountFull, WriteFault}
-use Rattle.srm_program.specs.Reports.{report_of, shown, failures_after_run, EndsIn, TellsReport}
-use Rattle.srm_program.specs.Replications.{columns_shown, rows_shown, rows_of_run, rows_of_seed, replicated_rows, replications_of}
+use Rattle.srm_program.specs.Reports.{columns_shown, rows_shown, report_of, failures_after_run, TellsReport}
+use Rattle.srm_program.specs.Replications.{Series, rows_of_seed, replicated_rows, replications_of}
 use Rattle.srm_program.specs.Replications.{EndsOfSeed, EndInTurn, MeetsFullOfSeed, TakesRuns}
 use Rattle.srm_program.specs.Replications.{PutsNext, MakesLines, TellsReplications}
 
--- ---- each table is the line of its columns and the lines of its rows
-
-lines_mapped : {A : Type 0} (f : A → List (List ℕ)) (xs : List A) → flat_map (λ x. row_text default_writer (f x)) xs ≡ lines_of (map f xs)
-unfolding lines_of
-lines_mapped f [] = refl
-lines_mapped f (x ∷ xs) = ap (λ l. row_text default_writer (f x) ++ l) (lines_mapped f xs)
+-- ---- each row is a line
 
 pub lines_joined : (xs ys : List (List (List ℕ))) → lines_of (xs ++ ys) ≡ lines_of xs ++ lines_of ys
 unfolding lines_of
 lines_joined xs ys = flat_map-append (row_text default_writer) xs ys
-
-timers_all : (rows : List Row) → flat_map (λ r. lines_of (timers_rows r)) rows ≡ lines_of (flat_map timers_rows rows)
-unfolding lines_of
-timers_all [] = refl
-timers_all (r ∷ rows) =
-    ap (λ l. lines_of (timers_rows r) ++ l) (timers_all rows) ∙ sym (lines_joined (timers_rows r) (flat_map timers_rows rows))
-
-pub shown_by_rows : (show : Show) (p : PlainScenario) (net : Network) (rows : List Row) (totals : List ℕ)
-    → shown show p net rows totals ≡ table_lines (columns_shown show) (rows_shown show p net rows totals)
-unfolding table_lines trace_of_rows members_table losses_table operations_table links_table timers_table
-shown_by_rows Trace p net rows totals = ap (λ l. row_text default_writer trace_columns ++ l) (lines_mapped trace_fields rows)
-shown_by_rows Members p net rows totals = refl
-shown_by_rows Losses p net rows totals = refl
-shown_by_rows Operations p net rows totals = refl
-shown_by_rows Links p net rows totals = refl
-shown_by_rows Timers p net rows totals = ap (λ l. row_text default_writer timers_columns ++ l) (timers_all rows)
-
-pub report_by_rows : (show : Show) (p : PlainScenario) (net : Network) (w : World)
-    → report_of show p net w ≡ table_lines (columns_shown show) (rows_of_run show p net w)
-report_by_rows show p net w = shown_by_rows show p net w.trace (crossings (traffic_of p net) w.trace)
-
--- ---- each row is a line
 
 mapped_lines : {A : Type 0} (f : A → List (List ℕ)) → ((x : A) → IsLine (f x)) → (xs : List A) → AreLines (map f xs)
 mapped_lines f h [] = tt
@@ -151,35 +119,37 @@ module _ (show : Show) (p : PlainScenario) (net : Network) where
       let far : seed + length (v ∷ ws) ≡ seed + 1 + length ws = omega arith in
       (h.0, ends_more ws w (seed + 1) h.1 (subst (λ n. EndsOfSeed p net n w) far k))
 
+module _ (a : Series) where
   -- the table of no run is the line of the columns
-  pub no_run : (first : ℕ) (old new : Option (List ℕ)) → Appends old new (row_text default_writer (codes "seed" ∷ columns_shown show))
-      → TakesRuns p net first show [] old new
+  pub no_run : (old new : Option (List ℕ)) → Appends old new (row_text default_writer (codes "seed" ∷ columns_shown a.show))
+      → TakesRuns a [] old new
   unfolding table_lines lines_of
-  no_run first old new h = (tt, subst (λ t. Appends old new t) (sym (append-nil _)) h)
+  no_run old new h = (tt, subst (λ t. Appends old new t) (sym (append-nil _)) h)
 
-  pub table_grown : (ws : List World) (w : World) (first : ℕ) → replications_of show p net first (ws ++ w ∷ [])
-      ≡ replications_of show p net first ws ++ lines_of (rows_of_seed show p net (first + length ws) w)
+  pub table_grown : (ws : List World) (w : World) → replications_of a (ws ++ w ∷ [])
+      ≡ replications_of a ws ++ lines_of (rows_of_seed a.show a.scenario a.network (a.first + length ws) w)
   unfolding table_lines
-  table_grown ws w first =
-      ap (λ rs. row_text default_writer (codes "seed" ∷ columns_shown show) ++ lines_of rs) (replicated_more ws w first)
-      ∙ ap (λ l. row_text default_writer (codes "seed" ∷ columns_shown show) ++ l)
-      (lines_joined (replicated_rows show p net first ws) (rows_of_seed show p net (first + length ws) w))
-      ∙ sym (append_assoc (row_text default_writer (codes "seed" ∷ columns_shown show)) (lines_of (replicated_rows show p net first ws)) _)
+  table_grown ws w =
+      let header = row_text default_writer (codes "seed" ∷ columns_shown a.show) in
+      let rows = replicated_rows a.show a.scenario a.network a.first ws in
+      ap (λ rs. header ++ lines_of rs) (replicated_more a.show a.scenario a.network ws w a.first)
+      ∙ ap (λ l. header ++ l) (lines_joined rows (rows_of_seed a.show a.scenario a.network (a.first + length ws) w))
+      ∙ sym (append_assoc header (lines_of rows) _)
 
-  pub one_run_more : (ws : List World) (w : World) (first : ℕ) (old mid new : Option (List ℕ)) → TakesRuns p net first show ws old mid
-      → EndsOfSeed p net (first + length ws) w
-      → Appends mid new (lines_of (rows_of_seed show p net (first + length ws) w))
-      → TakesRuns p net first show (ws ++ w ∷ []) old new
-  one_run_more ws w first old mid new h k grown = (
-    ends_more ws w first h.0 k,
-    subst (λ t. Appends old new t) (sym (table_grown ws w first)) (Appends-trans old mid new _ _ h.1 grown),
+  pub one_run_more : (ws : List World) (w : World) (old mid new : Option (List ℕ)) → TakesRuns a ws old mid
+      → EndsOfSeed a.scenario a.network (a.first + length ws) w
+      → Appends mid new (lines_of (rows_of_seed a.show a.scenario a.network (a.first + length ws) w))
+      → TakesRuns a (ws ++ w ∷ []) old new
+  one_run_more ws w old mid new h k grown = (
+    ends_more a.show a.scenario a.network ws w a.first h.0 k,
+    subst (λ t. Appends old new t) (sym (table_grown ws w)) (Appends-trans old mid new _ _ h.1 grown),
   )
 
 -- ---- what a run of one seed tells
 
 pub whole_told : (T : Type 0) (v : T) (p : PlainScenario) (net : Network) (seed : ℕ) (show : Show)
     (old new : Option (List ℕ)) → TellsReport {T = T} p net seed show old new (Ok v)
-    → (w : World) × EndsIn p net seed w × Appends old new (report_of show p net w)
+    → (w : World) × IsLast (setting_of p net seed) w × Appends old new (report_of show p net w)
 whole_told T v p net seed Trace old new h = h
 whole_told T v p net seed Members old new h = h
 whole_told T v p net seed Losses old new h = h
@@ -210,68 +180,69 @@ range_first a (suc n) x xs e =
 
 -- ---- what was written so far
 
-module _ (show : Show) (p : PlainScenario) (net : Network) (first : ℕ) where
+module _ (a : Series) where
   -- the table of the runs up to these worlds was taken, and its bytes were counted
   pub record HasRuns (ws : List World) (old new : Option (List ℕ)) (n : ℕ) : Type 0 where
-    pub taken : TakesRuns p net first show ws old new
-    pub counted : GrewBy 0 (length (replications_of show p net first ws)) n
+    pub taken : TakesRuns a ws old new
+    pub counted : GrewBy 0 (length (replications_of a ws)) n
 
-  none_is : replications_of show p net first [] ≡ row_text default_writer (codes "seed" ∷ columns_shown show)
+  none_is : replications_of a [] ≡ row_text default_writer (codes "seed" ∷ columns_shown a.show)
   unfolding table_lines lines_of
   none_is = append-nil _
 
   pub header_put : (T : Type 0) (v : T) (old new : Option (List ℕ)) (m : ℕ) (text : List ℕ)
-      → text ≡ row_text default_writer (codes "seed" ∷ columns_shown show) → PutsNext old 0 text (Ok v) new m → HasRuns [] old new m
+      → text ≡ row_text default_writer (codes "seed" ∷ columns_shown a.show) → PutsNext old 0 text (Ok v) new m → HasRuns [] old new m
   header_put T v old new m text is put = record {
-    taken = no_run show p net first old new (subst (Appends old new) is put.0);
+    taken = no_run a old new (subst (Appends old new) is put.0);
     counted = subst (λ t. GrewBy 0 (length t) m) (is ∙ sym none_is) put.1;
   }
 
-  pub header_failed : (T U : Type 0) (old new : Option (List ℕ)) (m count : ℕ) (text : List ℕ) (f : LabFault)
-      → text ≡ row_text default_writer (codes "seed" ∷ columns_shown show) → PutsNext {T = T} old 0 text (Err f) new m
-      → TellsReplications {T = U} p net first count show old new (Err f)
-  header_failed T U old new m count text (WriteFault n) is put =
+  pub header_failed : (T U : Type 0) (old new : Option (List ℕ)) (m : ℕ) (text : List ℕ) (f : LabFault)
+      → text ≡ row_text default_writer (codes "seed" ∷ columns_shown a.show) → PutsNext {T = T} old 0 text (Err f) new m
+      → TellsReplications {T = U} a old new (Err f)
+  header_failed T U old new m text (WriteFault n) is put =
       ([], omega arith, (tt, (put.0, put.1, none_is ∙ sym is ∙ put.2, put.3, put.4, put.5)))
-  header_failed T U old new m count text BadCut is put = absurd put
-  header_failed T U old new m count text BadWidth is put = absurd put
-  header_failed T U old new m count text ShareFull is put = absurd put
-  header_failed T U old new m count text NoMemory is put = absurd put
-  header_failed T U old new m count text CountFull is put = absurd put
+  header_failed T U old new m text BadCut is put = absurd put
+  header_failed T U old new m text BadWidth is put = absurd put
+  header_failed T U old new m text ShareFull is put = absurd put
+  header_failed T U old new m text NoMemory is put = absurd put
+  header_failed T U old new m text CountFull is put = absurd put
 
-  module _ (ws : List World) (old mid : Option (List ℕ)) (n : ℕ) (has : HasRuns ws old mid n) (seed count : ℕ)
-      (at : length ws ≡ seed - first) (from : first ≤ seed) (before : seed - first < count) where
-    here : seed ≡ first + length ws
+  module _ (ws : List World) (old mid : Option (List ℕ)) (n : ℕ) (has : HasRuns ws old mid n) (seed : ℕ)
+      (at : length ws ≡ seed - a.first) (from : a.first ≤ seed) (before : seed - a.first < a.count) where
+    here : seed ≡ a.first + length ws
     here = omega (arith, at)
 
-    grown : (w : World) (text : List ℕ) → text ≡ lines_of (rows_of_seed show p net seed w)
-        → replications_of show p net first (ws ++ w ∷ []) ≡ replications_of show p net first ws ++ text
-    grown w text is = table_grown show p net ws w first ∙ ap (λ l. replications_of show p net first ws ++ l)
-        (ap (λ k. lines_of (rows_of_seed show p net k w)) (sym here) ∙ sym is)
+    grown : (w : World) (text : List ℕ) → text ≡ lines_of (rows_of_seed a.show a.scenario a.network seed w)
+        → replications_of a (ws ++ w ∷ []) ≡ replications_of a ws ++ text
+    grown w text is = table_grown a ws w ∙ ap (λ l. replications_of a ws ++ l)
+        (ap (λ k. lines_of (rows_of_seed a.show a.scenario a.network k w)) (sym here) ∙ sym is)
 
-    pub run_put : (T : Type 0) (v : T) (lines : Vec ℕ) (new : Option (List ℕ)) (m : ℕ) → MakesLines p net show seed (Ok lines)
-        → PutsNext mid n lines.items (Ok v) new m
-        → (vs : List World) × (length vs ≡ seed + 1 - first) × HasRuns vs old new m
+    pub run_put : (T : Type 0) (v : T) (lines : Vec ℕ) (new : Option (List ℕ)) (m : ℕ)
+        → MakesLines a.scenario a.network a.show seed (Ok lines) → PutsNext mid n lines.items (Ok v) new m
+        → (vs : List World) × (length vs ≡ seed + 1 - a.first) × HasRuns vs old new m
     run_put T v lines new m made put = (
       ws ++ made.0 ∷ [],
       omega (arith, length-append ws (made.0 ∷ []), at),
       record {
-        taken = one_run_more show p net ws made.0 first old mid new has.taken (subst (λ k. EndsOfSeed p net k made.0) here made.1)
-            (subst (Appends mid new) (made.2 ∙ ap (λ k. lines_of (rows_of_seed show p net k made.0)) here) put.0);
+        taken = one_run_more a ws made.0 old mid new has.taken (subst (λ k. EndsOfSeed a.scenario a.network k made.0) here made.1)
+            (subst (Appends mid new) (made.2 ∙ ap (λ k. lines_of (rows_of_seed a.show a.scenario a.network k made.0)) here) put.0);
         counted = subst (λ k. GrewBy 0 k m)
-            (sym (ap length (grown made.0 lines.items made.2) ∙ length-append (replications_of show p net first ws) lines.items))
-            (count_more 0 (length (replications_of show p net first ws)) n (length lines.items) m has.counted put.1);
+            (sym (ap length (grown made.0 lines.items made.2) ∙ length-append (replications_of a ws) lines.items))
+            (count_more 0 (length (replications_of a ws)) n (length lines.items) m has.counted put.1);
       },
     )
 
     pub run_failed : (T U : Type 0) (lines : Vec ℕ) (new : Option (List ℕ)) (m : ℕ) (f : LabFault)
-        → MakesLines p net show seed (Ok lines) → PutsNext {T = T} mid n lines.items (Err f) new m
-        → TellsReplications {T = U} p net first count show old new (Err f)
+        → MakesLines a.scenario a.network a.show seed (Ok lines) → PutsNext {T = T} mid n lines.items (Err f) new m
+        → TellsReplications {T = U} a old new (Err f)
     run_failed T U lines new m (WriteFault k) made put =
-        let all = replications_of show p net first ws in (
+        let all = replications_of a ws in (
           ws ++ made.0 ∷ [],
           omega (arith, length-append ws (made.0 ∷ []), at, before),
           (
-            ends_more show p net ws made.0 first has.taken.0 (subst (λ k. EndsOfSeed p net k made.0) here made.1),
+            ends_more a.show a.scenario a.network ws made.0 a.first has.taken.0
+                (subst (λ k. EndsOfSeed a.scenario a.network k made.0) here made.1),
             (
               all ++ put.0,
               put.1,
@@ -288,10 +259,10 @@ module _ (show : Show) (p : PlainScenario) (net : Network) (first : ℕ) where
     run_failed T U lines new m NoMemory made put = absurd put
     run_failed T U lines new m CountFull made put = absurd put
 
-    pub run_refused : (U : Type 0) (f : LabFault) → MakesLines p net show seed (Err f)
-        → TellsReplications {T = U} p net first count show old mid (Err f)
+    pub run_refused : (U : Type 0) (f : LabFault) → MakesLines a.scenario a.network a.show seed (Err f)
+        → TellsReplications {T = U} a old mid (Err f)
     run_refused U CountFull made =
-        (ws, omega (arith, at, before), has.taken, subst (λ k. MeetsFullOfSeed p net k) here made)
+        (ws, omega (arith, at, before), has.taken, subst (λ k. MeetsFullOfSeed a.scenario a.network k) here made)
     run_refused U NoMemory made = inr (ws, omega (arith, at, before), has.taken)
     run_refused U BadCut made = absurd made
     run_refused U BadWidth made = absurd made

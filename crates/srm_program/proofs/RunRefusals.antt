@@ -71,7 +71,7 @@ module _ {S : Type 0} (took part : S → List Row → S → Type 0) (p : PlainSc
       by (Run fault.NoMemory) asked left refused = (front, λ e. asked)
       by (Run fault.CountFull) asked left refused = ((refused.3.2.0, broken_off CountFull refused), λ e. asked)
       by (Run fault.ShareFull) asked left refused =
-          (broken_off ShareFull refused, (window, asked, (refused.3.0, refused.0, refused.3.1, refused.3.2)))
+          (broken_off ShareFull refused, (window, asked, (refused.0, refused.3.0, refused.3.1, refused.3.2)))
       by (Run fault.BadCut) asked left refused = (left (inl refl), (window, asked))
       by (Run fault.BadWidth) asked left refused = (left (inr refl), (window, asked.0, asked.1))
       by (Stopped n) asked left refused = (front, λ e. asked)

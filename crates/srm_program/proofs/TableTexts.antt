@@ -7,13 +7,18 @@ use Rattle.srm_member.specs.declared.row.Row.{Row}
 use Rattle.srm_member.specs.declared.exit.Exit.{Exit}
 use Rattle.srm_cell.specs.Setting.{setting_of}
 use Rattle.srm_model.specs.World.{IsOutcome}
+use Rattle.srm_report.specs.Tables.{table_lines}
 use Rattle.srm_program.specs.declared.fault.LabFault.{LabFault}
 use Rattle.srm_program.specs.declared.fault.LabFault.TheVariants.{BadCut, BadWidth, ShareFull, NoMemory, CountFull, WriteFault}
 use Rattle.srm_options.specs.declared.options.Show.{Show}
 use Rattle.srm_options.specs.declared.options.Engine.TheVariants.{Window}
 use Rattle.srm_options.specs.declared.options.Options.{Options}
-use Rattle.srm_program.specs.Reports.{shown, report_of, Writes, TellsTable}
+use Rattle.srm_program.specs.Reports.{columns_shown, rows_shown, report_of, Writes, TellsTable}
 use Rattle.srm_program.specs.Runs.{MayBeCut, TellsRefusedFor}
+
+-- the table of a run that left these rows and totals
+abbrev pub shown : Show → PlainScenario → Network → List Row → List ℕ → List ℕ
+shown show p net rows totals = table_lines (columns_shown show) (rows_shown show p net rows totals)
 
 module _ (p : PlainScenario) (net : Network) (seed : ℕ) (show : Show) (rows : List Row) (exits : List Exit) (totals : List ℕ)
     (o : IsOutcome (setting_of p net seed) rows exits totals) where

@@ -1,66 +1,40 @@
 -- Runs of one scenario that differ in their seed alone, and their table.
-use Rattle.std.specs.Prelude.{◌≡◌, ◌⊎◌, ℕ, ◌+◌, ◌≤◌, ◌<◌, List, [], ◌∷◌, ◌++◌, length, map, codes, Option}
+use Rattle.std.specs.Prelude.{◌≡◌, ◌⊎◌, ℕ, ◌+◌, ◌≤◌, ◌<◌, List, [], ◌∷◌, ◌++◌, ◌-◌, length, codes, Option}
 use Rattle.std.specs.Prelude.{Result, Ok, Err}
 use Rattle.std.specs.Global.{Vec}
-use Rattle.std.specs.List.{flat_map}
 use Rattle.std.specs.Io.KnownBytes.{Appends, Keeps}
-use Rattle.csv.specs.Writing.{default_writer, row_text}
 use Rattle.srm_net.specs.Network.{Network}
-use Rattle.srm_net.specs.Orders.{ordered}
 use Rattle.srm_scenario.specs.Plain.{PlainScenario, network_of}
 use Rattle.srm_scenario.specs.Plain as plain
-use Rattle.srm_member.specs.declared.intervals.Intervals.{Intervals}
-use Rattle.srm_member.specs.declared.row.Row.{Row}
-use Rattle.srm_cell.specs.Crossings.{crossings}
-use Rattle.srm_cell.specs.Setting.{setting_of, traffic_of}
-use Rattle.srm_model.specs.World.{World, RunMeetsFull}
+use Rattle.srm_cell.specs.Setting.{setting_of}
+use Rattle.srm_model.specs.World.{World, IsLast, RunMeetsFull}
 use Rattle.srm_options.specs.declared.options.Engine.TheVariants.{Step}
 use Rattle.srm_options.specs.declared.options.Options.{Options}
 use Rattle.srm_options.specs.declared.options.Show.{Show}
-use Rattle.srm_options.specs.declared.options.Show.TheVariants.{Trace, Members, Losses, Operations, Links, Timers}
-use Rattle.srm_report.specs.Links.{link_columns, link_rows}
-use Rattle.srm_report.specs.Losses.{loss_columns, loss_cmp, loss_row, losses_in}
-use Rattle.srm_report.specs.Members.{member_columns, member_rows}
-use Rattle.srm_report.specs.Operations.{names_lost, operation_columns, operation_row}
 use Rattle.srm_report.specs.Seeds.{with_seed}
 use Rattle.srm_report.specs.Standings.{GrewBy}
 use Rattle.srm_report.specs.Tables.{lines_of, table_lines}
-use Rattle.srm_report.specs.Timers.{timers_columns, timers_rows}
-use Rattle.srm_report.specs.Trace.{trace_columns, trace_fields}
 use Rattle.srm_program.specs.declared.fault.LabFault.{LabFault}
 use Rattle.srm_program.specs.declared.fault.LabFault.TheVariants.{NoMemory, CountFull, WriteFault}
-use Rattle.srm_program.specs.Reports.{EndsIn, failures_after_run}
+use Rattle.srm_report.specs.declared.outlet.Outlet as outlet
+use Rattle.srm_program.specs.declared.replications.Span.{Span}
+use Rattle.srm_program.specs.Reports.{columns_shown, rows_of_run, failures_after_run}
 use Rattle.srm_program.specs.Runs.{MayShareBag}
-
--- ---- tables, row by row
-
--- the columns of a table
-abbrev pub columns_shown : Show → List (List ℕ)
-columns_shown Trace = trace_columns
-columns_shown Members = member_columns
-columns_shown Losses = loss_columns
-columns_shown Operations = operation_columns
-columns_shown Links = link_columns
-columns_shown Timers = timers_columns
-
--- the rows of a table, each as its fields, of a run of a scenario on its network that left these rows and totals
-abbrev pub rows_shown : Show → PlainScenario → Network → List Row → List ℕ → List (List (List ℕ))
-rows_shown Trace p net rows totals = map trace_fields rows
-rows_shown Members p net rows totals = member_rows rows 0 p.members
-rows_shown Losses p net rows totals = map (loss_row net rows) (ordered loss_cmp (losses_in rows))
-rows_shown Operations p net rows totals = map (operation_row net rows) (names_lost rows)
-rows_shown Links p net rows totals = link_rows totals
-rows_shown Timers p net rows totals = flat_map timers_rows rows
-
--- the same of a run that ended in this world
-abbrev pub rows_of_run : Show → PlainScenario → Network → World → List (List (List ℕ))
-rows_of_run show p net w = rows_shown show p net w.trace (crossings (traffic_of p net) w.trace)
 
 -- ---- replications
 
+-- runs of a scenario on its network, so many, the first with this seed and each other with the next, and the table that
+-- is shown of each
+pub record Series : Type 0 where
+  pub scenario : PlainScenario
+  pub network : Network
+  pub first : ℕ
+  pub count : ℕ
+  pub show : Show
+
 -- the run of a scenario on its network with this seed, which is that of its losses too, ends in this world
 abbrev pub EndsOfSeed : PlainScenario → Network → ℕ → World → Type 0
-EndsOfSeed p net seed w = EndsIn (plain.with_seed p seed) net seed w
+EndsOfSeed p net seed w = IsLast (setting_of (plain.with_seed p seed) net seed) w
 
 -- the rows of the table of such a run, with the seed in front
 abbrev pub rows_of_seed : Show → PlainScenario → Network → ℕ → World → List (List (List ℕ))
@@ -77,10 +51,11 @@ replicated_rows show p net seed [] = []
 replicated_rows show p net seed (w ∷ ws) =
     rows_of_seed show p net seed w ++ replicated_rows show p net (seed + 1) ws
 
--- the table of such runs: the columns are the seed and those of the run's table
-abbrev pub replications_of : Show → PlainScenario → Network → ℕ → List World → List ℕ
-replications_of show p net first ws =
-    table_lines (codes "seed" ∷ columns_shown show) (replicated_rows show p net first ws)
+-- the table of the first runs of a series, which ended in these worlds: the columns are the seed and those of the
+-- run's table
+abbrev pub replications_of : Series → List World → List ℕ
+replications_of a ws =
+    table_lines (codes "seed" ∷ columns_shown a.show) (replicated_rows a.show a.scenario a.network a.first ws)
 
 -- the sequential runs of a scenario on its network, the first with this seed and each other with the next, end in
 -- these worlds
@@ -88,43 +63,47 @@ abbrev pub EndInTurn : PlainScenario → Network → ℕ → List World → Type
 EndInTurn p net seed [] = Unit {0}
 EndInTurn p net seed (w ∷ ws) = EndsOfSeed p net seed w × EndInTurn p net (seed + 1) ws
 
--- an outlet took the table of the runs of the first seeds, up to these worlds
-abbrev pub TakesRuns :
-    PlainScenario → Network → ℕ → Show → List World → Option (List ℕ) → Option (List ℕ) → Type 0
-TakesRuns p net first show ws old new = EndInTurn p net first ws × Appends old new (replications_of show p net first ws)
+-- an outlet took the table of the first runs of a series, which end in these worlds
+abbrev pub TakesRuns : Series → List World → Option (List ℕ) → Option (List ℕ) → Type 0
+TakesRuns a ws old new = EndInTurn a.scenario a.network a.first ws × Appends old new (replications_of a ws)
 
 -- an outlet took a front of that table, but not all of it, and as many bytes as are told, up to 2^64 - 1
-abbrev pub TakesFrontOfRuns :
-    PlainScenario → Network → ℕ → Show → List World → Option (List ℕ) → Option (List ℕ) → ℕ → Type 0
-TakesFrontOfRuns p net first show ws old new written =
-    EndInTurn p net first ws
-    × ((out rest : List ℕ) × (replications_of show p net first ws ≡ out ++ rest) × (0 < length rest)
+abbrev pub TakesFrontOfRuns : Series → List World → Option (List ℕ) → Option (List ℕ) → ℕ → Type 0
+TakesFrontOfRuns a ws old new written =
+    EndInTurn a.scenario a.network a.first ws
+    × ((out rest : List ℕ) × (replications_of a ws ≡ out ++ rest) × (0 < length rest)
     × Appends old new out × GrewBy 0 (length out) written)
 
--- what an outlet took of so many replications of a scenario on its network: the table of all runs; or, where the outlet
--- failed, a front of it; or, after another refusal, the table of the runs before the one that was refused, of which
--- CountFull says that it meets a step for which the packet count is used up. It took nothing where memory ran out
--- before the first run
-abbrev pub TellsReplications : {T : Type 0} → PlainScenario → Network → ℕ → ℕ → Show
+-- what an outlet took of a series: the table of all runs; or, where the outlet failed, a front of it; or, after another
+-- refusal, the table of the runs before the one that was refused, of which CountFull says that it meets a step for
+-- which the packet count is used up. It took nothing where memory ran out before the first run
+abbrev pub TellsReplications : {T : Type 0} → Series
     → Option (List ℕ) → Option (List ℕ) → Result T LabFault → Type 0
-TellsReplications p net first count show old new (Ok v) =
-    (ws : List World) × (length ws ≡ count) × TakesRuns p net first show ws old new
-TellsReplications p net first count show old new (Err (WriteFault written)) =
-    (ws : List World) × (length ws ≤ count) × TakesFrontOfRuns p net first show ws old new written
-TellsReplications p net first count show old new (Err CountFull) =
-    (ws : List World) × (length ws < count) × TakesRuns p net first show ws old new
-    × MeetsFullOfSeed p net (first + length ws)
-TellsReplications p net first count show old new (Err NoMemory) =
-    Keeps old new ⊎ ((ws : List World) × (length ws ≤ count) × TakesRuns p net first show ws old new)
-TellsReplications p net first count show old new (Err f) = ⊥
+TellsReplications a old new (Ok v) = (ws : List World) × (length ws ≡ a.count) × TakesRuns a ws old new
+TellsReplications a old new (Err (WriteFault written)) =
+    (ws : List World) × (length ws ≤ a.count) × TakesFrontOfRuns a ws old new written
+TellsReplications a old new (Err CountFull) =
+    (ws : List World) × (length ws < a.count) × TakesRuns a ws old new
+    × MeetsFullOfSeed a.scenario a.network (a.first + length ws)
+TellsReplications a old new (Err NoMemory) =
+    Keeps old new ⊎ ((ws : List World) × (length ws ≤ a.count) × TakesRuns a ws old new)
+TellsReplications a old new (Err f) = ⊥
 
-module _ {O : Type 0} (failures : O → ℕ) (taken : O → Option (List ℕ)) where
-  -- what comes of replications: how often the outlet failed, and what it took
-  abbrev pub AreReplicated :
-      {T : Type 0} → PlainScenario → Network → ℕ → ℕ → Show → O → Result T LabFault → O → Type 0
-  AreReplicated p net first count show old r new =
-      (failures new ≡ failures_after_run r (failures old))
-      × TellsReplications p net first count show (taken old) (taken new) r
+-- the runs of a scenario on its network that a span asks for
+abbrev pub series_of : PlainScenario → Network → Span → Series
+series_of p net span = record {
+  scenario = p;
+  network = net;
+  first = span.first;
+  count = span.end - span.first;
+  show = span.show;
+}
+
+-- what comes of a series: how often the outlet failed, and what it took
+abbrev pub AreReplicated : {O : Type 0} → outlet.Ghosts O → Series → O → Result (Unit {0}) LabFault → O → Type 0
+AreReplicated o a old r new =
+    (o.failures new ≡ failures_after_run r (o.failures old))
+    × TellsReplications a (o.taken old) (o.taken new) r
 
 -- ---- texts that are written one after the other
 
@@ -142,7 +121,7 @@ PutsNext old n text (Err f) new m = ⊥
 -- front; or a refusal
 abbrev pub GivesLines : PlainScenario → Network → Show → ℕ → Result (Vec ℕ) LabFault → Type 0
 GivesLines p net show seed (Ok text) =
-    (w : World) × EndsIn p net seed w × (text.items ≡ lines_of (with_seed seed (rows_of_run show p net w)))
+    (w : World) × IsLast (setting_of p net seed) w × (text.items ≡ lines_of (with_seed seed (rows_of_run show p net w)))
 GivesLines p net show seed (Err CountFull) = RunMeetsFull (setting_of p net seed)
 GivesLines p net show seed (Err NoMemory) = Unit {0}
 GivesLines p net show seed (Err f) = ⊥

@@ -1,38 +1,53 @@
 -- The report of a run, and what an outlet takes of it.
-use Rattle.std.specs.Prelude.{◌≡◌, ℕ, ◌+◌, ◌<◌, List, ◌++◌, length, take, Option, Result, Ok, Err}
+use Rattle.std.specs.Prelude.{◌≡◌, ℕ, ◌+◌, ◌<◌, List, ◌++◌, length, map, take, Option, Result, Ok, Err}
+use Rattle.std.specs.List.{flat_map}
 use Rattle.std.specs.Io.KnownBytes.{Appends, Keeps}
 use Rattle.srm_net.specs.Network.{Network}
+use Rattle.srm_net.specs.Orders.{ordered}
 use Rattle.srm_scenario.specs.Plain.{PlainScenario}
 use Rattle.srm_member.specs.declared.row.Row.{Row}
 use Rattle.srm_cell.specs.Crossings.{crossings}
 use Rattle.srm_cell.specs.Setting.{Setting, setting_of, traffic_of}
 use Rattle.srm_model.specs.World.{World, IsReached, IsLast, RunMeetsFull}
-use Rattle.srm_report.specs.Links.{links_table}
-use Rattle.srm_report.specs.Losses.{losses_table}
-use Rattle.srm_report.specs.Operations.{operations_table}
-use Rattle.srm_report.specs.Members.{members_table}
-use Rattle.srm_report.specs.Timers.{timers_table}
-use Rattle.srm_report.specs.Trace.{trace_of_rows}
+use Rattle.srm_report.specs.Links.{link_columns, link_rows}
+use Rattle.srm_report.specs.Losses.{loss_columns, loss_cmp, loss_row, losses_in}
+use Rattle.srm_report.specs.Members.{member_columns, member_rows}
+use Rattle.srm_report.specs.Operations.{names_lost, operation_columns, operation_row}
 use Rattle.srm_report.specs.Standings.{GrewBy}
+use Rattle.srm_report.specs.Tables.{table_lines}
+use Rattle.srm_report.specs.Timers.{timers_columns, timers_rows}
+use Rattle.srm_report.specs.Trace.{trace_columns, trace_fields}
 use Rattle.srm_program.specs.declared.fault.LabFault.{LabFault}
 use Rattle.srm_program.specs.declared.fault.LabFault.TheVariants.{BadCut, BadWidth, ShareFull, NoMemory, CountFull}
 use Rattle.srm_program.specs.declared.fault.LabFault.TheVariants.{WriteFault}
 use Rattle.srm_options.specs.declared.options.Show.{Show}
 use Rattle.srm_options.specs.declared.options.Show.TheVariants.{Trace, Members, Losses, Operations, Links, Timers}
 
--- what is shown of a run of a scenario on its network that left these rows and totals
-abbrev pub shown : Show → PlainScenario → Network → List Row → List ℕ → List ℕ
-shown Trace p net rows totals = trace_of_rows rows
-shown Members p net rows totals = members_table p rows
-shown Losses p net rows totals = losses_table net rows
-shown Operations p net rows totals = operations_table net rows
-shown Links p net rows totals = links_table totals
-shown Timers p net rows totals = timers_table rows
+-- the columns of a table
+abbrev pub columns_shown : Show → List (List ℕ)
+columns_shown Trace = trace_columns
+columns_shown Members = member_columns
+columns_shown Losses = loss_columns
+columns_shown Operations = operation_columns
+columns_shown Links = link_columns
+columns_shown Timers = timers_columns
 
--- the report of a run of a scenario on its network that ended in this world: its totals are the crossings of its
--- packets
+-- the rows of a table, each as its fields, of a run of a scenario on its network that left these rows and totals
+abbrev pub rows_shown : Show → PlainScenario → Network → List Row → List ℕ → List (List (List ℕ))
+rows_shown Trace p net rows totals = map trace_fields rows
+rows_shown Members p net rows totals = member_rows rows 0 p.members
+rows_shown Losses p net rows totals = map (loss_row net rows) (ordered loss_cmp (losses_in rows))
+rows_shown Operations p net rows totals = map (operation_row net rows) (names_lost rows)
+rows_shown Links p net rows totals = link_rows totals
+rows_shown Timers p net rows totals = flat_map timers_rows rows
+
+-- the same of a run that ended in this world: its totals are the crossings of its packets
+abbrev pub rows_of_run : Show → PlainScenario → Network → World → List (List (List ℕ))
+rows_of_run show p net w = rows_shown show p net w.trace (crossings (traffic_of p net) w.trace)
+
+-- the report of such a run: the line of its table's columns, and then the lines of its rows
 abbrev pub report_of : Show → PlainScenario → Network → World → List ℕ
-report_of show p net w = shown show p net w.trace (crossings (traffic_of p net) w.trace)
+report_of show p net w = table_lines (columns_shown show) (rows_of_run show p net w)
 
 -- the count of an outlet's failures after a report was written to it: one more exactly where the answer is that it
 -- failed
@@ -47,19 +62,15 @@ Writes old new report (Err NoMemory) = Keeps old new
 Writes old new report (Err (WriteFault written)) = Appends old new (take written report) × (written < length report)
 Writes old new report (Err f) = ⊥
 
--- the sequential run of a scenario on its network, with random words of this seed, ends in this world
-abbrev pub EndsIn : PlainScenario → Network → ℕ → World → Type 0
-EndsIn p net seed w = IsLast (setting_of p net seed) w
-
--- what an outlet took of a table of a scenario's sequential run: all of it, or as many bytes as the fault tells; and
--- nothing after another refusal, of which CountFull says that the run meets a step for which the packet count is used
--- up
+-- what an outlet took of a table of a scenario's sequential run with random words of this seed, which ends in a world:
+-- all of it, or as many bytes as the fault tells; and nothing after another refusal, of which CountFull says that the
+-- run meets a step for which the packet count is used up
 abbrev pub TellsTable : {T : Type 0} → PlainScenario → Network → ℕ → Show
     → Option (List ℕ) → Option (List ℕ) → Result T LabFault → Type 0
 TellsTable p net seed show old new (Ok v) =
-    (w : World) × EndsIn p net seed w × Appends old new (report_of show p net w)
+    (w : World) × IsLast (setting_of p net seed) w × Appends old new (report_of show p net w)
 TellsTable p net seed show old new (Err (WriteFault written)) =
-    (w : World) × EndsIn p net seed w
+    (w : World) × IsLast (setting_of p net seed) w
     × Appends old new (take written (report_of show p net w)) × (written < length (report_of show p net w))
 TellsTable p net seed show old new (Err CountFull) = RunMeetsFull (setting_of p net seed) × Keeps old new
 TellsTable p net seed show old new (Err f) = Keeps old new
@@ -89,8 +100,8 @@ TellsListing text s old new (Err BadWidth) = Keeps old new
 
 -- this holds of the text of a table that lists rows, and that of every other table
 abbrev pub ByShow : Show → ((List Row → List ℕ) → Type 0) → Type 0 → Type 0
-ByShow Trace listed written = listed trace_of_rows
-ByShow Timers listed written = listed timers_table
+ByShow Trace listed written = listed (λ rows. table_lines trace_columns (map trace_fields rows))
+ByShow Timers listed written = listed (λ rows. table_lines timers_columns (flat_map timers_rows rows))
 ByShow show listed written = written
 
 -- what an outlet took of the report of a run: that of the sequential run, for the seed and the table alone. After a

@@ -19,10 +19,8 @@ use Rattle.srm_interfaces.specs.Sinks.{most_rows}
 use Rattle.srm_engine.specs.declared.window_fault.WindowFault.TheVariants as window
 use Rattle.srm_engine.specs.Streams.{TakesTraceFront, TakesUpTo, MeetsFullWithin}
 use Rattle.srm_model.specs.World.{World, IsReached, IsOutcome, RunMeetsFull}
-use Rattle.srm_model.specs.WindowChains.{AreWindows}
-use Rattle.srm_model.specs.WindowRuns.{jobs_of}
 use Rattle.srm_engine.specs.Outcomes.{HoldOpeningRecords}
-use Rattle.srm_engine.specs.Windowed.{IsCut, MayBeWide, MayCome, PassesShare, rule_of}
+use Rattle.srm_engine.specs.Windowed.{IsCut, MayBeWide, MayCome, PassesShareAtWindow, rule_of}
 use Rattle.srm_engine.specs.WindowWatches.{TellsKept}
 use Rattle.srm_report.specs.Listings.{Form, text_in}
 use Rattle.srm_program.specs.declared.fault.LabFault.{LabFault}
@@ -38,21 +36,14 @@ pub use Rattle.srm_options.specs.Asked.{MayShareBag}
 abbrev pub MayBeCut : Network → Options → Type 0
 MayBeCut net o = IsCut o.cut × MayBeWide net o.width
 
--- at one of the windows that are asked for, the crossings up to it, with those of some of its jobs, are more than 2^47
--- of a kind
-abbrev pub PassesShareAtWindow : Setting → Network → Options → Type 0
-PassesShareAtWindow s net o =
-    let rule = rule_of s net o.width in
-    (begins : List World) × (w : World) × AreWindows s rule begins w
-    × PassesShare s.traffic w.trace (jobs_of o.cut (rule w) w)
-
 -- the refusals that the engine brings: a cut and a width that may not be are refused by a run in windows, the cut
 -- first, and by no other run; and only a run in windows is refused for a share
 abbrev pub TellsRefusedFor : {T : Type 0} → PlainScenario → Network → ℕ → Options → Result T LabFault → Type 0
 TellsRefusedFor p net seed o (Err BadCut) = (o.engine ≡ Window) × ¬ IsCut o.cut
 TellsRefusedFor p net seed o (Err BadWidth) = (o.engine ≡ Window) × IsCut o.cut × ¬ MayBeWide net o.width
 TellsRefusedFor p net seed o (Err ShareFull) =
-    (o.engine ≡ Window) × MayBeCut net o × PassesShareAtWindow (setting_of p net seed) net o
+    let s = setting_of p net seed in
+    (o.engine ≡ Window) × MayBeCut net o × PassesShareAtWindow s (rule_of s net o.width) o.cut
 TellsRefusedFor p net seed o r = o.engine ≡ Window → MayBeCut net o
 
 -- in this world of a run this engine may break off for what is counted: one event after the other where the packet

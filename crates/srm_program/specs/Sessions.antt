@@ -63,7 +63,8 @@ abbrev pub TellsTask : {T : Type 0} → PlainScenario → ℕ → Options
     → Option (List ℕ) → Option (List ℕ) → Result T LabFault → Type 0
 TellsTask p seed o old new r =
     ByTask o.check o.replications (MatchResult r (λ v. Keeps old new) (λ f. ⊥))
-    (λ count. TellsReplications p (network_of p) seed count o.show old new r)
+    (λ count. TellsReplications
+    (record { scenario = p; network = network_of p; first = seed; count = count; show = o.show }) old new r)
     (TellsReport p (network_of p) seed o.show old new r)
 
 -- what an outlet took of the session of a text, with random words and losses of this seed: what the run of its scenario

@@ -2,14 +2,12 @@
 ghost use Rattle.std.specs.Prelude.{◌≡◌, ◌<◌, ◌≤◌, ◌+◌, ◌-◌, ◌^◌, ◌++◌, ◌∷◌, [], ℕ, Some, Ok, Err, codes, IfOk, IfErr, MatchResult};
 ghost use Rattle.std.specs.List.{range_with_len};
 ghost use Rattle.csv.specs.Writing.{default_writer, row_text};
-ghost use Rattle.srm_program.specs.Reports.{failures_after_run, report_of};
-ghost use Rattle.srm_model.specs.World.{World};
-ghost use Rattle.srm_report.specs.Tables.{table_lines};
+ghost use Rattle.srm_program.specs.Reports.{columns_shown, failures_after_run};
 ghost use Rattle.srm_net.specs.Network.{Network};
 ghost use Rattle.srm_options.specs.declared.options.Show.{Show as AShow};
 ghost use Rattle.srm_scenario.specs.Plain.{PlainScenario};
 ghost use Rattle.srm_program.specs.Runs.{MayShareBag};
-ghost use Rattle.srm_program.specs.Replications.{columns_shown, rows_of_run, AreReplicated, MakesEach, MakesLines, MayReplicate, PutsNext, TellsReplications};
+ghost use Rattle.srm_program.specs.Replications.{series_of, AreReplicated, MakesEach, MakesLines, MayReplicate, PutsNext, TellsReplications};
 
 use crate::fault::LabFault;
 use crate::options::{Options, Show};
@@ -169,7 +167,7 @@ fn lead<W: Work<u64, Result<Vec<u8>, LabFault>> + Copy, J: Naming, R: Wait, O: O
     requires seeds { span.first ≤ span.end }
     requires count { O.failures outlet.old < 2 ^ 64 - 1 }
     ensures { (p : PlainScenario) (net : Network) → MakesEach (W.gives relay.work) p net span.show
-        → AreReplicated O.failures O.taken p net span.first (span.end - span.first) span.show outlet.old result outlet.new }
+        → AreReplicated O.Outlet (series_of p net span) outlet.old result outlet.new }
 {
     let mut relay = relay;
     let mut written = 0;
@@ -207,7 +205,7 @@ fn lead_waiting<W: Work<u64, Result<Vec<u8>, LabFault>> + Copy, J: Naming, R: Wa
     requires count { O.failures outlet.old < 2 ^ 64 - 1 }
     ensures { (l : _) → waiting.old ≡ Some l
         → (p : PlainScenario) (net : Network) → MakesEach (W.gives l.work) p net span.show
-        → AreReplicated O.failures O.taken p net span.first (span.end - span.first) span.show outlet.old result outlet.new }
+        → AreReplicated O.Outlet (series_of p net span) outlet.old result outlet.new }
 {
     let relay = waiting.take().unwrap();
     lead(rt, alloc, relay, span, outlet)
@@ -233,7 +231,7 @@ fn lead_beside<
     requires seeds { span.first ≤ span.end }
     requires count { O.failures outlet.old < 2 ^ 64 - 1 }
     ensures { (p : PlainScenario) (net : Network) → MakesEach (W.gives relay.work) p net span.show
-        → AreReplicated O.failures O.taken p net span.first (span.end - span.first) span.show outlet.old result outlet.new }
+        → AreReplicated O.Outlet (series_of p net span) outlet.old result outlet.new }
 {
     if threads == 0 {
         return lead(rt, alloc, relay, span, outlet);
@@ -250,8 +248,7 @@ fn lead_beside<
                 × (l.under_way ≡ []) × (span.first ≤ span.end) × (O.failures outlet.now < 2 ^ 64 - 1) }
             ensures { (l : _) → waiting.entry ≡ Some l
                 → (p : PlainScenario) (net : Network) → MakesEach (W.gives l.work) p net span.show
-                → AreReplicated O.failures O.taken p net span.first (span.end - span.first) span.show
-                outlet.entry.now result outlet.exit.now }
+                → AreReplicated O.Outlet (series_of p net span) outlet.entry.now result outlet.exit.now }
         { lead_waiting(own_rt, own, &mut waiting, span, outlet) },
     );
     answer
@@ -278,7 +275,7 @@ fn by_team<
     requires seeds { span.first ≤ span.end }
     requires count { O.failures outlet.old < 2 ^ 64 - 1 }
     ensures { (p : PlainScenario) (net : Network) → MakesEach (W.gives work) p net span.show
-        → AreReplicated O.failures O.taken p net span.first (span.end - span.first) span.show outlet.old result outlet.new }
+        → AreReplicated O.Outlet (series_of p net span) outlet.old result outlet.new }
 {
     let workers = usize::from(workers);
     match open_relay::<W, u64, Result<Vec<u8>, LabFault>, J>(alloc, opened, work, RUNS * workers) {
@@ -311,8 +308,13 @@ pub fn replicate<R: Threads + Wait + Sync, O: Outlet>(
     requires seeds { seeds.first + seeds.count < 2 ^ 64 }
     requires count { O.failures outlet.old < 2 ^ 64 - 1 }
     ensures failures { O.failures outlet.new ≡ failures_after_run result (O.failures outlet.old) }
-    ensures report { TellsReplications scenario.now net.now seeds.first seeds.count options.show
-        (O.taken outlet.old) (O.taken outlet.new) result }
+    ensures report { TellsReplications (record {
+      scenario = scenario.now;
+      network = net.now;
+      first = seeds.first;
+      count = seeds.count;
+      show = options.show;
+    }) (O.taken outlet.old) (O.taken outlet.new) result }
 {
     let work = Replicating {
         rt,
@@ -336,9 +338,3 @@ pub fn replicate<R: Threads + Wait + Sync, O: Outlet>(
         outlet,
     )
 }
-
-/// A law: the report of a run is the line of its table's columns, and then the lines of its rows.
-pub fn report_by_rows(_show: Show)
-    ensures { (p : PlainScenario) (net : Network) (w : World)
-        → report_of _show p net w ≡ table_lines (columns_shown _show) (rows_of_run _show p net w) }
-{}

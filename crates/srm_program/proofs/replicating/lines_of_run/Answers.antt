@@ -1,8 +1,7 @@
 use Rattle.std.proofs.Common.{◌≡◌, ◌∙◌, ◌++◌, [], Some, ap}
 use Rattle.srm_report.specs.Tables.{table_lines}
-use Rattle.srm_program.specs.Reports.{report_of}
-use Rattle.srm_program.specs.Replications.{columns_shown, rows_of_run}
-use Rattle.srm_program.proofs.ReplicationLemmas.{columns_are_line, report_by_rows, rows_are_lines, whole_told}
+use Rattle.srm_program.specs.Reports.{columns_shown, rows_of_run, report_of}
+use Rattle.srm_program.proofs.ReplicationLemmas.{columns_are_line, rows_are_lines, whole_told}
 use Rattle.srm_program.proofs.replicating.lines_of_run.Goals as goal
 
 pub returns-in-Ok-seeded_lines : goal.returns-in-Ok-seeded_lines
@@ -15,8 +14,7 @@ returns-in-Ok-seeded_lines g c =
     let w = told.0 in
     let none : c.new-outlet.result.writer.items ≡ [] = ap (λ v. v.items) c.new-outlet.ensures.writer ∙ c.new.ensures.items in
     let table : c.as_slice.result.now ≡ table_lines (columns_shown show) (rows_of_run show p net w) =
-    c.as_slice.ensures.value ∙ ap (λ v. v.items) c.into_inner-table.ensures ∙ told.2 ∙ ap (λ l. l ++ report_of show p net w) none
-    ∙ report_by_rows show p net w in (
+    c.as_slice.ensures.value ∙ ap (λ v. v.items) c.into_inner-table.ensures ∙ told.2 ∙ ap (λ l. l ++ report_of show p net w) none in (
       w,
       told.1,
       c.in-Ok-seeded_lines.ensures (columns_shown show) (rows_of_run show p net w) (columns_are_line show)

@@ -2,16 +2,15 @@ use Rattle.std.proofs.Common.{◌≡◌, ◌∙◌, ◌+◌, ◌-◌, ◌<◌, �
 use Rattle.std.specs.List.{range_with_len}
 use Rattle.srm_program.specs.declared.fault.LabFault.{LabFault}
 use Rattle.srm_program.specs.Reports.{failures_after_run}
-use Rattle.srm_program.specs.Replications.{MakesEach, PutsNext}
+use Rattle.srm_program.specs.Replications.{series_of, MakesEach, PutsNext}
 use Rattle.srm_program.proofs.ReplicationLemmas.{HasRuns, header_put, header_failed, run_put, run_failed, run_refused, not_written}
 use Rattle.srm_program.proofs.replications.lead.Goals as goal
 
 pub returns-in-Err : goal.returns-in-Err
 returns-in-Err g c = λ p net each. (
   c.in-Err.ensures.failures,
-  header_failed c.args.span.show p net c.args.span.first (Unit {0}) (Unit {0}) (g.O.Outlet.taken c.args.outlet.now)
-      (g.O.Outlet.taken c.put.new.outlet) c.put.new.written (c.args.span.end - c.args.span.first) c.header.result.now c.in-Err.fault
-      c.header.ensures c.in-Err.ensures.taken,
+  header_failed (series_of p net c.args.span) (Unit {0}) (Unit {0}) (g.O.Outlet.taken c.args.outlet.now)
+      (g.O.Outlet.taken c.put.new.outlet) c.put.new.written c.header.result.now c.in-Err.fault c.header.ensures c.in-Err.ensures.taken,
 )
 
 pub loop-seed-init : goal.loop-seed-init
@@ -30,7 +29,7 @@ loop-seed-init g c =
       runs = λ p net each. (
         [],
         omega arith,
-        header_put c.args.span.show p net first (Unit {0}) tt (g.O.Outlet.taken c.args.outlet.now) (g.O.Outlet.taken c.put.new.outlet)
+        header_put (series_of p net c.args.span) (Unit {0}) tt (g.O.Outlet.taken c.args.outlet.now) (g.O.Outlet.taken c.put.new.outlet)
             c.put.new.written c.header.result.now c.header.ensures c.in-Ok.ensures.taken,
       );
     }
@@ -54,8 +53,8 @@ returns-in-Err-next_lines g c = λ p net each.
     let each_here = subst (λ w. MakesEach (g.W.Work.gives w) p net show) (sym was.work) each in
     let made = c.in-Err-next_lines.ensures.lines p net show each_here in (
       not_written (Unit {0}) p net show seed c.in-Err-next_lines.fault _ _ made was.unfailed,
-      run_refused show p net c.args.span.first runs.0 (g.O.Outlet.taken c.args.outlet.now) (g.O.Outlet.taken c.loop-seed.outlet)
-          c.loop-seed.written runs.2 seed (c.args.span.end - c.args.span.first) runs.1 was.from
+      run_refused (series_of p net c.args.span) runs.0 (g.O.Outlet.taken c.args.outlet.now) (g.O.Outlet.taken c.loop-seed.outlet)
+          c.loop-seed.written runs.2 seed runs.1 was.from
           (omega (arith, was.from, c.loop-seed-test.true)) (Unit {0}) c.in-Err-next_lines.fault made,
     )
 
@@ -76,8 +75,8 @@ returns-in-Err-put g c = λ p net each.
     let put = subst (λ t. PutsNext mid c.loop-seed.written t fault new c.put-in-loop-seed.new.written) c.as_slice.ensures.value
     c.in-Err-put.ensures.taken in (
       c.in-Err-put.ensures.failures ∙ ap (failures_after_run fault) was.unfailed,
-      run_failed show p net c.args.span.first runs.0 (g.O.Outlet.taken c.args.outlet.now) mid
-          c.loop-seed.written runs.2 seed (c.args.span.end - c.args.span.first) runs.1 was.from
+      run_failed (series_of p net c.args.span) runs.0 (g.O.Outlet.taken c.args.outlet.now) mid
+          c.loop-seed.written runs.2 seed runs.1 was.from
           (omega (arith, was.from, c.loop-seed-test.true)) (Unit {0}) (Unit {0}) c.in-Ok-next_lines.lines new
           c.put-in-loop-seed.new.written c.in-Err-put.fault made put,
     )
@@ -106,8 +105,8 @@ loop-seed-preserved g c =
           let runs = was.runs p net each in
           let each_here = subst (λ w. MakesEach (g.W.Work.gives w) p net show) (sym was.work) each in
           let made = c.in-Ok-next_lines.ensures.lines p net show each_here in
-          run_put show p net c.args.span.first runs.0 (g.O.Outlet.taken c.args.outlet.now) mid
-          c.loop-seed.written runs.2 seed (c.args.span.end - c.args.span.first) runs.1 was.from
+          run_put (series_of p net c.args.span) runs.0 (g.O.Outlet.taken c.args.outlet.now) mid
+          c.loop-seed.written runs.2 seed runs.1 was.from
           (omega (arith, was.from, c.loop-seed-test.true)) (Unit {0}) tt c.in-Ok-next_lines.lines new
           c.put-in-loop-seed.new.written made put;
     }

@@ -3,7 +3,7 @@ use Rattle.std.specs.List.{range_with_len}
 use Rattle.srm_net.specs.Network.{Network}
 use Rattle.srm_scenario.specs.Plain.{PlainScenario}
 use Rattle.srm_model.specs.World.{World}
-use Rattle.srm_program.specs.Replications.{MakesEach}
+use Rattle.srm_program.specs.Replications.{series_of, MakesEach}
 use Rattle.srm_program.proofs.ReplicationLemmas.{HasRuns}
 use Rattle.srm_program.proofs.replications.lead.Given as goal
 
@@ -20,5 +20,5 @@ invariant-loop-seed g l = record {
   below : g.O.Outlet.failures l.fn.outlet < 2 ^ 64 - 1;
   runs : (p : PlainScenario) (net : Network) → MakesEach (g.W.Work.gives l.fn.relay.work) p net l.span.show
       → (ws : List World) × (length ws ≡ l.seed - l.span.first)
-      × HasRuns l.span.show p net l.span.first ws (g.O.Outlet.taken l.fn.outlet) (g.O.Outlet.taken l.outlet) l.written;
+      × HasRuns (series_of p net l.span) ws (g.O.Outlet.taken l.fn.outlet) (g.O.Outlet.taken l.outlet) l.written;
 }

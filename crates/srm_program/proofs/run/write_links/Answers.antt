@@ -4,6 +4,7 @@ use Rattle.srm_program.proofs.TableTexts.{asked_told, table_told}
 use Rattle.srm_program.proofs.run.write_links.Goals as goal
 
 pub returns-in-Ok : goal.returns-in-Ok
+unfolding links_table
 returns-in-Ok g c = record {
   failures = search;
   table = λ seed h.

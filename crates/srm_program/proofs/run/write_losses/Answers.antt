@@ -19,6 +19,7 @@ text-requires g c =
     (t.0, o, t.3 [] [] (subst LoseInTurn (sym (append-nil t.0)) (orderly_loses members t.0 o)) c.new-sink.ensures.found)
 
 pub returns-in-Ok : goal.returns-in-Ok
+unfolding losses_table
 returns-in-Ok g c = record {
   failures = search;
   table = λ seed h.

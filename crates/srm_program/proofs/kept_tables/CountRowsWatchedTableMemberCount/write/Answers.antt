@@ -6,6 +6,7 @@ use Rattle.srm_program.proofs.KeptTables.{kept_report, refused_report}
 use Rattle.srm_program.proofs.kept_tables.CountRowsWatchedTableMemberCount.write.Goals as goal
 
 pub returns-in-Ok : goal.returns-in-Ok
+unfolding members_table
 returns-in-Ok g c =
     let task = c.args.asked.task in
     kept_report (λ k own. IsCountOf own k) (Unit {0}) g.O.Outlet task (map g.M.Participant.plain c.args.asked.members.items) Members tt

@@ -23,6 +23,7 @@ losses_kept-requires g c =
     )
 
 pub returns-in-Ok : goal.returns-in-Ok
+unfolding losses_table
 returns-in-Ok g c =
     let task = c.args.asked.task in
     let p = task.session.scenario.now in
