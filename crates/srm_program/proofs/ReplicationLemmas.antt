@@ -1,6 +1,6 @@
 -- Tables row by row, and the table of runs that differ in their seed.
 use Rattle.std.proofs.Common.{◌≡◌, ◌∙◌, ℕ, zero, suc, ◌+◌, ◌-◌, ◌<◌, ◌≤◌, List, [], ◌∷◌, ◌++◌, length, map}
-use Rattle.std.proofs.Common.{Option, Some, None, Result, Ok, Err}
+use Rattle.std.proofs.Common.{Option, Some, None, Ok, Err}
 use Rattle.std.proofs.Common.{refl, ap, sym, subst, append_assoc, append-nil, length-append, inr, codes, arith}
 use Rattle.std.specs.Global.{Vec}
 use Rattle.std.specs.List.{flat_map, range_with_len}

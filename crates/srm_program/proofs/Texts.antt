@@ -14,7 +14,6 @@ use Rattle.srm_scenario.proofs.Texts.{count_stays}
 use Rattle.srm_program.specs.declared.fault.Fault.{Fault}
 use Rattle.srm_program.specs.declared.fault.Fault.TheVariants.{Line, Scenario, Lab, NoMemory}
 use Rattle.srm_options.specs.declared.options.Options.{Options}
-use Rattle.srm_program.specs.declared.fault.LabFault.{LabFault}
 use Rattle.srm_program.specs.Explained.{KeepsText}
 use Rattle.srm_program.specs.Runs.{TellsRefusals}
 use Rattle.srm_program.specs.Sessions.{ByTask, OfRun, TellsSession, TellsText, TellsTextRefusals, TellsFeed, reading_failures}

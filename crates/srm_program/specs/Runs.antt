@@ -3,10 +3,9 @@ use Rattle.std.specs.Prelude.{◌≡◌, ℕ, ◌≤◌, List, ◌++◌, length,
 use Rattle.std.specs.Io.KnownBytes.{Appends}
 use Rattle.std.specs.Global.{Vec}
 use Rattle.srm_net.specs.Network.{Network}
-use Rattle.srm_scenario.specs.Plain.{PlainScenario, network_of}
+use Rattle.srm_scenario.specs.Plain.{PlainScenario}
 use Rattle.srm_cell.specs.Setting.{Setting, setting_of}
 use Rattle.srm_member.specs.declared.row.Row.{Row}
-use Rattle.srm_member.specs.Record.{Record}
 use Rattle.srm_member.specs.declared.exit.Exit.{Exit}
 use Rattle.srm_engine.specs.declared.fault.RunFault.{RunFault}
 use Rattle.srm_engine.specs.declared.fault.RunFault.TheVariants as fault
@@ -19,17 +18,15 @@ use Rattle.srm_interfaces.specs.Sinks.{most_rows}
 use Rattle.srm_engine.specs.declared.window_fault.WindowFault.TheVariants as window
 use Rattle.srm_engine.specs.Streams.{TakesTraceFront, TakesUpTo, MeetsFullWithin}
 use Rattle.srm_model.specs.World.{World, IsReached, IsOutcome, RunMeetsFull}
-use Rattle.srm_engine.specs.Outcomes.{HoldOpeningRecords}
 use Rattle.srm_engine.specs.Windowed.{IsCut, MayBeWide, MayCome, PassesShareAtWindow, rule_of}
 use Rattle.srm_engine.specs.WindowWatches.{TellsKept}
-use Rattle.srm_report.specs.Listings.{Form, text_in}
 use Rattle.srm_program.specs.declared.fault.LabFault.{LabFault}
 use Rattle.srm_program.specs.declared.fault.LabFault.TheVariants.{BadCut, BadWidth, ShareFull, NoMemory, CountFull}
 use Rattle.srm_program.specs.declared.fault.LabFault.TheVariants.{WriteFault}
 use Rattle.srm_options.specs.declared.options.Engine.{Engine}
 use Rattle.srm_options.specs.declared.options.Engine.TheVariants.{Step, Window}
 use Rattle.srm_options.specs.declared.options.Options.{Options}
-use Rattle.srm_program.specs.Reports.{ByShow, failures_after_run}
+use Rattle.srm_program.specs.Reports.{ByShow}
 pub use Rattle.srm_options.specs.Asked.{MayShareBag}
 
 -- the run may be cut into windows and jobs as is asked for

@@ -1,4 +1,4 @@
-use Rattle.std.proofs.Common.{rules, ℕ, List, refl, subst}
+use Rattle.std.proofs.Common.{rules, ℕ, List, refl}
 use Rattle.srm_cell.specs.Setting.{setting_of}
 use Rattle.srm_report.specs.ListingSinks.{outlet_under}
 use Rattle.srm_program.proofs.ListedTexts.{flushed_rows, left_rows, refused_rows, unflushed_rows}

@@ -1,4 +1,4 @@
-use Rattle.std.proofs.Common.{◌≡◌, ◌∙◌, ◌+◌, ◌-◌, ◌++◌, ◌∷◌, [], ap, sym, append_assoc, arith}
+use Rattle.std.proofs.Common.{◌≡◌, ◌∙◌, ◌+◌, ◌-◌, ◌++◌, ◌∷◌, [], ap, append_assoc, arith}
 use Rattle.std.specs.List.{range_with_len}
 use Rattle.srm_program.proofs.ReplicationLemmas.{range_more}
 use Rattle.srm_program.proofs.replications.begin_runs.Goals as goal

@@ -1,9 +1,9 @@
-use Rattle.std.proofs.Common.{◌≡◌, ◌∙◌, ◌+◌, ◌-◌, ◌<◌, ◌≤◌, ◌^◌, [], List, Result, Ok, Err, length, refl, ap, sym, subst, arith}
+use Rattle.std.proofs.Common.{◌≡◌, ◌∙◌, ◌-◌, [], Result, Ok, Err, refl, ap, sym, subst, arith}
 use Rattle.std.specs.List.{range_with_len}
 use Rattle.srm_program.specs.declared.fault.LabFault.{LabFault}
 use Rattle.srm_program.specs.Reports.{failures_after_run}
 use Rattle.srm_program.specs.Replications.{series_of, MakesEach, PutsNext}
-use Rattle.srm_program.proofs.ReplicationLemmas.{HasRuns, header_put, header_failed, run_put, run_failed, run_refused, not_written}
+use Rattle.srm_program.proofs.ReplicationLemmas.{header_put, header_failed, run_put, run_failed, run_refused, not_written}
 use Rattle.srm_program.proofs.replications.lead.Goals as goal
 
 pub returns-in-Err : goal.returns-in-Err

@@ -1,7 +1,5 @@
-use Rattle.std.proofs.Common.{◌≡◌, ◌∙◌, ◌+◌, ◌-◌, ◌<◌, ◌≤◌, ◌++◌, ◌∷◌, ℕ, List, Result, Ok, Err, ap, sym, subst, arith}
-use Rattle.std.specs.Global.{Vec}
+use Rattle.std.proofs.Common.{◌≡◌, ◌∙◌, ◌+◌, ◌-◌, ◌≤◌, ◌++◌, ◌∷◌, ℕ, List, Ok, Err, ap, sym, arith}
 use Rattle.std.specs.List.{range_with_len}
-use Rattle.srm_program.specs.declared.fault.LabFault.{LabFault}
 use Rattle.srm_program.proofs.ReplicationLemmas.{range_first, range_joined}
 use Rattle.srm_program.proofs.replications.next_lines.Goals as goal
 

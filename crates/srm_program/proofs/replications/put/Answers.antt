@@ -1,4 +1,4 @@
-use Rattle.std.proofs.Common.{◌≡◌, ◌∙◌, ◌+◌, length, take, drop, sym, ap, subst, arith, length-drop, take-append-drop}
+use Rattle.std.proofs.Common.{◌≡◌, length, take, drop, sym, subst, arith, length-drop, take-append-drop}
 use Rattle.std.proofs.lemmas.List.{length-take-le}
 use Rattle.srm_report.specs.Standings.{GrewBy}
 use Rattle.srm_report.specs.SinkLaws.{count_cut}

@@ -1,5 +1,5 @@
 use Rattle.std.proofs.Common.{◌∙◌, ap, subst}
-use Rattle.srm_scenario.specs.Plain.{PlainScenario, network_of, with_seed}
+use Rattle.srm_scenario.specs.Plain.{PlainScenario, network_of}
 use Rattle.srm_program.specs.Runs.{TellsRefusals}
 use Rattle.srm_program.specs.Sessions.{OfRun, TellsSession}
 use Rattle.srm_program.proofs.Texts.{refusals_of_text, session_of_text}
