@@ -25,3 +25,7 @@ mod TakingLemmas
 pub mod TallyLemmas
 mod SumLemmas
 mod TurnLemmas
+mod TickLemmas
+mod TickTexts
+mod SpanLemmas
+mod PieceLemmas

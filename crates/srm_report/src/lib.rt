@@ -37,6 +37,7 @@ mod recovery;
 pub mod seeds;
 mod sending;
 mod sendings;
+mod span;
 mod standing;
 mod tallies;
 mod tally;

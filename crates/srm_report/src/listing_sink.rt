@@ -1,5 +1,6 @@
 //! A table that lists rows, written as they come.
-ghost use Rattle.std.specs.Prelude.{◌≡◌, ◌<◌, ◌+◌, ◌-◌, ◌^◌, ◌≤◌, ◌==◌, ◌||◌, List, [], false, is_ok, not, if◌then◌else◌, length, IfOk};
+ghost use Rattle.std.specs.Prelude.{◌≡◌, ◌<◌, ◌+◌, ◌-◌, ◌^◌, ◌≤◌, ◌==◌, ◌||◌, List, [], false, is_ok, not, if◌then◌else◌, length, map, IfOk};
+ghost use Rattle.srm_cell.specs.Crossings.{joined};
 ghost use Rattle.srm_member.specs.declared.row.Row.{Row as R};
 ghost use Rattle.srm_report.specs.KeptLines.{AreLinesOf};
 ghost use Rattle.srm_report.specs.Standings.{text_next, after_answer, TakesText};
@@ -50,23 +51,25 @@ fn text_of<L: Listing>(
     }
 }
 
-// The same of rows of which these are the lines of all members.
-fn text_of_lines<L: Listing>(
+// The same in pieces, of rows of which these are the lines of all members. A header is a piece of its own.
+fn pieces_of_lines<L: Listing>(
     alloc: Global,
     standing: Standing,
     kept: &[Lines],
-) -> Result<Vec<u8>, ReportFault>
+) -> Result<Vec<Vec<u8>>, ReportFault>
     ensures { (rows : List R) → AreLinesOf L.form rows kept.now
-        → IfOk result (λ text. text.items ≡ text_next L.form standing rows) }
+        → IfOk result (λ pieces. joined (map (λ p. p.items) pieces.items) ≡ text_next L.form standing rows) }
 {
-    let lines = put_in_order(alloc, kept)?;
+    let mut pieces = put_in_order(alloc, kept)?;
     match standing {
         Standing::Fresh => {
-            let mut text = L::text(alloc, &[])?;
-            text.extend_from_slice(lines.as_slice())?;
-            Ok(text)
+            let header = L::text(alloc, &[])?;
+            match pieces.insert(0, header) {
+                Ok(()) => Ok(pieces),
+                Err(_) => Err(ReportFault::NoMemory),
+            }
         }
-        Standing::Live | Standing::NoMemory | Standing::Stopped => Ok(lines),
+        Standing::Live | Standing::NoMemory | Standing::Stopped => Ok(pieces),
     }
 }
 
@@ -216,10 +219,43 @@ impl<'a, L: Listing, O: Outlet> ListingSink<'a, L, O> {
         ensures told { stage_at (after_answer result) (written_by self.new) ≡ stage_after result }
         ensures left { LeavesOutlet self.old result self.new }
     {
-        match text_of_lines::<L>(alloc, self.standing, kept) {
-            Ok(text) => self.put(text.as_slice()),
+        match pieces_of_lines::<L>(alloc, self.standing, kept) {
+            Ok(pieces) => self.put_pieces(pieces.as_slice()),
             Err(ReportFault::NoMemory) => Err(SinkFault::NoMemory),
         }
+    }
+
+    // Puts a text in pieces: gathers it where it is one, or writes the pieces after what is gathered.
+    fn put_pieces(&mut self, pieces: &[Vec<u8>]) -> Result<(), SinkFault>
+        requires failures { O.failures (outlet_under self.old) < 2 ^ 64 - 1 }
+        ensures outlet { AreOverOne self.old self.new }
+        ensures standing { StandsAsBefore self.old self.new }
+        ensures failures { O.failures (outlet_under self.new) ≡ O.failures (outlet_under self.old) + stops_in result }
+        ensures text { PutsText O.taken self.old (joined (map (λ p. p.items) pieces.now)) result self.new }
+        ensures left { LeavesOutlet self.old result self.new }
+    {
+        match pieces {
+            [text] => self.put(text.as_slice()),
+            _ => self.write_each(pieces),
+        }
+    }
+
+    // Writes what is gathered, and the pieces of a text after it. It does not allocate.
+    fn write_each(&mut self, pieces: &[Vec<u8>]) -> Result<(), SinkFault>
+        requires failures { O.failures (outlet_under self.old) < 2 ^ 64 - 1 }
+        ensures outlet { AreOverOne self.old self.new }
+        ensures standing { StandsAsBefore self.old self.new }
+        ensures failures { O.failures (outlet_under self.new) ≡ O.failures (outlet_under self.old) + stops_in result }
+        ensures text { PutsText O.taken self.old (joined (map (λ p. p.items) pieces.now)) result self.new }
+        ensures left { LeavesOutlet self.old result self.new }
+    {
+        for piece in pieces {
+            if let Err(OutFault) = self.write_through(piece.as_slice()) {
+                let written = self.written;
+                return Err(SinkFault::Stopped { written });
+            }
+        }
+        Ok(())
     }
 
     // Gathers a text, or writes it after what is gathered.
