@@ -5,12 +5,9 @@ ghost use Rattle.srm_member.specs.declared.row.Row.{Row as R};
 ghost use Rattle.srm_report.specs.Listings.{Form, lines_in};
 ghost use Rattle.srm_report.specs.KeptLines.{AreLinesOf, turn_of, turn_at, turns_from, tick_texts, with_ticks};
 
-use crate::lines::Lines;
+use crate::lines::{Lines, USUAL_LINE};
 use crate::span::Span;
 use std::alloc::{AllocError, Global};
-
-// How many bytes most lines have at most, to make room for them at once.
-const USUAL_LINE: usize = 40;
 
 // How many bytes a piece has at most, where it is not the text of one tick.
 const USUAL_PIECE: usize = 65_536;

@@ -8,6 +8,9 @@ use srm_member::row::Row;
 use std::alloc::{AllocError, Global};
 use std::marker::Model;
 
+/// How many bytes most lines have at most, to make room for them at once.
+pub(crate) const USUAL_LINE: usize = 40;
+
 /// When a row was, and where its line ends.
 #[derive(Clone, Copy)]
 pub struct LineEnd {
@@ -54,14 +57,15 @@ impl Lines {
         }
     }
 
-    /// Makes room for so many lines more.
+    /// Makes room for so many lines more, if most have at most 40 bytes.
     ///
     /// # Errors
     /// [`AllocError`]: the lines are as they were.
     pub fn reserve(&mut self, more: usize) -> Result<(), AllocError>
         ensures { self.new ≡ self.old }
     {
-        self.ends.reserve(more)
+        self.ends.reserve(more)?;
+        self.text.reserve(more.saturating_mul(USUAL_LINE))
     }
 
     /// Puts the lines of a row in a table behind the others.
