@@ -94,7 +94,7 @@ fn advance_in_team<'a, R: Wait, M: Participant, K: Drop, W: Watch<K> + Copy, J: 
 {
     let room = team.room();
     if room == 0 {
-        return advance_watched(alloc, work.session, &work.watch, jobs);
+        return advance_watched(&work, jobs);
     }
     let due = due_in_all(jobs.as_slice());
     let Ok(pieces) = pieces_of(alloc, jobs, (due / room).max(1), room - 1) else {
@@ -210,14 +210,14 @@ impl<'a, R: Wait, M: Participant, K: Drop, W: Watch<K> + Copy, J: Naming> WatchC
         ensures stays { (self.new.work ≡ self.old.work) × (self.new.team.room ≡ self.old.team.room)
             × (self.new.few ≡ self.old.few) }
     {
+        let work = Watching {
+            alloc: self.work.alloc,
+            session: self.work.session,
+            watch,
+        };
         let advanced = if due_in_all(jobs.as_slice()) < self.few {
-            advance_watched(alloc, session, &watch, jobs)
+            advance_watched(&work, jobs)
         } else {
-            let work = Watching {
-                alloc: self.work.alloc,
-                session: self.work.session,
-                watch,
-            };
             advance_in_team(&self.rt, alloc, &mut self.team, work, jobs)
         };
         settle_watched(ledger, seat, advanced)
