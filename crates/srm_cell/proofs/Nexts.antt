@@ -1,7 +1,7 @@
 -- Where a cell has its next event.
 use Rattle.std.proofs.Common.{arith}
 use Rattle.std.proofs.Common.{◌≡◌, ◌<◌, ◌≤◌, cond, ℕ, List, [], ◌∷◌, Option, Some, None, option_map}
-use Rattle.std.proofs.Common.{slice_get, refl, sym, ap, ◌∙◌, subst, Ordering}
+use Rattle.std.proofs.Common.{slice_get, refl, sym, ap, ◌∙◌, subst, le-ltb, Ordering}
 use Rattle.std.specs.Ordering.{is_gt}
 use Rattle.srm_net.specs.Keys.{key_cmp}
 use Rattle.srm_net.specs.declared.key.Key.{Key}
@@ -12,7 +12,7 @@ use Rattle.srm_member.specs.declared.due.Due.{Due}
 use Rattle.srm_member.specs.Record.{Record, due_of}
 use Rattle.srm_cell.specs.declared.flight.Flight.{Flight}
 use Rattle.srm_cell.specs.Cells.{PlainCell, Event, first_arrival, first_mark, next_timer, next_event, earlier, before}
-use Rattle.srm_cell.specs.Cells.{step_at, own_step, handle, Idle}
+use Rattle.srm_cell.specs.Cells.{step_at, own_step, handle, time_of, Idle}
 use Rattle.srm_cell.specs.declared.pending.Pending.{Pending}
 use Rattle.srm_cell.specs.Pending.{Stands, sooner_pending}
 use Rattle.srm_cell.specs.Views.{HoldsRecord, due_in}
@@ -75,10 +75,18 @@ sooner_stands m c d e x y h g = grind (arith, sooner_by)
 
 -- ---- the own step
 
+-- where nothing is due before the end
+pub none_due : (till : ℕ) (o : Option Event) → ((u : ℕ) → time_of o ≡ Some u → till ≤ u) → before till o ≡ None
+none_due till None h = refl
+none_due till (Some e) h = ap (λ b. cond b (Some e) None) (le-ltb e.key.time till (h e.key.time refl))
+
 module _ (till m : ℕ) (p : PlainCell) where
-  pub none_pending : Stands m p None (next_event m p) → own_step till m p ≡ Idle
+  pub idle_step : before till (next_event m p) ≡ None → own_step till m p ≡ Idle
   unfolding own_step
-  none_pending h = ap (λ o. step_at (before till o)) h
+  idle_step h = ap step_at h
+
+  pub none_pending : Stands m p None (next_event m p) → own_step till m p ≡ Idle
+  none_pending h = idle_step (ap (before till) h)
 
   pub none_before : (q : Pending) → Stands m p (Some q) (next_event m p) → till ≤ q.key.time → own_step till m p ≡ Idle
   unfolding own_step

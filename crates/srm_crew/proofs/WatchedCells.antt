@@ -1,6 +1,7 @@
 -- The cells of a watched job, run one after the other: what is so after the first of them.
 use Rattle.std.proofs.Common.{◌≡◌, ◌∙◌, ◌<◌, ◌≤◌, ◌+◌, ◌^◌, ℕ, List, [], ◌∷◌, ◌++◌, All, length, take, drop, refl, sym, ap, subst}
-use Rattle.std.proofs.Common.{arith, append-nil, length-append, Result, Ok, Err, false, true≢false}
+use Rattle.std.proofs.Common.{◌≢◌, arith, append-nil, length-append, Option, Some, None, Result, Ok, Err, false, true≢false}
+use Rattle.std.specs.Option.{is_some}
 use Rattle.std.specs.Result.{is_err, IfOk}
 use Rattle.std.proofs.Math.Seq.{take-length}
 use Rattle.std.proofs.Math.ListN.{drop_of_length-le}
@@ -18,13 +19,15 @@ use Rattle.srm_cell.specs.declared.cell.Cell.{Cell}
 use Rattle.srm_cell.specs.declared.sent.Sent.{Sent}
 use Rattle.srm_cell.specs.declared.fault.CellFault.{CellFault}
 use Rattle.srm_cell.specs.declared.fault.CellFault.TheVariants as fault
-use Rattle.srm_cell.specs.Cells.{PlainCell}
+use Rattle.srm_cell.specs.Cells.{PlainCell, before, next_event}
 use Rattle.srm_cell.specs.Crossings.{crossings, joined, packets_of}
 use Rattle.srm_cell.specs.Hearing.{IsSent, packets_in}
 use Rattle.srm_cell.specs.Jobs.{Advances, AreCells, AreMembers, MayAdvance, OwnCell, RanEach, Runs, TellsFault}
 use Rattle.srm_cell.specs.Setting.{traffic_of}
 use Rattle.srm_cell.specs.Totalled.{IsSentBelow, numbers_of}
 use Rattle.srm_cell.specs.Views.{IsCell}
+use Rattle.srm_cell.proofs.Nexts.{idle_step}
+use Rattle.srm_cell.proofs.OwnRunLemmas.{after_none, end_now, rows_none}
 use Rattle.srm_cell.proofs.RowPackets.{joined-append, numbers_are}
 use Rattle.srm_cell.proofs.SentRows.{as_many, rows_below, rows_few}
 use Rattle.srm_cell.proofs.SoFar.{SoFar, first_of, so_far_all, so_far_fault, so_far_more, so_far_none}
@@ -32,7 +35,7 @@ use Rattle.srm_interfaces.specs.declared.watched.WatchedJob.{WatchedJob}
 use Rattle.srm_interfaces.specs.declared.watched.WatchedDone.{WatchedDone}
 use Rattle.srm_interfaces.specs.Watches.{KeepEach, job_in}
 use Rattle.srm_interfaces.proofs.WatchLemmas.{keep_one_more}
-use Rattle.srm_crew.specs.Watched.{AdvanceOne}
+use Rattle.srm_crew.specs.Watched.{AdvanceOne, IsOfMember}
 
 -- what is so where a call was not refused is so
 pub if_ok : {A E : Type 0} (r : Result A E) (P : Type 0) → is_err r ≡ false → IfOk r (λ _. P) → P
@@ -42,21 +45,38 @@ if_ok (Err x) P e h = absurd (true≢false e)
 -- ---- whose the rows are
 
 module _ {M : Type 0} (f : M → Record) (members : ℕ) where
-  -- the cell is that of one of so many members
-  abbrev pub IsOfMember : Cell M → Type 0
-  IsOfMember c = (m : ℕ) × (p : PlainCell) × IsCell f m c p × (m < members)
-
-  pub are_of_members : (cs : List (Cell M)) (qs : List OwnCell) → AreCells f cs qs → AreMembers members qs → All IsOfMember cs
-  are_of_members [] qs h a = All-nil IsOfMember
+  pub are_of_members : (cs : List (Cell M)) (qs : List OwnCell) → AreCells f cs qs → AreMembers members qs
+      → All (IsOfMember f members) cs
+  are_of_members [] qs h a = All-nil (IsOfMember f members)
   are_of_members (c ∷ cs) [] h a = absurd h
-  are_of_members (c ∷ cs) (q ∷ qs) h a = All-cons IsOfMember c cs (q.member, q.cell, h.0, a.0) (are_of_members cs qs h.1 a.1)
+  are_of_members (c ∷ cs) (q ∷ qs) h a =
+      All-cons (IsOfMember f members) c cs (q.member, q.cell, h.0, a.0) (are_of_members cs qs h.1 a.1)
 
-  pub sent_below : (till : ℕ) (c after : Cell M) (rows : List Row) → till ≤ end_of_time → IsOfMember c
+  pub sent_below : (till : ℕ) (c after : Cell M) (rows : List Row) → till ≤ end_of_time → IsOfMember f members c
       → Runs f till c (Ok rows) after → All (λ r. IsSentBelow members r.sent) rows
   sent_below till c after rows le o run =
       let q : OwnCell = record { member = o.0; cell = o.1 } in
       All-head (λ (rs : List Row). All (λ r. IsSentBelow members r.sent) rs) rows []
       (rows_below f till members (q ∷ []) (rows ∷ []) (after ∷ []) le (o.3, tt) (run o.0 o.1 o.2, tt))
+
+-- ---- where nothing is due
+
+none_of : {A : Type 0} (o : Option A) → is_some o ≡ false → o ≡ None
+none_of None h = refl
+none_of (Some x) h = absurd (true≢false h)
+
+pub runs_idle : {M : Type 0} (f : M → Record) (till : ℕ) (c : Cell M)
+    → ((m : ℕ) (p : PlainCell) → IsCell f m c p → is_some (before till (next_event m p)) ≡ false) → Runs f till c (Ok []) c
+runs_idle f till c h m p is = (
+  p,
+  record {
+    steps = 0;
+    ends = end_now till m p ∙ idle_step till m p (none_of (before till (next_event m p)) (h m p is));
+    rows_are = sym (rows_none till m p);
+    leaves = sym (after_none till m p);
+  },
+  is,
+)
 
 -- ---- what is so after the first of the cells
 
@@ -102,10 +122,13 @@ module _ {M K : Type 0} (f : M → Record) (keeps : K → List Row → Type 0) (
   }
 
   pub cells_fault : (cells left : List (Cell M)) (old new : List K) (sent : List Sent) (c after : Cell M) (e : CellFault)
-      → CellsSoFar cells (c ∷ left) old new sent → Runs f j.till c (Err e) after → AdvanceOne f keeps k net j (Err e)
+      → CellsSoFar cells (c ∷ left) old new sent → (e ≢ fault.NoMemory → Runs f j.till c (Err e) after)
+      → AdvanceOne f keeps k net j (Err e)
   cells_fault cells left old new sent c after fault.NoMemory s run = tt
-  cells_fault cells left old new sent c after fault.Spent s run = stops cells left old new sent c after fault.Spent s run
-  cells_fault cells left old new sent c after fault.CountFull s run = stops cells left old new sent c after fault.CountFull s run
+  cells_fault cells left old new sent c after fault.Spent s run =
+      stops cells left old new sent c after fault.Spent s (run (λ e. cc))
+  cells_fault cells left old new sent c after fault.CountFull s run =
+      stops cells left old new sent c after fault.CountFull s (run (λ e. cc))
 
   -- ---- what is so after all
 

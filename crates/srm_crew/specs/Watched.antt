@@ -1,14 +1,17 @@
 -- A watched job, advanced.
-use Rattle.std.specs.Prelude.{◌≡◌, List, All, length, Result, Ok, Err}
+use Rattle.std.specs.Prelude.{◌≡◌, ◌<◌, ℕ, List, All, length, Result, Ok, Err}
 use Rattle.std.specs.Global.{Vec}
 use Rattle.srm_net.specs.Network.{Network}
 use Rattle.srm_scenario.specs.Plain.{PlainScenario}
 use Rattle.srm_member.specs.declared.row.Row.{Row}
 use Rattle.srm_member.specs.Record.{Record}
+use Rattle.srm_cell.specs.declared.cell.Cell.{Cell}
 use Rattle.srm_cell.specs.declared.job.Done as job
 use Rattle.srm_cell.specs.declared.fault.CellFault.{CellFault}
 use Rattle.srm_cell.specs.declared.fault.CellFault.TheVariants as fault
+use Rattle.srm_cell.specs.Cells.{PlainCell}
 use Rattle.srm_cell.specs.Jobs.{Advances, MayAdvance}
+use Rattle.srm_cell.specs.Views.{IsCell}
 use Rattle.srm_ledger.specs.Seats.{SeatView}
 use Rattle.srm_interfaces.specs.declared.fault.CrewFault.{CrewFault}
 use Rattle.srm_interfaces.specs.declared.fault.CrewFault.TheVariants as crew
@@ -23,6 +26,10 @@ use Rattle.srm_interfaces.specs.Watches.{HaveKept, Watches, job_in, jobs_in}
 -- the work is on runs of this scenario on this network
 abbrev pub IsWatchOn : {W : Type 0} → Watching W → PlainScenario → Network → Type 0
 IsWatchOn w k net = (w.session.scenario.now ≡ k) × (w.session.net.now ≡ net)
+
+-- the cell is that of one of so many members
+abbrev pub IsOfMember : {M : Type 0} → (M → Record) → ℕ → Cell M → Type 0
+IsOfMember f members c = (m : ℕ) × (p : PlainCell) × IsCell f m c p × (m < members)
 
 module _ {M K : Type 0} where
   -- what advancing one watched job tells: what is left of what is done of it; or why not, as without a watch, but

@@ -79,12 +79,12 @@ fn work_in_team<
     }
 }
 
-// Advances each job, in pieces that a team works on.
+// Advances each job, in pieces that a team works on. In all of them about `due` events are due.
 fn advance_in_team<'a, R: Wait, M: Participant, K: Drop, W: Watch<K> + Copy, J: Naming>(
     rt: &R,
-    alloc: Global,
     team: &mut Team<Watching<'a, W>, Piece<M, K>, Worked<M, K>, J>,
     work: Watching<'a, W>,
+    due: usize,
     jobs: Vec<WatchedJob<M, K>>,
 ) -> Result<Vec<WatchedDone<M, K>>, CellFault>
     requires { MayWatch M.plain work.session.net.now jobs.items }
@@ -92,11 +92,11 @@ fn advance_in_team<'a, R: Wait, M: Participant, K: Drop, W: Watch<K> + Copy, J: 
         work.entry.session.net.now jobs.items result }
     ensures room { team.new.room ≡ team.old.room }
 {
+    let alloc = work.alloc;
     let room = team.room();
     if room == 0 {
-        return advance_watched(alloc, work.session, &work.watch, jobs);
+        return advance_watched(&work, jobs);
     }
-    let due = due_in_all(jobs.as_slice());
     let Ok(pieces) = pieces_of(alloc, jobs, (due / room).max(1), room - 1) else {
         return Err(CellFault::NoMemory);
     };
@@ -210,15 +210,16 @@ impl<'a, R: Wait, M: Participant, K: Drop, W: Watch<K> + Copy, J: Naming> WatchC
         ensures stays { (self.new.work ≡ self.old.work) × (self.new.team.room ≡ self.old.team.room)
             × (self.new.few ≡ self.old.few) }
     {
-        let advanced = if due_in_all(jobs.as_slice()) < self.few {
-            advance_watched(alloc, session, &watch, jobs)
+        let work = Watching {
+            alloc,
+            session: self.work.session,
+            watch,
+        };
+        let due = due_in_all(jobs.as_slice());
+        let advanced = if due < self.few {
+            advance_watched(&work, jobs)
         } else {
-            let work = Watching {
-                alloc: self.work.alloc,
-                session: self.work.session,
-                watch,
-            };
-            advance_in_team(&self.rt, alloc, &mut self.team, work, jobs)
+            advance_in_team(&self.rt, &mut self.team, work, due, jobs)
         };
         settle_watched(ledger, seat, advanced)
     }

@@ -1,13 +1,20 @@
 //! What a team's worker does.
-ghost use Rattle.std.specs.Prelude.{length, All};
-ghost use Rattle.srm_cell.specs.Jobs.{MayAdvance};
+ghost use Rattle.std.specs.Prelude.{◌≡◌, ◌≢◌, ◌≤◌, ◌++◌, List, Ok, Err, IfErr, OnOk, length, All};
+ghost use Rattle.srm_net.specs.Limits.{end_of_time};
+ghost use Rattle.srm_member.specs.declared.row.Row.{Row as OneRow};
+ghost use Rattle.srm_cell.specs.Crossings.{packets_of};
+ghost use Rattle.srm_cell.specs.Hearing.{IsSent, packets_in};
+ghost use Rattle.srm_cell.specs.Jobs.{MayAdvance, Runs};
 ghost use Rattle.srm_interfaces.specs.Watches.{job_in, AdvanceWatched, HaveKept};
-ghost use Rattle.srm_crew.specs.Watched.{AdvanceOne, MayWatch};
+ghost use Rattle.srm_crew.specs.Watched.{AdvanceOne, IsOfMember, MayWatch};
 
 use crate::piece::Piece;
+use crate::pieces::is_due;
 use crate::worked::Worked;
+use srm_cell::cell::Cell;
 use srm_cell::crossings::Crossings;
 use srm_cell::fault::CellFault;
+use srm_cell::sent::Sent;
 use srm_interfaces::hearing::hear_groups;
 use srm_interfaces::watch::Watch;
 use srm_interfaces::watched::{WatchedDone, WatchedJob, add_sent};
@@ -31,17 +38,16 @@ pub struct Watching<'a, W> {
 /// Advances each job, one after the other, and keeps of the rows what the watch keeps. Only the rows of one cell are there at a
 /// time.
 pub(crate) fn advance_watched<M: Participant, K: Drop, W: Watch<K>>(
-    alloc: Global,
-    session: Session,
-    watch: &W,
+    work: &Watching<W>,
     jobs: Vec<WatchedJob<M, K>>,
 ) -> Result<Vec<WatchedDone<M, K>>, CellFault>
-    requires { MayWatch M.plain session.net.now jobs.items }
-    ensures { AdvanceWatched M.plain (W.keeps watch.now) session.entry.scenario.now session.entry.net.now jobs.items result }
+    requires { MayWatch M.plain work.now.session.net.now jobs.items }
+    ensures { AdvanceWatched M.plain (W.keeps work.now.watch) work.now.session.scenario.now work.now.session.net.now jobs.items
+        result }
 {
-    let mut all = Vec::new(alloc);
+    let mut all = Vec::new(work.alloc);
     for job in jobs {
-        let done = match advance_one(alloc, session, watch, job) {
+        let done = match advance_one(work, job) {
             Ok(done) => done,
             Err(fault) => return Err(fault),
         };
@@ -54,14 +60,12 @@ pub(crate) fn advance_watched<M: Participant, K: Drop, W: Watch<K>>(
 
 // Advances a job cell by cell, and keeps of the rows what the watch keeps. Only the rows of one cell are there at a time.
 fn advance_one<M: Participant, K: Drop, W: Watch<K>>(
-    alloc: Global,
-    session: Session,
-    watch: &W,
+    work: &Watching<W>,
     job: WatchedJob<M, K>,
 ) -> Result<WatchedDone<M, K>, CellFault>
-    requires job { MayAdvance M.plain (length session.net.now.hosts) (job_in job) }
+    requires job { MayAdvance M.plain (length work.now.session.net.now.hosts) (job_in job) }
     requires kept { HaveKept job }
-    ensures { AdvanceOne M.plain (W.keeps watch.now) session.entry.scenario.now session.entry.net.now job result }
+    ensures { AdvanceOne M.plain (W.keeps work.now.watch) work.now.session.scenario.now work.now.session.net.now job result }
 {
     let WatchedJob {
         place,
@@ -71,22 +75,16 @@ fn advance_one<M: Participant, K: Drop, W: Watch<K>>(
     } = job;
     let mut cells = cells;
     let mut kept = kept;
-    let mut sent = Vec::new(alloc);
+    let mut sent = Vec::new(work.alloc);
     let mut index = 0;
     for cell in cells.iter_mut() {
-        let rows = match cell.run(alloc, till) {
-            Ok(rows) => rows,
+        match run_watched(work, till, cell, &mut kept[index], &mut sent) {
+            Ok(()) => {}
             Err(fault) => return Err(fault),
-        };
-        let rows = rows.as_slice();
-        if watch.add(&mut kept[index], rows).is_err()
-            || add_sent(alloc, session, rows, &mut sent).is_err()
-        {
-            return Err(CellFault::NoMemory);
         }
         index += 1;
     }
-    let Ok(crossings) = Crossings::of(alloc, session, sent.as_slice()) else {
+    let Ok(crossings) = Crossings::of(work.alloc, work.session, sent.as_slice()) else {
         return Err(CellFault::NoMemory);
     };
     Ok(WatchedDone {
@@ -96,6 +94,40 @@ fn advance_one<M: Participant, K: Drop, W: Watch<K>>(
         sent,
         crossings,
     })
+}
+
+// Runs a cell to tick `till`. The watch takes in its rows, and what was sent in them is put behind what was sent before. Where
+// nothing is due, all stays as it is.
+fn run_watched<M: Participant, K, W: Watch<K>>(
+    work: &Watching<W>,
+    till: u64,
+    cell: &mut Cell<M>,
+    kept: &mut K,
+    sent: &mut Vec<Sent>,
+) -> Result<(), CellFault>
+    requires till { till ≤ end_of_time }
+    requires member { IsOfMember M.plain (length work.now.session.net.now.hosts) cell.old }
+    requires sent { All (λ x. IsSent work.now.session.scenario.now work.now.session.net.now x) sent.old.items }
+    ensures ran { OnOk result ((rows : List OneRow) × Runs M.plain till cell.old (Ok rows) cell.new
+        × ((before : List OneRow) → W.keeps work.now.watch kept.old before → W.keeps work.now.watch kept.new (before ++ rows))
+        × (packets_in sent.new.items ≡ packets_in sent.old.items ++ packets_of rows)) }
+    ensures sent { OnOk result (All (λ x. IsSent work.now.session.scenario.now work.now.session.net.now x) sent.new.items) }
+    ensures refused { IfErr result (λ e. e ≢ CellFault.NoMemory → Runs M.plain till cell.old (Err e) cell.new) }
+{
+    if !is_due(cell, till) {
+        return Ok(());
+    }
+    let rows = match cell.run(work.alloc, till) {
+        Ok(rows) => rows,
+        Err(fault) => return Err(fault),
+    };
+    let rows = rows.as_slice();
+    if work.watch.add(kept, rows).is_err()
+        || add_sent(work.alloc, work.session, rows, sent).is_err()
+    {
+        return Err(CellFault::NoMemory);
+    }
+    Ok(())
 }
 
 impl<'a, M: Participant, K: Drop, W: Watch<K> + Copy> Work<Piece<M, K>, Worked<M, K>>
@@ -110,7 +142,7 @@ impl<'a, M: Participant, K: Drop, W: Watch<K> + Copy> Work<Piece<M, K>, Worked<M
     fn work(&self, piece: Piece<M, K>) -> Worked<M, K> {
         match piece {
             Piece::Jobs { jobs } => Worked::Advanced {
-                done: advance_watched(self.alloc, self.session, &self.watch, jobs),
+                done: advance_watched(self, jobs),
             },
             Piece::Hearers { sent, groups } => Worked::Heard {
                 groups: hear_groups(self.alloc, self.session, sent.as_slice(), groups),

@@ -1,7 +1,7 @@
 -- How soon something is due in each group, after own runs and after packets were heard.
 use Rattle.std.proofs.Common.{◌≡◌, ◌⊎◌, inl, inr, ℕ, zero, suc, ◌+◌, ◌-◌, ◌*◌, ◌/◌, ◌%◌, ◌<◌, ◌≤◌, true, false, cond, List, [], ◌∷◌}
 use Rattle.std.proofs.Common.{◌++◌, Option, Some, None, Ordering, Less, Equal, Greater, refl, sym, ap, ◌∙◌, subst, arith, slice_get}
-use Rattle.std.proofs.Common.{slice_set, get_or, length, length-append, nat_lt, le-ltb, zero-add}
+use Rattle.std.proofs.Common.{slice_set, get_or, length, length-append, nat_lt, zero-add}
 use Rattle.std.proofs.Math.Nat.{suc-mul}
 use Rattle.std.proofs.lemmas.Bool.Decides.{nat_tests}
 use Rattle.std.proofs.lemmas.Nat.{div-mul-add}
@@ -16,10 +16,11 @@ use Rattle.srm_cell.specs.declared.cell.Cell.{Cell}
 use Rattle.srm_cell.specs.declared.pending.Pending.{Pending}
 use Rattle.srm_cell.specs.Setting.{Setting}
 use Rattle.srm_cell.specs.Pending.{Stands, arriving}
-use Rattle.srm_cell.specs.Cells.{PlainCell, Event, Idle, next_event, time_of, before, step_at, own_step, hear_at}
+use Rattle.srm_cell.specs.Cells.{PlainCell, Idle, next_event, time_of, own_step, hear_at}
 use Rattle.srm_cell.specs.OwnRuns.{own_after}
 use Rattle.srm_cell.proofs.CellLemmas.{first_le}
 use Rattle.srm_cell.proofs.Heard.{stands_heard}
+use Rattle.srm_cell.proofs.Nexts.{idle_step, none_due}
 use Rattle.srm_cell.proofs.OwnRunLemmas.{after_idle}
 use Rattle.srm_engine.specs.declared.soonest.Soonest.{Soonest}
 use Rattle.srm_engine.specs.Groups.{AreCuts, AreGrouped, sizes, all_in}
@@ -129,14 +130,6 @@ as_many_kept s cut gs xs ps pos cuts all soon = elim (nat_lt (length xs) (length
 
 -- ---- after own runs
 
-not_before : (till : ℕ) (o : Option Event) → ((u : ℕ) → time_of o ≡ Some u → till ≤ u) → before till o ≡ None
-not_before till None h = refl
-not_before till (Some e) h = ap (λ b. cond b (Some e) None) (le-ltb e.key.time till (h e.key.time refl))
-
-idle_step : (till m : ℕ) (c : PlainCell) → ((u : ℕ) → due m c ≡ Some u → till ≤ u) → own_step till m c ≡ Idle
-unfolding own_step
-idle_step till m c h = ap step_at (not_before till (next_event m c) h)
-
 -- a cell in which nothing is due before the end is as it was
 idle_from : (till i : ℕ) (cs : List PlainCell) (rs : List OwnResult) → AreOwnRuns till i cs rs → (j : ℕ) (c : PlainCell) → slice_get cs j
     ≡ Some c
@@ -146,7 +139,8 @@ idle_from till i (x ∷ cs) [] h j c get late = absurd h
 idle_from till i (x ∷ cs) (r ∷ rs) h zero c get late =
     let same = same_Some x c get in
     let here : i + 0 ≡ i = omega arith in
-    let idle : own_step till i c ≡ Idle = idle_step till i c (λ u e. late u (ap (λ m. due m c) here ∙ e)) in
+    let idle : own_step till i c ≡ Idle = idle_step till i c
+    (none_due till (next_event i c) (λ u e. late u (ap (λ m. due m c) here ∙ e))) in
     let run = h.0 in
     ap Some (run.leaves ∙ ap (λ d. own_after till i run.steps d) same ∙ after_idle till i run.steps c idle)
 idle_from till i (x ∷ cs) (r ∷ rs) h (suc j) c get late =

@@ -190,6 +190,9 @@ impl<M: Participant> Groups<M> {
         ensures heard { IfOk result (λ heard. (seed : ℕ) (rows : List OneRow) → packets_of rows ≡ packets_in sent.items
             → HearsInSomeOrder M.plain (setting_on session.entry seed) rows self heard) }
     {
+        if sent.is_empty() {
+            return Ok(self);
+        }
         let Groups { cut, groups, .. } = self;
         let sent = in_order_of_sending(sent)?;
         let groups = crew.hear(alloc, session, sent, groups)?;

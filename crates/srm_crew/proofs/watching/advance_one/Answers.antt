@@ -1,27 +1,25 @@
-use Rattle.std.proofs.Common.{◌≡◌, ◌∙◌, ◌<◌, ◌≤◌, ◌+◌, ◌^◌, ◌++◌, ◌∷◌, [], List, All, length, take, drop, get_or, slice_set, false}
+use Rattle.std.proofs.Common.{◌≡◌, ◌∙◌, ◌<◌, ◌+◌, ◌^◌, ◌++◌, ◌∷◌, [], List, All, length, take, drop, get_or, slice_set}
 use Rattle.std.proofs.Common.{refl, sym, ap, subst, add-one, arith}
-use Rattle.std.specs.Result.{is_err}
 use Rattle.std.specs.Vec.{with_items}
 use Rattle.std.proofs.Math.Seq.{take-suc}
-use Rattle.std.proofs.lemmas.List.{drop_more, drop-set-lt, length-map, length-set, take_more_set, with_items_is}
+use Rattle.std.proofs.lemmas.List.{drop_more, drop-set-lt, length-set, take_more_set, with_items_is}
 use Rattle.std.proofs.lemmas.List.Elements.{All-nil, All-head, All-tail}
-use Rattle.srm_net.specs.Limits.{end_of_time}
 use Rattle.srm_member.specs.declared.row.Row.{Row}
 use Rattle.srm_cell.specs.declared.sent.Sent.{Sent}
-use Rattle.srm_cell.specs.Crossings.{packets_of}
 use Rattle.srm_cell.specs.Hearing.{IsSent, packets_in}
 use Rattle.srm_cell.specs.Setting.{traffic_of}
-use Rattle.srm_cell.specs.Totalled.{IsSentBelow, numbers_of}
-use Rattle.srm_crew.proofs.WatchedCells.{CellsSoFar, IsOfMember, are_of_members, cells_all, cells_fault, cells_more, cells_none}
-use Rattle.srm_crew.proofs.WatchedCells.{cells_past, few_sent, if_ok, sent_below}
+use Rattle.srm_cell.specs.Totalled.{numbers_of}
+use Rattle.srm_crew.specs.Watched.{IsOfMember}
+use Rattle.srm_crew.proofs.WatchedCells.{CellsSoFar, are_of_members, cells_all, cells_fault, cells_more, cells_none}
+use Rattle.srm_crew.proofs.WatchedCells.{cells_past, few_sent}
 use Rattle.srm_crew.proofs.watching.advance_one.Goals as goal
 
 pub loop-cell-init : goal.loop-cell-init
 loop-cell-init g c =
     let f = g.M.Participant.plain in
-    let keeps = g.W.Watch.keeps c.args.watch.now in
-    let k = c.args.session.scenario.now in
-    let net = c.args.session.net.now in
+    let keeps = g.W.Watch.keeps c.args.work.now.watch in
+    let k = c.args.work.now.session.scenario.now in
+    let net = c.args.work.now.session.net.now in
     let job = c.args.job in
     let may = c.requires.job in
     let shown = c.deref_mut-cell-items.ensures.value in (
@@ -37,26 +35,18 @@ loop-cell-init g c =
       subst (All (λ x. IsSent k net x)) (sym c.new-sent.ensures.items) (All-nil (λ x. IsSent k net x)),
     )
 
-pub add_sent-requires-clause-sent : goal.add_sent-requires-clause-sent
-add_sent-requires-clause-sent g c =
-    let f = g.M.Participant.plain in
-    let n = length c.args.session.net.now.hosts in
+pub run_watched-requires-clause-till : goal.run_watched-requires-clause-till
+run_watched-requires-clause-till g c = let till = c.requires.job.is.till in let most = c.requires.job.till in omega arith
+
+pub run_watched-requires-clause-member : goal.run_watched-requires-clause-member
+run_watched-requires-clause-member g c =
     let i = c.loop-cell.cell-index in
     let cells = c.loop-cell.cell-items in
-    let cell = get_or cells i c.cell-item.result in
     let same = c.loop-cell.auto.cell-items in
     let test = c.loop-cell-test.true in
     let within : i < length cells = omega arith in
-    let till = c.requires.job.is.till in
-    let most = c.requires.job.till in
-    let le : c.args.job.till ≤ end_of_time = omega arith in
-    let hosts : n ≡ length c.args.session.scenario.now.members =
-    ap (λ w. length w.hosts) c.args.session.network ∙ length-map c.args.session.scenario.now.members (λ m. m.node) in
-    let of : IsOfMember f n cell = All-head (IsOfMember f n) _ _
-    (rw (drop_more cells i c.cell-item.result within) at c.loop-cell.invariant.4) in
-    subst (All (λ (r : Row). IsSentBelow (length c.args.session.scenario.now.members) r.sent)) (sym c.as_slice-rows.ensures)
-    (subst (λ m. All (λ (r : Row). IsSentBelow m r.sent) c.in-Ok.rows) hosts
-    (sent_below f n c.args.job.till cell c.run.new.self c.in-Ok.rows le of c.in-Ok.ensures))
+    All-head (IsOfMember g.M.Participant.plain (length c.args.work.now.session.net.now.hosts)) _ _
+    (rw (drop_more cells i c.cell-item.result within) at c.loop-cell.invariant.4)
 
 pub returns-in-Err : goal.returns-in-Err
 returns-in-Err g c =
@@ -66,23 +56,26 @@ returns-in-Err g c =
     let same = c.loop-cell.auto.cell-items in
     let test = c.loop-cell-test.true in
     let within : i < length cells = omega arith in
-    cells_fault g.M.Participant.plain (g.W.Watch.keeps c.args.watch.now) c.args.session.scenario.now c.args.session.net.now c.args.job
-    (take i cells) (drop (i + 1) cells) (take i c.args.job.kept.items) (take i c.loop-cell.kept.items) c.loop-cell.sent.items cell
-    c.run.new.self c.in-Err.fault (rw (drop_more cells i c.cell-item.result within) at c.loop-cell.invariant.5) c.in-Err.ensures
+    cells_fault g.M.Participant.plain (g.W.Watch.keeps c.args.work.now.watch) c.args.work.now.session.scenario.now
+    c.args.work.now.session.net.now c.args.job (take i cells) (drop (i + 1) cells) (take i c.args.job.kept.items)
+    (take i c.loop-cell.kept.items) c.loop-cell.sent.items cell
+    c.run_watched.new.cell c.in-Err.fault (rw (drop_more cells i c.cell-item.result within) at c.loop-cell.invariant.5)
+    c.in-Err.ensures.refused
 
 pub loop-cell-preserved : goal.loop-cell-preserved
 loop-cell-preserved g c =
     let f = g.M.Participant.plain in
-    let keeps = g.W.Watch.keeps c.args.watch.now in
-    let k = c.args.session.scenario.now in
-    let net = c.args.session.net.now in
+    let keeps = g.W.Watch.keeps c.args.work.now.watch in
+    let k = c.args.work.now.session.scenario.now in
+    let net = c.args.work.now.session.net.now in
     let i = c.loop-cell.cell-index in
     let cells = c.loop-cell.cell-items in
     let cell = get_or cells i c.cell-item.result in
-    let after = c.run.new.self in
+    let after = c.run_watched.new.cell in
     let was = c.args.job.kept.items in
     let now = c.loop-cell.kept.items in
-    let new = c.add.new.kept in
+    let new = c.run_watched.new.kept in
+    let ran = c.in-Ok.ensures.ran in
     let d = c.index_mut.result.now in
     let sent = c.loop-cell.sent.items in
     let at : c.loop-cell.index ≡ i = c.loop-cell.invariant.0 in
@@ -98,14 +91,8 @@ loop-cell-preserved g c =
     let first : get_or was i d ≡ get_or now i d = cc in
     let rest : drop (i + 1) now ≡ drop (i + 1) was = cc in
     let old : get_or was i d ≡ d = first ∙ sym (c.index_mut.ensures.value ∙ ap (λ n. get_or now n d) at) in
-    let kept_here : is_err c.add.result ≡ false = sym c.is_err.ensures.value ∙ c.if-is_err.false in
-    let sent_here : is_err c.add_sent.result ≡ false = sym c.is_err-else-is_err.ensures.value ∙ c.if-is_err-2.false in
-    let kept : (whole : List Row) → keeps (get_or was i d) whole → keeps new (whole ++ c.in-Ok.rows) =
-    λ whole h. subst (λ rs. keeps new (whole ++ rs)) c.as_slice-rows.ensures
-    (if_ok c.add.result _ kept_here c.add.ensures whole (subst (λ x. keeps x whole) old h)) in
-    let packets : packets_in c.add_sent.new.all.items ≡ packets_in sent ++ packets_of c.in-Ok.rows =
-    if_ok c.add_sent.result _ sent_here c.add_sent.ensures.packets
-    ∙ ap (λ (rs : List Row). packets_in sent ++ packets_of rs) c.as_slice-rows.ensures in (
+    let kept : (whole : List Row) → keeps (get_or was i d) whole → keeps new (whole ++ ran.0) =
+    λ whole h. ran.2 whole (subst (λ x. keeps x whole) old h) in (
       ap (λ n. n + 1) at,
       length-set cells i after ∙ many,
       length-set now c.loop-cell.index new ∙ long,
@@ -120,17 +107,17 @@ loop-cell-preserved g c =
         ap (λ n. take (i + 1) (slice_set now n new)) at ∙ take_more_set now i new there,
       )
           (cells_more f keeps k net c.args.job (take i cells) (drop (i + 1) cells) (take i was) (take i now) sent
-          c.add_sent.new.all.items cell after c.in-Ok.rows (get_or was i d) new
-          (rw (drop_more cells i c.cell-item.result within) at c.loop-cell.invariant.5) c.in-Ok.ensures kept packets),
-      if_ok c.add_sent.result _ sent_here c.add_sent.ensures.sent,
+          c.run_watched.new.sent.items cell after ran.0 (get_or was i d) new
+          (rw (drop_more cells i c.cell-item.result within) at c.loop-cell.invariant.5) ran.1 kept ran.3),
+      c.in-Ok.ensures.sent,
     )
 
 pub of-requires-clause-few : goal.of-requires-clause-few
 of-requires-clause-few g c =
     let f = g.M.Participant.plain in
-    let keeps = g.W.Watch.keeps c.args.watch.now in
-    let k = c.args.session.scenario.now in
-    let net = c.args.session.net.now in
+    let keeps = g.W.Watch.keeps c.args.work.now.watch in
+    let k = c.args.work.now.session.scenario.now in
+    let net = c.args.work.now.session.net.now in
     let i = c.loop-cell.cell-index in
     let cells = c.loop-cell.cell-items in
     let was = c.args.job.kept.items in
@@ -148,9 +135,9 @@ of-requires-clause-few g c =
 pub returns : goal.returns
 returns g c =
     let f = g.M.Participant.plain in
-    let keeps = g.W.Watch.keeps c.args.watch.now in
-    let k = c.args.session.scenario.now in
-    let net = c.args.session.net.now in
+    let keeps = g.W.Watch.keeps c.args.work.now.watch in
+    let k = c.args.work.now.session.scenario.now in
+    let net = c.args.work.now.session.net.now in
     let i = c.loop-cell.cell-index in
     let cells = c.loop-cell.cell-items in
     let was = c.args.job.kept.items in

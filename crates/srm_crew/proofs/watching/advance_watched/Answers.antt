@@ -15,12 +15,13 @@ loop-job-init g c = (
   rw c.into_iter-job-iterator.ensures.into_iter_gives.0 c.requires.0,
   rw c.into_iter-job-iterator.ensures.into_iter_gives.0 c.requires.1,
   rw (c.into_iter-job-iterator.ensures.into_iter_gives.0, c.new-all.ensures.items)
-      (watched_none g.M.Participant.plain (g.W.Watch.keeps c.args.watch.now) c.args.session.scenario.now c.args.session.net.now
-      c.args.jobs.items),
+      (watched_none g.M.Participant.plain (g.W.Watch.keeps c.args.work.now.watch) c.args.work.now.session.scenario.now
+      c.args.work.now.session.net.now c.args.jobs.items),
 )
 
 pub advance_one-requires-clause-job : goal.advance_one-requires-clause-job
-advance_one-requires-clause-job g c = All-head (λ j. MayAdvance g.M.Participant.plain (length c.args.session.net.now.hosts) j) _ _
+advance_one-requires-clause-job g c =
+    All-head (λ j. MayAdvance g.M.Participant.plain (length c.args.work.now.session.net.now.hosts) j) _ _
     (rw c.in-Some.ensures.steps.0 at c.loop-job.invariant.2)
 
 pub advance_one-requires-clause-kept : goal.advance_one-requires-clause-kept
@@ -32,20 +33,20 @@ loop-job-preserved g c =
     (sym c.is_err.ensures.value ∙ c.if-is_err.false) c.push.ensures.items in (
       tt,
       tt,
-      All-tail (λ j. MayAdvance g.M.Participant.plain (length c.args.session.net.now.hosts) j) _ _
+      All-tail (λ j. MayAdvance g.M.Participant.plain (length c.args.work.now.session.net.now.hosts) j) _ _
           (rw c.in-Some.ensures.steps.0 at c.loop-job.invariant.2),
       All-tail HaveKept _ _ (rw c.in-Some.ensures.steps.0 at c.loop-job.invariant.3),
-      rw all (watched_more g.M.Participant.plain (g.W.Watch.keeps c.args.watch.now) c.args.session.scenario.now
-          c.args.session.net.now c.args.jobs.items
+      rw all (watched_more g.M.Participant.plain (g.W.Watch.keeps c.args.work.now.watch) c.args.work.now.session.scenario.now
+          c.args.work.now.session.net.now c.args.jobs.items
           c.loop-job.all.items c.in-Some.job (into_iter_items c.next.new.self) c.in-Ok.done
           (rw c.in-Some.ensures.steps.0 at c.loop-job.invariant.4) c.in-Ok.ensures),
     )
 
 pub returns-in-Err : goal.returns-in-Err
-returns-in-Err g c = watched_fault g.M.Participant.plain (g.W.Watch.keeps c.args.watch.now) c.args.session.scenario.now
-    c.args.session.net.now
-    c.args.jobs.items c.loop-job.all.items c.in-Some.job (into_iter_items c.next.new.self) c.in-Err.fault
-    (rw c.in-Some.ensures.steps.0 at c.loop-job.invariant.4) c.in-Err.ensures
+returns-in-Err g c =
+    watched_fault g.M.Participant.plain (g.W.Watch.keeps c.args.work.now.watch) c.args.work.now.session.scenario.now
+    c.args.work.now.session.net.now c.args.jobs.items c.loop-job.all.items c.in-Some.job (into_iter_items c.next.new.self)
+    c.in-Err.fault (rw c.in-Some.ensures.steps.0 at c.loop-job.invariant.4) c.in-Err.ensures
 
 pub returns-then-is_err : goal.returns-then-is_err
 returns-then-is_err g c = record { tells = λ ps h. tt }
@@ -54,6 +55,6 @@ pub returns : goal.returns
 returns g c =
     let ok = c.loop-job.job-iterator.rest.ok in
     let none : into_iter_items c.loop-job.job-iterator ≡ [] = grind (arith, common_steps) in
-    watched_all g.M.Participant.plain (g.W.Watch.keeps c.args.watch.now) c.args.session.scenario.now c.args.session.net.now
-    c.args.jobs.items
+    watched_all g.M.Participant.plain (g.W.Watch.keeps c.args.work.now.watch) c.args.work.now.session.scenario.now
+    c.args.work.now.session.net.now c.args.jobs.items
     c.loop-job.all.items (into_iter_items c.loop-job.job-iterator) c.loop-job.invariant.4 none

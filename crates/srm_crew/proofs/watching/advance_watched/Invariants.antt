@@ -10,7 +10,7 @@ abbrev pub invariant-loop-job : goal.invariant-loop-job
 invariant-loop-job g l =
     (goal.iterator-loop-job g).can_next l.job-iterator
     × (goal.iterator-loop-job g).is_finite l.job-iterator
-    × All (λ j. MayAdvance g.M.Participant.plain (length l.session.net.now.hosts) j) (jobs_in (into_iter_items l.job-iterator))
+    × All (λ j. MayAdvance g.M.Participant.plain (length l.work.session.net.now.hosts) j) (jobs_in (into_iter_items l.job-iterator))
     × All HaveKept (into_iter_items l.job-iterator)
-    × WatchedSoFar g.M.Participant.plain (g.W.Watch.keeps l.watch) l.session.scenario.now l.session.net.now l.fn.jobs.items l.all.items
-    (into_iter_items l.job-iterator)
+    × WatchedSoFar g.M.Participant.plain (g.W.Watch.keeps l.work.watch) l.work.session.scenario.now l.work.session.net.now
+    l.fn.jobs.items l.all.items (into_iter_items l.job-iterator)

@@ -1,5 +1,5 @@
-use Rattle.std.proofs.Common.{◌≡◌, ◌∙◌, List, sym, ap, subst, length, arith, IsPermutation}
-use Rattle.std.proofs.lemmas.List.Sorted.{IsPermutation-map, All-permutation}
+use Rattle.std.proofs.Common.{◌≡◌, ◌∙◌, ◌==◌, ◌∷◌, [], List, ℕ, eqb-true, refl, sym, ap, subst, length, arith, true, IsPermutation}
+use Rattle.std.proofs.lemmas.List.Sorted.{IsPermutation-map, IsPermutation-refl, All-permutation}
 use Rattle.srm_net.specs.declared.packet.Packet.{Packet}
 use Rattle.srm_member.specs.declared.row.Row.{Row}
 use Rattle.srm_cell.specs.declared.sent.Sent.{Sent}
@@ -8,9 +8,9 @@ use Rattle.srm_cell.specs.Crossings.{packets_of}
 use Rattle.srm_cell.specs.Hearing.{IsSent, packets_in}
 use Rattle.srm_interfaces.specs.Hearers.{GroupsMayHear, GroupsHear}
 use Rattle.srm_model.specs.WindowRuns.{each_hears}
-use Rattle.srm_model.proofs.WindowRows.{length-each_hears}
+use Rattle.srm_model.proofs.WindowRows.{length-each_hears, packets_are_heard_in_turn}
 use Rattle.srm_engine.specs.Starts.{setting_on}
-use Rattle.srm_engine.specs.Groups.{AreCuts, AreGrouped, sizes, all_in}
+use Rattle.srm_engine.specs.Groups.{AreCuts, AreGrouped, AreKept, sizes, all_in}
 use Rattle.srm_engine.proofs.HeardRows.{rows_that_send, groups_may, groups_long, groups_heard}
 use Rattle.srm_engine.proofs.groups.Groups.heard_from.Goals as goal
 
@@ -20,6 +20,24 @@ in_order : (rows : List Row) (sent all : List Sent) → packets_of rows ≡ pack
 in_order rows sent all is h =
     rows_that_send rows (packets_in all)
     (subst (λ l. IsPermutation l (packets_in all)) (sym is) (IsPermutation-map (λ (x : Sent). x.packet) sent all h))
+
+-- a vector with no items
+no_items : {A : Type 0} (n : ℕ) (xs : List A) → n ≡ length xs → (n == 0) ≡ true → xs ≡ []
+no_items n [] long zero = refl
+no_items n (x ∷ xs) long zero = let none = eqb-true n 0 zero in absurd (omega arith)
+
+pub returns-then-is_empty-clause-handed : goal.returns-then-is_empty-clause-handed
+returns-then-is_empty-clause-handed g c = g.met.C.WatchCrew.handed_none c.args.crew.now
+
+pub returns-then-is_empty-clause-heard : goal.returns-then-is_empty-clause-heard
+returns-then-is_empty-clause-heard g c = λ seed rows is.
+    let s = setting_on c.args.session seed in
+    let none : c.args.sent.items ≡ [] = no_items c.args.sent.len c.args.sent.items c.args.sent.ok.0
+    (sym c.is_empty.ensures ∙ c.if-is_empty.true) in (
+      [],
+      subst (λ ps. IsPermutation ps []) (sym (is ∙ ap packets_in none)) (IsPermutation-refl []),
+      λ ps h. subst (AreKept g.M.Participant.plain s c.args.self) (sym (packets_are_heard_in_turn s ps).0) h,
+    )
 
 pub hear-requires-clause-sent : goal.hear-requires-clause-sent
 hear-requires-clause-sent g c =
