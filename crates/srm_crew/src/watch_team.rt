@@ -184,6 +184,12 @@ impl<'a, R: Wait, M: Participant, K: Drop, W: Watch<K> + Copy, J: Naming> WatchC
     // are few.
     ghost handed = { λ a _ b. (b.work ≡ a.work) × (b.team.room ≡ a.team.room) × (b.few ≡ a.few) };
 
+    ghost same = { λ a b. (b.work ≡ a.work) × (b.team.room ≡ a.team.room) × (b.few ≡ a.few) };
+
+    ghost same_self = { λ c. (refl, refl, refl) };
+
+    ghost same_more = { λ a b c p q. (q.0 ∙ p.0, q.1 ∙ p.1, q.2 ∙ p.2) };
+
     ghost handed_none = { λ c. (refl, refl, refl) };
 
     ghost handed_more = { λ a b c xs ys p q. (q.0 ∙ p.0, q.1 ∙ p.1, q.2 ∙ p.2) };
@@ -207,7 +213,7 @@ impl<'a, R: Wait, M: Participant, K: Drop, W: Watch<K> + Copy, J: Naming> WatchC
         ensures handed { IfOk result (λ _. (ps : List PlainJob) → AreJobs M.plain (jobs_in jobs.items) ps
             → (self.new.work ≡ self.old.work) × (self.new.team.room ≡ self.old.team.room)
             × (self.new.few ≡ self.old.few)) }
-        ensures stays { (self.new.work ≡ self.old.work) × (self.new.team.room ≡ self.old.team.room)
+        ensures same { (self.new.work ≡ self.old.work) × (self.new.team.room ≡ self.old.team.room)
             × (self.new.few ≡ self.old.few) }
     {
         let work = Watching {
@@ -240,6 +246,8 @@ impl<'a, R: Wait, M: Participant, K: Drop, W: Watch<K> + Copy, J: Naming> WatchC
         ensures serves { IsWatchOn self.new.work session.entry.scenario.now session.entry.net.now }
         ensures heard { TellsHeard M.plain (traffic_of session.entry.scenario.now session.entry.net.now)
             (packets_in sent.items) groups.items result }
+        ensures same { (self.new.work ≡ self.old.work) × (self.new.team.room ≡ self.old.team.room)
+            × (self.new.few ≡ self.old.few) }
         ensures handed { (self.new.work ≡ self.old.work) × (self.new.team.room ≡ self.old.team.room)
             × (self.new.few ≡ self.old.few) }
     {

@@ -5,7 +5,7 @@ use Rattle.std.proofs.Common.{IsPermutation}
 use Rattle.std.specs.List.{AllZip, range_with_len}
 use Rattle.std.proofs.lemmas.List.{take-append-drop}
 use Rattle.std.proofs.lemmas.Slice.Zip.{AllZip-long}
-use Rattle.std.proofs.lemmas.List.Elements.{All-nil, All-cons, All-head, All-tail}
+use Rattle.std.proofs.lemmas.List.Elements.{All-nil, All-cons}
 use Rattle.std.specs.Global.{Vec}
 use Rattle.srm_member.specs.declared.row.Row.{Row}
 use Rattle.srm_member.specs.Record.{Record}
@@ -288,16 +288,6 @@ pub joined_some : {A : Type 0} (ls : List (List A)) → joined (some_of ls) ≡ 
 joined_some [] = refl
 joined_some ([] ∷ ls) = joined_some ls
 joined_some ((x ∷ xs) ∷ ls) = ap (λ l. (x ∷ xs) ++ l) (joined_some ls)
-
-pub some_of_append : {A : Type 0} (ls ms : List (List A)) → some_of (ls ++ ms) ≡ some_of ls ++ some_of ms
-some_of_append [] ms = refl
-some_of_append ([] ∷ ls) ms = some_of_append ls ms
-some_of_append ((x ∷ xs) ∷ ls) ms = ap (λ l. (x ∷ xs) ∷ l) (some_of_append ls ms)
-
-pub all_some : {A : Type 0} (P : List A → Type 0) (ls : List (List A)) → All P ls → All P (some_of ls)
-all_some P [] h = h
-all_some P ([] ∷ ls) h = all_some P ls (All-tail P [] ls h)
-all_some P ((x ∷ xs) ∷ ls) h = All-cons P (x ∷ xs) (some_of ls) (All-head P (x ∷ xs) ls h) (all_some P ls (All-tail P (x ∷ xs) ls h))
 
 -- ---- crossings
 

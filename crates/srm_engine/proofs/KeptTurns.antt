@@ -7,7 +7,7 @@ use Rattle.srm_member.specs.declared.row.Row.{Row}
 use Rattle.srm_member.specs.Record.{Record}
 use Rattle.srm_member.proofs.AllIn.{AllIn, AllIn-second}
 use Rattle.srm_cell.specs.Setting.{Setting, IsFit}
-use Rattle.srm_cell.specs.Cells.{PlainCell, before}
+use Rattle.srm_cell.specs.Cells.{PlainCell}
 use Rattle.srm_cell.proofs.CellSteps.{before_some}
 use Rattle.srm_interfaces.specs.Watches.{KeepMembers}
 use Rattle.srm_interfaces.specs.InTurn.{HasTurn, KeepInTurn}

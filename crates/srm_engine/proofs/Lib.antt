@@ -24,3 +24,4 @@ mod Leaving
 mod WatchedLemmas
 mod WatchWindows
 mod KeptTurns
+mod MergedSinks

@@ -1,25 +1,18 @@
 -- How soon something is due in each group, after own runs and after packets were heard.
 use Rattle.std.proofs.Common.{◌≡◌, ◌⊎◌, inl, inr, ℕ, zero, suc, ◌+◌, ◌-◌, ◌*◌, ◌/◌, ◌%◌, ◌<◌, ◌≤◌, true, false, cond, List, [], ◌∷◌}
-use Rattle.std.proofs.Common.{◌++◌, Option, Some, None, Ordering, Less, Equal, Greater, refl, sym, ap, ◌∙◌, subst, arith, slice_get}
+use Rattle.std.proofs.Common.{◌++◌, Option, Some, None, refl, sym, ap, ◌∙◌, subst, arith, slice_get}
 use Rattle.std.proofs.Common.{slice_set, get_or, length, length-append, nat_lt, zero-add}
 use Rattle.std.proofs.Math.Nat.{suc-mul}
 use Rattle.std.proofs.lemmas.Bool.Decides.{nat_tests}
 use Rattle.std.proofs.lemmas.Nat.{div-mul-add}
 use Rattle.std.proofs.lemmas.Option.{slice_get_within, same_Some}
-use Rattle.std.specs.Ordering.{is_gt}
 use Rattle.std.specs.Global.{Vec}
 use native.Mathlib.Nat.{div-add-mod'}
-use Rattle.srm_net.specs.declared.packet.Packet.{Packet}
-use Rattle.srm_net.specs.Keys.{key_cmp}
 use Rattle.srm_member.specs.Record.{Record}
 use Rattle.srm_cell.specs.declared.cell.Cell.{Cell}
-use Rattle.srm_cell.specs.declared.pending.Pending.{Pending}
 use Rattle.srm_cell.specs.Setting.{Setting}
-use Rattle.srm_cell.specs.Pending.{Stands, arriving}
-use Rattle.srm_cell.specs.Cells.{PlainCell, Idle, next_event, time_of, own_step, hear_at}
+use Rattle.srm_cell.specs.Cells.{PlainCell, Idle, next_event, time_of, own_step}
 use Rattle.srm_cell.specs.OwnRuns.{own_after}
-use Rattle.srm_cell.proofs.CellLemmas.{first_le}
-use Rattle.srm_cell.proofs.Heard.{stands_heard}
 use Rattle.srm_cell.proofs.Nexts.{idle_step, none_due}
 use Rattle.srm_cell.proofs.OwnRunLemmas.{after_idle}
 use Rattle.srm_engine.specs.declared.soonest.Soonest.{Soonest}
@@ -30,7 +23,7 @@ use Rattle.srm_engine.proofs.CellLists.{first_cut, no_more_groups, in_group, at_
 use Rattle.srm_model.proofs.OneWindow.{as_many_results}
 use Rattle.srm_model.proofs.RunLemmas.{shifted}
 use Rattle.srm_model.proofs.Sequential.{get_below}
-use Rattle.srm_engine.proofs.SoonLemmas.{NoLater, soon_same_cells, soon_same_members}
+use Rattle.srm_engine.proofs.SoonLemmas.{soon_same_cells, soon_same_members}
 use Rattle.srm_net.proofs.Lists.{get_set_same, get_set_other, below_get}
 
 -- ---- the members of a group
@@ -166,31 +159,6 @@ soonest_idle s cut k till ps rs x alone late h =
   where
     stays : (m : ℕ) (c : PlainCell) → m / cut ≡ k → slice_get ps m ≡ Some c → slice_get (cells_in rs) m ≡ Some c
     stays m c p get = idle_stays till ps rs alone m c get (λ u e. let le = h.time.none_less m c u p get e in omega arith)
-
--- ---- after a packet was heard
-
--- a cell that hears a packet has its next event no later
-pub heard_no_later : (m : ℕ) (p : Packet) (at : ℕ) (c : PlainCell) (o : Option Pending) → Stands m c o (next_event m c)
-    → NoLater (due m c) (due m (hear_at p (Some at) c))
-heard_no_later m p at c None h u e = let no : due m c ≡ None = ap time_of h in let x : None ≡ Some u = sym no ∙ e in cc
-heard_no_later m p at c (Some q) h u e = by _ refl (stands_heard m p at c (Some q) h)
-  where
-    is : u ≡ q.key.time
-    is = same_Some u q.key.time (sym e ∙ ap time_of h.1 ∙ ap (λ k. Some k.time) (sym h.2))
-
-    of : (r : Pending) → r.key.time ≤ q.key.time → Stands m (hear_at p (Some at) c) (Some r) (next_event m (hear_at p (Some at) c))
-        → (v : ℕ) × (due m (hear_at p (Some at) c) ≡ Some v) × (v ≤ u)
-    of r le t = (r.key.time, ap time_of t.1 ∙ ap (λ k. Some k.time) (sym t.2), (let i = is in omega arith))
-
-    by : (r : Ordering) → key_cmp (arriving m at p.id).key q.key ≡ r
-        → Stands m (hear_at p (Some at) c) (cond (is_gt (key_cmp (arriving m at p.id).key q.key)) (Some q) (Some (arriving m at p.id)))
-        (next_event m (hear_at p (Some at) c))
-        → (v : ℕ) × (due m (hear_at p (Some at) c) ≡ Some v) × (v ≤ u)
-    by Less k t = of (arriving m at p.id) (first_le (arriving m at p.id).key q.key (λ g. let x : Less ≡ Greater = sym k ∙ g in cc))
-        (rw k at t)
-    by Equal k t = of (arriving m at p.id) (first_le (arriving m at p.id).key q.key (λ g. let x : Equal ≡ Greater = sym k ∙ g in cc))
-        (rw k at t)
-    by Greater k t = of q (omega arith) (rw k at t)
 
 -- ---- one group after the other
 

@@ -1,21 +1,14 @@
 -- How soon something is due in the cells of some members.
 use Rattle.std.proofs.Common.{◌≡◌, ◌⊎◌, inl, inr, ℕ, zero, suc, ◌+◌, ◌/◌, ◌<◌, ◌≤◌, ◌==◌, min, true, false, List, [], ◌∷◌, Option, Some}
-use Rattle.std.proofs.Common.{None, refl, sym, ap, ◌∙◌, subst, arith, slice_get, slice_set, length, eqb-true}
+use Rattle.std.proofs.Common.{refl, sym, ap, ◌∙◌, subst, arith, slice_get, length, eqb-true}
 use Rattle.std.proofs.lemmas.Bool.{eqb-false}
-use Rattle.std.proofs.lemmas.Option.{slice_get_within, same_Some}
-use Rattle.std.proofs.Math.ListN.{length-set}
+use Rattle.std.proofs.lemmas.Option.{same_Some}
 use Rattle.srm_model.proofs.Sequential.{get_below}
 use Rattle.srm_cell.specs.Setting.{Setting}
 use Rattle.srm_cell.specs.Cells.{PlainCell}
 use Rattle.srm_engine.specs.declared.soonest.Soonest.{Soonest}
 use Rattle.srm_model.specs.Windows.{least_with, promise_by, way_of}
-use Rattle.srm_engine.specs.Soonest.{IsLeast, IsSoonest, AreSoonest, IsInRange, due, promised}
-use Rattle.srm_net.proofs.Lists.{get_set_same, get_set_other}
-use Rattle.srm_model.proofs.Lookahead.{least_with_le, least_with_in}
-
--- where the second is there at all, and is no later
-abbrev pub NoLater : Option ℕ → Option ℕ → Type 0
-NoLater x y = (u : ℕ) → x ≡ Some u → (v : ℕ) × (y ≡ Some v) × (v ≤ u)
+use Rattle.srm_engine.specs.Soonest.{IsLeast, IsSoonest, IsInRange, due, promised}
 
 -- the lesser is the first, or the other
 pub with_one : (n : ℕ) (o : Option ℕ) → (least_with n o ≡ n) ⊎ (o ≡ Some (least_with n o))
@@ -35,47 +28,6 @@ module _ (g : ℕ → PlainCell → Option ℕ) (n : ℕ) where
   one_more i k ps t p at h = grind (arith, with_one)
 
   module _ (P : ℕ → Type 0) where
-    -- member m's cell becomes one whose time is no later
-    pub sooner_at : (ps : List PlainCell) (t m : ℕ) (q r : PlainCell) → P m → slice_get ps m ≡ Some q → NoLater (g m q) (g m r)
-        → IsLeast g P n ps t
-        → IsLeast g P n (slice_set ps m r) (least_with t (g m r))
-    sooner_at ps t m q r p at early h = record {
-      most = let a = least_with_le t (g m r) in let b = h.most in omega arith;
-      none_less = λ j c u pj get e. elim (m == j) as (λ b. (m == j) ≡ b → least_with t (g m r) ≤ u) [
-        | true ↦ λ x.
-            let here : m ≡ j = eqb-true m j x in
-            let same : c ≡ r = same_Some c r (sym get ∙ ap (slice_get (slice_set ps m r)) (sym here)
-            ∙ get_set_same ps m r (get_below ps m q at)) in
-            least_with_in t u (g m r) (subst (λ d. g m d ≡ Some u) same (subst (λ k. g k c ≡ Some u) (sym here) e))
-        | false ↦ λ x.
-            let ne = eqb-false m j x in
-            let old = h.none_less j c u pj (sym (get_set_other ps m j r ne) ∙ get) e in
-            let le = least_with_le t (g m r) in
-            omega arith
-      ] refl;
-      one = by (with_one t (g m r)) h.one;
-    }
-      where
-        by : (least_with t (g m r) ≡ t) ⊎ (g m r ≡ Some (least_with t (g m r)))
-            → (t ≡ n) ⊎ ((j : ℕ) × (c : PlainCell) × P j × (slice_get ps j ≡ Some c) × (g j c ≡ Some t))
-            → (least_with t (g m r) ≡ n) ⊎ ((j : ℕ) × (c : PlainCell) × P j × (slice_get (slice_set ps m r) j ≡ Some c)
-            × (g j c ≡ Some (least_with t (g m r))))
-        by (inr e) old = inr (m, r, p, get_set_same ps m r (get_below ps m q at), e)
-        by (inl e) (inl was) = inl (e ∙ was)
-        by (inl e) (inr a) = elim (m == a.0) as (λ b. (m == a.0) ≡ b → (least_with t (g m r) ≡ n)
-            ⊎ ((j : ℕ) × (c : PlainCell) × P j × (slice_get (slice_set ps m r) j ≡ Some c) × (g j c ≡ Some (least_with t (g m r))))) [
-              | true ↦ λ x.
-                  let here : m ≡ a.0 = eqb-true m a.0 x in
-                  let same : a.1 ≡ q = same_Some a.1 q (sym a.3 ∙ ap (slice_get ps) (sym here) ∙ at) in
-                  let was : g m q ≡ Some t = subst (λ d. g m d ≡ Some t) same (subst (λ k. g k a.1 ≡ Some t) (sym here) a.4) in
-                  let now = early t was in
-                  let le = now.2 in
-                  let low = least_with_in t now.0 (g m r) now.1 in
-                  let is : now.0 ≡ least_with t (g m r) = omega (arith, e) in
-                  inr (m, r, p, get_set_same ps m r (get_below ps m q at), now.1 ∙ ap Some is)
-              | false ↦ λ x. inr (a.0, a.1, a.2, get_set_other ps m a.0 r (eqb-false m a.0 x) ∙ a.3, a.4 ∙ ap Some (sym e))
-            ] refl
-
     -- the cells of these members are the same
     pub same_cells : (ps qs : List PlainCell) (t : ℕ) → ((m : ℕ) (c : PlainCell) → P m → slice_get ps m ≡ Some c → slice_get qs m ≡ Some c)
         → ((m : ℕ) (c : PlainCell) → P m → slice_get qs m ≡ Some c → slice_get ps m ≡ Some c) → IsLeast g P n ps t → IsLeast g P n qs t
@@ -166,19 +118,6 @@ module _ (g : ℕ → PlainCell → Option ℕ) (n : ℕ) where
 
 -- ---- how soon something is due
 
-no_later_promise : (x y way : Option ℕ) → NoLater x y → NoLater (promise_by x way) (promise_by y way)
-no_later_promise None y way h u e = none way e
-  where
-    none : (o : Option ℕ) → promise_by None o ≡ Some u → (v : ℕ) × (promise_by y o ≡ Some v) × (v ≤ u)
-    none None q = cc
-    none (Some k) q = cc
-no_later_promise (Some t) y None h u e = cc
-no_later_promise (Some t) y (Some k) h u e =
-    let now = h t refl in
-    let is = same_Some (t + k) u e in
-    let le = now.2 in
-    (now.0 + k, ap (λ o. promise_by o (Some k)) now.1, omega (arith, is))
-
 module _ (s : Setting) where
   -- one cell more
   pub soon_more : (i k : ℕ) (ps : List PlainCell) (x y : Soonest) (p : PlainCell) (next way : Option ℕ) → slice_get ps (i + k) ≡ Some p
@@ -191,20 +130,6 @@ module _ (s : Setting) where
     promise = subst (λ u. IsLeast (promised s) (IsInRange i (k + 1)) s.traffic.until ps u)
         (sym (r ∙ (λ j. least_with x.promise (promise_by (n j) (w j)))))
         (one_more (promised s) s.traffic.until i k ps x.promise p at h.promise);
-  }
-
-  -- member m's cell becomes one that has its next event no later
-  pub soon_heard : (P : ℕ → Type 0) (ps : List PlainCell) (x y : Soonest) (m : ℕ) (q r : PlainCell) (next way : Option ℕ) → P m
-      → slice_get ps m ≡ Some q
-      → NoLater (due m q) (due m r) → next ≡ due m r → way ≡ way_of s m → y.time ≡ least_with x.time next
-      → y.promise ≡ least_with x.promise (promise_by next way) → IsSoonest s P ps x → IsSoonest s P (slice_set ps m r) y
-  soon_heard P ps x y m q r next way p at early n w t v h = record {
-    time = subst (λ u. IsLeast due P s.traffic.until (slice_set ps m r) u) (sym (t ∙ ap (least_with x.time) n))
-        (sooner_at due s.traffic.until P ps x.time m q r p at early h.time);
-    promise = subst (λ u. IsLeast (promised s) P s.traffic.until (slice_set ps m r) u)
-        (sym (v ∙ (λ j. least_with x.promise (promise_by (n j) (w j)))))
-        (sooner_at (promised s) s.traffic.until P ps x.promise m q r p at
-        (no_later_promise (due m q) (due m r) (way_of s m) early) h.promise);
   }
 
   pub soon_same_cells : (P : ℕ → Type 0) (ps qs : List PlainCell) (x : Soonest)
@@ -221,33 +146,4 @@ module _ (s : Setting) where
   soon_same_members P Q ps x to back h = record {
     time = same_members due s.traffic.until P Q ps x.time to back h.time;
     promise = same_members (promised s) s.traffic.until P Q ps x.promise to back h.promise;
-  }
-
-  -- where member m's cell becomes such a one, and what is kept of its group is how soon something is due then
-  pub soonest_heard : (cut k : ℕ) (xs : List Soonest) (ps : List PlainCell) (x y : Soonest) (m : ℕ) (q r : PlainCell) (next way : Option ℕ)
-      → m / cut ≡ k
-      → slice_get xs k ≡ Some x → slice_get ps m ≡ Some q → NoLater (due m q) (due m r) → next ≡ due m r → way ≡ way_of s m
-      → y.time ≡ least_with x.time next → y.promise ≡ least_with x.promise (promise_by next way) → AreSoonest s cut xs ps
-      → AreSoonest s cut (slice_set xs k y) (slice_set ps m r)
-  soonest_heard cut k xs ps x y m q r next way at here get early n w t v h = record {
-    many = λ j lt.
-        let a = length-set ps m r in
-        let b = length-set xs k y in
-        let c = h.many j (omega arith) in
-        omega arith;
-    each = λ j z g. elim (k == j) as (λ b. (k == j) ≡ b → IsSoonest s (λ i. i / cut ≡ j) (slice_set ps m r) z) [
-      | true ↦ λ e.
-          let same : k ≡ j = eqb-true k j e in
-          let is : y ≡ z = same_Some y z (sym (get_set_same xs k y (slice_get_within xs k x here)) ∙ ap (slice_get (slice_set xs k y)) same
-          ∙ g) in
-          subst (λ (a : Soonest). IsSoonest s (λ i. i / cut ≡ j) (slice_set ps m r) a) is
-          (soon_heard (λ i. i / cut ≡ j) ps x y m q r next way (at ∙ same)
-          get early n w t v (h.each j x (ap (slice_get xs) (sym same) ∙ here)))
-      | false ↦ λ e.
-          let ne = eqb-false k j e in
-          soon_same_cells (λ i. i / cut ≡ j) ps (slice_set ps m r) z
-          (λ i c p a. get_set_other ps m i r (λ o. ne (sym at ∙ ap (λ l. l / cut) o ∙ p)) ∙ a)
-          (λ i c p a. sym (get_set_other ps m i r (λ o. ne (sym at ∙ ap (λ l. l / cut) o ∙ p))) ∙ a)
-          (h.each j z (sym (get_set_other xs k j y ne) ∙ g))
-    ] refl;
   }

@@ -1,10 +1,8 @@
 -- What steps, and pieces of a run, tell.
 use Rattle.std.proofs.Common.{◌≡◌, ◌∙◌, ◌⊎◌, inl, inr, ℕ, ◌<◌, ◌≤◌, ◌+◌, ◌^◌, List, [], ◌++◌, length, length-append, Err}
 use Rattle.std.proofs.Common.{refl, sym, ap, subst, append-nil, arith, IsSome, IfSome}
-use Rattle.srm_net.specs.Network.{Network}
-use Rattle.srm_scenario.specs.Plain.{PlainScenario}
 use Rattle.srm_member.specs.declared.row.Row.{Row}
-use Rattle.srm_cell.specs.Setting.{Setting, traffic_of, setting_of}
+use Rattle.srm_cell.specs.Setting.{Setting, traffic_of}
 use Rattle.srm_cell.specs.Crossings.{packets_of, crossings}
 use Rattle.srm_cell.specs.Tallies.{tallied}
 use Rattle.srm_cell.specs.Totalled.{numbers_of}

@@ -1,10 +1,9 @@
 -- A window of an engine whose rows are watched.
-use Rattle.std.proofs.Common.{◌≡◌, ◌∙◌, ◌++◌, ℕ, suc, List, [], ◌∷◌, Ok, All, length, map, refl, sym, ap, subst, length-append, arith}
+use Rattle.std.proofs.Common.{◌≡◌, ◌∙◌, ℕ, List, [], ◌∷◌, Ok, All, length, map, refl, ap, subst, length-append, arith}
 use Rattle.std.specs.Global.{Vec}
 use Rattle.srm_member.specs.Record.{Record}
 use Rattle.srm_member.specs.declared.row.Row.{Row}
 use Rattle.srm_ledger.specs.Seats.{SeatView}
-use Rattle.srm_cell.specs.declared.cell.Cell.{Cell}
 use Rattle.srm_cell.specs.declared.job.Done as job
 use Rattle.srm_cell.specs.Setting.{Setting}
 use Rattle.srm_cell.specs.Crossings.{joined, packets_of}

@@ -16,7 +16,7 @@ use Rattle.srm_cell.specs.Hearing.{IsSent, packets_in}
 use Rattle.srm_cell.proofs.RowPackets.{joined-append}
 use Rattle.srm_interfaces.specs.declared.watched.WatchedJob.{WatchedJob}
 use Rattle.srm_interfaces.specs.declared.watched.WatchedDone.{WatchedDone}
-use Rattle.srm_interfaces.specs.Watches.{HaveKept, KeepEach, WatchEach, job_in, jobs_in, KeepMembers}
+use Rattle.srm_interfaces.specs.Watches.{HaveKept, KeepEach, WatchEach, jobs_in, KeepMembers}
 use Rattle.srm_engine.specs.Groups.{all_in, sizes, jobs_with, groups_of, lists_of}
 use Rattle.srm_engine.specs.WatchedGroups.{watched_with, groups_in, kept_of, sent_of}
 

@@ -28,7 +28,7 @@ use Rattle.srm_cell.proofs.FitSettings.{settings_are_fit}
 use Rattle.srm_interfaces.specs.declared.fault.CrewFault.{CrewFault}
 use Rattle.srm_interfaces.specs.declared.fault.CrewFault.TheVariants as crew
 use Rattle.srm_interfaces.specs.Watches.{KeepEach, KeepMembers}
-use Rattle.srm_interfaces.specs.Crews.{AreJobs, AnyEnds, AreRowsOfSome, TellsMap, Maps, HasGrown, IsPast, rows_of, counted_in}
+use Rattle.srm_interfaces.specs.Crews.{AreJobs, AnyEnds, AreRowsOfSome, TellsMap, HasGrown, IsPast, rows_of, counted_in}
 use Rattle.srm_engine.specs.declared.window_engine.WindowEngine.{WindowEngine}
 use Rattle.srm_engine.specs.declared.window_fault.WindowFault.{WindowFault}
 use Rattle.srm_engine.specs.declared.window_fault.WindowFault.TheVariants as window
@@ -61,12 +61,11 @@ use Rattle.srm_engine.specs.Windowed.{IsCounted, MayCome, MayRefuseWindow, Tells
 use Rattle.srm_engine.specs.WindowEngines.{ComesTo, IsUnderWay, BeginsNext, EndsNext, frame_of, setting_by, rule_by}
 use Rattle.srm_engine.proofs.CellLists.{from_seen, seen_from, few_groups}
 use Rattle.srm_engine.proofs.JobLemmas.{any_cell, are_jobs, may_advance, as_many_jobs, places_with, job_results, cuts_kept, joined_some}
-use Rattle.srm_engine.proofs.JobLemmas.{all_some, counted_more, counted_merged, rows_joined}
+use Rattle.srm_engine.proofs.JobLemmas.{counted_more, counted_merged, rows_joined}
 use Rattle.srm_model.proofs.LawProofs.{never_spent}
 use Rattle.srm_model.proofs.OneWindow.{as_many_results}
 use Rattle.srm_model.proofs.Sequential.{good_reached}
 use Rattle.srm_engine.proofs.Stepping.{opening_trace}
-use Rattle.srm_model.proofs.WindowRows.{own_rows_are_sorted}
 use Rattle.srm_model.proofs.AnyOrder.{packets_are_heard_in_any_order, heard_by_packets}
 use Rattle.srm_model.proofs.WindowEnds.{widths_are_rules, promises_are_a_rule, starts_tell}
 use Rattle.srm_model.proofs.WindowChain.{windows_are_reached, windows_follow, refused_windows_meet_full}
@@ -120,7 +119,6 @@ pub record WindowRan {M : Type 0} (f : M → Record) (e : WindowEngine M) (seed 
   pub rows : lists_of ds ≡ rows_in results
   pub as_many : length (cells_in results) ≡ length w.cells
   pub members : length (cells_in results) ≡ length e.session.scenario.now.members
-  pub sorted : All (IsSorted row_cmp) (some_of (rows_in results))
 
 -- ---- the next window
 
@@ -247,14 +245,7 @@ module _ {M : Type 0} (f : M → Record) (e : WindowEngine M) (is : IsUnderWay f
           rows = r.3;
           as_many = many;
           members = many ∙ members_are;
-          sorted = all_some (IsSorted row_cmp) (rows_in r.0) (own_rows_are_sorted s w till fit reached within safe r.0 r.1);
         }
-
-    -- what a crew's answer tells of the window
-    pub mapped : (js : List (Job M)) → js ≡ jobs_with till 0 gs → (r : Vec (job.Done M) × SeatView)
-        → Maps f e.session.scenario.now e.session.net.now e.seat js (Ok r)
-        → WindowRan f e seed till w r.0.items × HasGrown (counted_in (crossings s.traffic (rows_of r.0.items))) e.seat r.1
-    mapped js same r maps = let told = maps.tells upcoming (jobs_tell js same).seen in (window_ran r.0.items told.0, told.1)
 
     -- ---- its rows
 
@@ -314,16 +305,6 @@ module _ {M : Type 0} (f : M → Record) (e : WindowEngine M) (is : IsUnderWay f
       counted_after seat grown = counted_merged s e.ledger w.trace (joined (rows_in ran.results)) rows seat merge_is.all
           (counted_more s.traffic e.ledger w.trace (rows_of ds) (joined (rows_in ran.results)) e.seat seat comes.counted grown
           (rows_joined f ds ∙ ap joined ran.rows))
-
--- the same of the windows that a run under way came to
-module _ {M : Type 0} (f : M → Record) (e : WindowEngine M) (is : IsUnderWay f e) (till : ℕ)
-    (at : EndsNext f e till) (js : List (Job M)) (same : js ≡ jobs_with till 0 e.groups.groups.items) where
-  pub jobs_tell_now : JobsTell f e is.seed till is.world js
-  jobs_tell_now = jobs_tell f e is is.seed is.begins is.world is.comes till at js same
-
-  pub ran_now : (r : Vec (job.Done M) × SeatView) → Maps f e.session.scenario.now e.session.net.now e.seat js (Ok r)
-      → WindowRan f e is.seed till is.world r.0.items
-  ran_now r maps = (mapped f e is is.seed is.begins is.world is.comes till at js same r maps).0
 
 -- ---- the beginning of a run
 

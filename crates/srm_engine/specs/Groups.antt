@@ -1,24 +1,19 @@
 -- The cells of all members, those of each job together.
-use Rattle.std.specs.Prelude.{◌≡◌, ◌/◌, ◌<◌, ◌≤◌, ℕ, suc, List, [], ◌∷◌, ◌++◌, length, map, slice_get, slice_set}
-use Rattle.std.specs.Prelude.{Some, IsPermutation}
+use Rattle.std.specs.Prelude.{◌≡◌, ◌<◌, ◌≤◌, ℕ, suc, List, [], ◌∷◌, ◌++◌, length, map}
+use Rattle.std.specs.Prelude.{IsPermutation}
 use Rattle.std.specs.Global.{Vec}
-use Rattle.srm_net.specs.declared.packet.Packet.{Packet}
-use Rattle.srm_net.specs.declared.packet.PacketId.{PacketId}
 use Rattle.srm_member.specs.declared.row.Row.{Row}
 use Rattle.srm_member.specs.Record.{Record}
 use Rattle.srm_cell.specs.declared.cell.Cell.{Cell}
 use Rattle.srm_cell.specs.declared.job.Job.{Job}
 use Rattle.srm_cell.specs.declared.job.Done as job
-use Rattle.srm_cell.specs.Flights.{BringsNone}
 use Rattle.srm_cell.specs.Setting.{Setting}
-use Rattle.srm_cell.specs.Cells.{PlainCell, hear_at}
+use Rattle.srm_cell.specs.Cells.{PlainCell}
 use Rattle.srm_cell.specs.Crossings.{packets_of}
-use Rattle.srm_model.specs.Hearing.{IsUnheard, heard_below}
 use Rattle.srm_engine.specs.Seen.{AreCellsInOrder}
 use Rattle.srm_engine.specs.declared.groups.Groups.{Groups}
 use Rattle.srm_engine.specs.Soonest.{AreSoonest}
 use Rattle.srm_model.specs.WindowRuns.{OwnResult, AreOwnRuns, cells_in, AreNewInTurn, each_hears}
-use Rattle.srm_net.specs.Limits.{end_of_time}
 
 -- ---- rows
 
@@ -77,10 +72,6 @@ module _ {M : Type 0} where
   lists_of [] = []
   lists_of (d ∷ ds) = d.rows.items ++ lists_of ds
 
-  -- member m has no such packet on its way
-  abbrev pub IsNewTo : ℕ → PacketId → List (Vec (Cell M)) → Type 0
-  IsNewTo m id gs = (c : Cell M) → slice_get (all_in gs) m ≡ Some c → BringsNone id c.inbox
-
   -- the groups are those of all these plain cells, and what is kept of them is how soon something is due in each
   pub record AreKept (f : M → Record) (s : Setting) (e : Groups M)
       (ps : List PlainCell) : Type 0 where
@@ -104,40 +95,7 @@ module _ {M : Type 0} where
       → AreGrouped f old.cut old.groups.items (cells_in results) → AreSoonest s old.cut old.soon.items ps
       → AreKept f s new (cells_in results)
 
-  -- a packet may be handed to member m: there is such a member, and the packet is new to it
-  pub record MayHand (m : ℕ) (id : PacketId) (e : Groups M) : Type 0 where
-    pub cut : 0 < e.cut
-    pub cuts : AreCuts e.cut (sizes e.groups.items)
-    pub member : m < length (all_in e.groups.items)
-    pub soon : m / e.cut < length e.soon.items
-    pub new : IsNewTo m id e.groups.items
-
-  -- after member m was handed a packet, which arrives at a tick
-  abbrev pub HandsIn : (M → Record) → Setting → ℕ → Packet → ℕ → Groups M → Groups M → Type 0
-  HandsIn f s m p at old new =
-      (ps : List PlainCell) (q : PlainCell) → AreKept f s old ps → slice_get ps m ≡ Some q
-      → AreKept f s new (slice_set ps m (hear_at p (Some at) q))
-
-  -- a packet may be handed out: a member sent it before the latest end of all, and it is new to the cells of all
-  pub record MayDeliverIn (f : M → Record) (s : Setting) (p : Packet) (e : Groups M) : Type 0 where
-    pub sent : p.sent < end_of_time
-    pub sender : p.id.sender < s.traffic.members
-    pub cells : List PlainCell
-    pub many : length cells ≡ s.traffic.members
-    pub seen : AreKept f s e cells
-    pub new : IsUnheard p.id cells
-
-  -- after a packet was handed out: every cell has heard it
-  abbrev pub DeliversIn : (M → Record) → Setting → Packet → Groups M → Groups M → Type 0
-  DeliversIn f s p old new =
-      (ps : List PlainCell) → AreKept f s old ps → AreKept f s new (heard_below s.traffic p (length ps) 0 ps)
-
-  -- the packets of rows may be handed out, one after the other
-  abbrev pub MayHear : (M → Record) → Setting → List Row → Groups M → Type 0
-  MayHear f s rows e =
-      (ps : List PlainCell) × AreKept f s e ps × (length ps ≡ s.traffic.members) × AreNewInTurn s.traffic rows ps
-
-  -- after that every cell has heard them
+  -- after the packets of rows were handed out, one after the other: every cell has heard them
   abbrev pub Hears : (M → Record) → Setting → List Row → Groups M → Groups M → Type 0
   Hears f s rows old new =
       (ps : List PlainCell) → AreKept f s old ps → AreKept f s new (each_hears s.traffic 0 rows ps)

@@ -1,7 +1,9 @@
--- Sinks in memory.
-use Rattle.std.specs.Prelude.{◌≡◌, List, ◌++◌}
+-- Sinks in memory, and sinks that are handed rows merged.
+use Rattle.std.specs.Prelude.{◌≡◌, Bool, true, false, List, ◌++◌}
 use Rattle.srm_member.specs.declared.row.Row.{Row}
+use Rattle.srm_interfaces.specs.declared.sink.SinkFault.TheVariants.{NoMemory}
 use Rattle.srm_interfaces.specs.declared.sink.Stage.{Stage}
+use Rattle.srm_interfaces.specs.declared.sink.Stage.TheVariants.{Refused}
 use Rattle.srm_engine.specs.declared.kept_rows.KeptRows.{KeptRows}
 
 -- the rows that a sink keeps
@@ -19,3 +21,8 @@ Keeps a xs b = rows_kept b ≡ rows_kept a ++ xs
 -- it keeps a front of these rows besides
 abbrev pub KeepsFront : KeptRows → List Row → KeptRows → Type 0
 KeepsFront a xs b = (front rest : List Row) × (xs ≡ front ++ rest) × Keeps a front b
+
+-- how a sink stands that is handed rows merged, where memory was refused to a merge or not
+abbrev pub stage_merged : Bool → Stage → Stage
+stage_merged true at = Refused NoMemory
+stage_merged false at = at

@@ -1,6 +1,5 @@
 -- What is seen of the engine in windows, and what its calls tell.
-use Rattle.std.specs.Prelude.{◌≡◌, ℕ, List, [], ◌∷◌, ◌++◌, length, map, min, Result, Ok, Err, MatchResult}
-use Rattle.std.specs.Global.{Vec}
+use Rattle.std.specs.Prelude.{◌≡◌, ℕ, List, [], length, min, Result, MatchResult}
 use Rattle.srm_scenario.specs.declared.session.Session.{Session}
 use Rattle.srm_scenario.specs.Accepted.{IsAccepted}
 use Rattle.srm_member.specs.declared.row.Row.{Row}
@@ -11,31 +10,16 @@ use Rattle.srm_cell.specs.Crossings.{crossings}
 use Rattle.srm_cell.specs.Cells.{Event}
 use Rattle.srm_cell.specs.Jobs as cell
 use Rattle.srm_model.specs.World.{World, opening, IsLast, exits_of}
-use Rattle.srm_model.specs.WindowRuns.{jobs_of, IsMerge}
 use Rattle.srm_model.specs.WindowChains.{AreWindows, IsNext, start_of, window_jobs}
 use Rattle.srm_engine.specs.declared.ends.Ends.{Ends}
 use Rattle.srm_engine.specs.declared.halt.Halt.{Halt}
-use Rattle.srm_engine.specs.declared.halt.Halt.TheVariants as halt
 use Rattle.srm_engine.specs.declared.window_engine.WindowEngine.{WindowEngine}
 use Rattle.srm_engine.specs.declared.window_fault.WindowFault.{WindowFault}
-use Rattle.srm_engine.specs.declared.window_fault.WindowFault.TheVariants.{NoMemory}
 use Rattle.srm_engine.specs.Ends.{ends_rule, MayEnd}
 use Rattle.srm_engine.specs.Groups.{AreKept}
 use Rattle.srm_engine.specs.Starts.{setting_on}
 use Rattle.srm_engine.specs.Streams.{TellsHalt}
-use Rattle.srm_engine.specs.Windowed.{IsCounted, MayCome, MayRefuseWindow}
-
--- the lists of rows in vectors
-abbrev pub lists_in : Vec (Vec Row) → List (List Row)
-lists_in lists = map (λ (v : Vec Row). v.items) lists.items
-
-module _ {S : Type 0} (took part : S → List Row → S → Type 0) where
-  -- what is told where a sink is handed the rows of lists: it took a merge of them, or no more than a front of one; or
-  -- memory was refused before, and it is as it was
-  abbrev pub HandsLists : {A : Type 0} → List (List Row) → S → Result A (Halt WindowFault) → S → Type 0
-  HandsLists lists old (Ok v) new = (rows : List Row) × IsMerge lists rows × took old rows new
-  HandsLists lists old (Err (halt.Run e)) new = (e ≡ NoMemory) × (new ≡ old)
-  HandsLists lists old (Err (halt.Sink e)) new = (rows : List Row) × IsMerge lists rows × part old rows new
+use Rattle.srm_engine.specs.Windowed.{IsCounted, MayCome}
 
 module _ {M : Type 0} where
   -- what an engine's run is of: its session, how many cells a job has, and where windows end
@@ -100,17 +84,6 @@ module _ {M : Type 0} where
   TellsEnd f e exits totals =
       (seed : ℕ) (begins : List World) (w : World) → ComesTo f seed e begins w
       → (exits ≡ exits_of w) × (totals ≡ crossings (setting_by e seed).traffic w.trace)
-
-  module _ {C : Type 0} (handed : C → List (List cell.PlainJob) → C → Type 0) (f : M → Record) where
-    -- what one window tells, of each merge of its lists: those rows, and one window more, for which the crew was handed
-    -- its jobs; or why it is refused
-    abbrev pub TellsWindow : WindowEngine M → C → Result (WindowEngine M × Vec (Vec Row)) WindowFault → C → Type 0
-    TellsWindow e old r new =
-        (seed : ℕ) (begins : List World) (w : World) → ComesTo f seed e begins w
-        → MatchResult r (λ v. ((rows : List Row) → IsMerge (lists_in v.1) rows
-        → (u : World) × ComesTo f seed v.0 (begins ++ w ∷ []) u × (u.trace ≡ w.trace ++ rows))
-        × handed old (jobs_of e.groups.cut (rule_by e seed w) w ∷ []) new)
-        (MayRefuseWindow (setting_by e seed) (rule_by e seed w) e.groups.cut w)
 
   module _ {C S : Type 0} (handed : C → List (List cell.PlainJob) → C → Type 0) (took part : S → List Row → S → Type 0)
       (f : M → Record) where

@@ -73,11 +73,20 @@ fn leave<M: Participant, K: Drop, W: Watch<K>>(
 
 impl<'a, M: Participant, K: Drop, W: Watch<K> + Drop, C: Crew<M>> WatchCrew<M, K, W>
     for ByRows<'a, C> {
+    ghost use Rattle.std.specs.Prelude.{refl};
+    ghost use Rattle.std.proofs.Common.{◌∙◌};
+
     ghost ready = { λ c. C.ready c.crew.now };
 
     ghost serves = { λ c k net. C.serves c.crew.now k net };
 
+    ghost same = { λ a b. b.crew.ghost_name ≡ a.crew.ghost_name };
+
     ghost handed = { λ a xs b. C.handed a.crew.now xs b.crew.now };
+
+    ghost same_self = { λ a. refl };
+
+    ghost same_more = { λ a b c p q. q ∙ p };
 
     ghost handed_none = { λ c. C.handed_none c.crew.now };
 
@@ -97,6 +106,7 @@ impl<'a, M: Participant, K: Drop, W: Watch<K> + Drop, C: Crew<M>> WatchCrew<M, K
         requires may { MayMap M.plain session.net.now ledger.now seat jobs.items }
         ensures ready { C.ready self.new.crew.now }
         ensures serves { C.serves self.new.crew.now session.entry.scenario.now session.entry.net.now }
+        ensures same { self.new.crew.ghost_name ≡ self.old.crew.ghost_name }
         ensures done { MapsWatched M.plain (W.keeps watch) session.entry.scenario.now session.entry.net.now seat
             jobs.items result }
         ensures handed { IfOk result (λ _. (ps : List PlainJob) → AreJobs M.plain (jobs_in jobs.items) ps
@@ -132,6 +142,7 @@ impl<'a, M: Participant, K: Drop, W: Watch<K> + Drop, C: Crew<M>> WatchCrew<M, K
             (packets_in sent.items) groups.items }
         ensures ready { C.ready self.new.crew.now }
         ensures serves { C.serves self.new.crew.now session.entry.scenario.now session.entry.net.now }
+        ensures same { self.new.crew.ghost_name ≡ self.old.crew.ghost_name }
         ensures heard { TellsHeard M.plain (traffic_of session.entry.scenario.now session.entry.net.now)
             (packets_in sent.items) groups.items result }
         ensures handed { C.handed self.old.crew.now [] self.new.crew.now }

@@ -1,22 +1,17 @@
-//! Rows, handed to a sink: those of a window, or what is kept of them, and none, by which a run begins.
-ghost use Rattle.std.specs.Prelude.{◌≡◌, ◌<◌, ◌+◌, ◌-◌, ◌^◌, [], List, All, IsSorted, MatchResult};
+//! Rows, handed to a sink: what is kept of those of a window, and none, by which a run begins.
+ghost use Rattle.std.specs.Prelude.{◌≡◌, ◌<◌, ◌+◌, ◌-◌, ◌^◌, [], List, MatchResult};
 ghost use Rattle.srm_member.specs.declared.row.Row.{Row as OneRow};
-ghost use Rattle.srm_model.specs.World.{row_cmp};
-ghost use Rattle.srm_interfaces.specs.declared.sink.Stage.{Stage as AStage};
 ghost use Rattle.srm_interfaces.specs.Sinks.{IsReady, stage_after, stops_in};
 ghost use Rattle.srm_interfaces.specs.InTurn.{KeepInTurn};
 ghost use Rattle.srm_engine.specs.Groups.{all_in};
 ghost use Rattle.srm_engine.specs.Streams.{sink_in};
-ghost use Rattle.srm_engine.specs.WindowEngines.{HandsLists, lists_in};
 ghost use Rattle.srm_engine.specs.WatchEngines.{HandsKept};
 
 use crate::halt::Halt;
-use crate::merge::merge;
 use crate::watched_groups::in_one;
 use crate::window_fault::WindowFault;
 use srm_interfaces::kept_sink::KeptSink;
 use srm_interfaces::sink::{RowSink, SinkFault, Stage};
-use srm_member::row::Row;
 use std::alloc::Global;
 
 /// Hands a sink no rows: the call by which a run begins.
@@ -28,29 +23,6 @@ pub(crate) fn hand_none<S: RowSink>(alloc: Global, sink: &mut S) -> Result<(), S
     ensures rows { MatchResult result (λ _. S.took sink.old [] sink.new) (λ _. S.part sink.old [] sink.new) }
 {
     sink.rows(alloc, Vec::new(alloc))
-}
-
-/// Hands a sink the rows of all lists, each of which is in order: all of them in order of their keys.
-pub(crate) fn hand_lists<S: RowSink>(
-    alloc: Global,
-    sink: &mut S,
-    lists: Vec<Vec<Row>>,
-) -> Result<(), Halt<WindowFault>>
-    requires live { S.stage sink.old ≡ Stage.Live }
-    requires failures { S.failures sink.old < 2 ^ 64 - 1 }
-    requires sorted { All (IsSorted row_cmp) (lists_in lists) }
-    ensures device { S.same sink.old sink.new }
-    ensures stage { S.stage sink.new ≡ stage_after (sink_in result) }
-    ensures failures { S.failures sink.new ≡ S.failures sink.old + stops_in (sink_in result) }
-    ensures rows { HandsLists S.took S.part (lists_in lists) sink.old result sink.new }
-{
-    let Ok(rows) = merge(alloc, lists) else {
-        return Err(Halt::Run(WindowFault::NoMemory));
-    };
-    match sink.rows(alloc, rows) {
-        Ok(()) => Ok(()),
-        Err(fault) => Err(Halt::Sink(fault)),
-    }
 }
 
 /// Hands a sink what is kept of the rows of a window, of the members of each group.
@@ -70,7 +42,7 @@ pub(crate) fn hand_kept<K: Drop, S: KeptSink<K>>(
     let Ok(all) = in_one(alloc, kept) else {
         return Err(Halt::Run(WindowFault::NoMemory));
     };
-    match sink.kept(alloc, all.as_slice()) {
+    match sink.kept(alloc, all) {
         Ok(()) => Ok(()),
         Err(fault) => Err(Halt::Sink(fault)),
     }

@@ -4,10 +4,12 @@ ghost use Rattle.srm_member.specs.declared.row.Row.{Row as OneRow};
 ghost use Rattle.srm_interfaces.specs.declared.sink.Stage.{Stage as AStage};
 ghost use Rattle.srm_interfaces.specs.Sinks.{IsReady, stage_after, stops_in};
 ghost use Rattle.srm_interfaces.specs.InTurn.{KeepInTurn};
-ghost use Rattle.srm_engine.specs.Streams.{sink_in};
-ghost use Rattle.srm_engine.specs.Starts.{BeginsWith};
+ghost use Rattle.srm_engine.specs.Streams.{sink_in, StandsAs, stopped_in};
+ghost use Rattle.srm_engine.specs.Starts.{BeginsWith, InRunsOf};
+ghost use Rattle.srm_engine.specs.WindowStreams.{IsLeft, TellsStreamAsked, CallsInWindows, RefusedInWindows};
+ghost use Rattle.srm_engine.specs.RowRuns.{TellsLast, MayLackWindow, TellsUndone};
 ghost use Rattle.srm_engine.specs.Ends.{MayCut};
-ghost use Rattle.srm_engine.specs.WindowEngines.{frame_of, IsUnderWay, OpensAt, BeginsNext, TellsWindows};
+ghost use Rattle.srm_engine.specs.WindowEngines.{frame_of, IsUnderWay, IsAt, OpensAt, BeginsNext, TellsWindows};
 ghost use Rattle.srm_engine.specs.WatchEngines.{IsWatching, KeepsRows, HandsKept, TellsWatched, TellsAllWatched, kept_by};
 
 use crate::cutting::Cutting;
@@ -15,11 +17,12 @@ use crate::groups::Groups;
 use crate::halt::Halt;
 use crate::handing::{hand_kept, hand_none};
 use crate::start::Start;
+use crate::stream_fault::StreamFault;
 use crate::watched_groups::{none_of_each, taken_apart, watched_jobs};
+use crate::width::Windows;
 use crate::window_engine::WindowEngine;
 use crate::window_fault::WindowFault;
 use srm_interfaces::kept_sink::KeptSink;
-use srm_interfaces::sink::Stage;
 use srm_interfaces::watch::Watch;
 use srm_interfaces::watch_crew::WatchCrew;
 use srm_member::participant::Participant;
@@ -52,6 +55,51 @@ impl<'a, M: Participant, K: Drop> WatchEngine<'a, M, K> {
         Ok(WatchEngine { engine, kept })
     }
 
+    /// The whole run in windows, as is asked for. A sink is handed first no row, and then what the watch keeps of the rows of each
+    /// window as it ends.
+    pub(crate) fn run<W: Watch<K> + Copy, C: WatchCrew<M, K, W>, S: KeptSink<K>>(
+        alloc: Global,
+        start: Start<'a, M>,
+        crew: &mut C,
+        asked: Windows,
+        watch: W,
+        sink: &mut S,
+    ) -> Result<WindowEngine<'a, M>, StreamFault>
+        requires ready { C.ready crew.old }
+        requires serves { C.serves crew.old start.session.scenario.now start.session.net.now }
+        requires keeps { (k : K) (rows : List OneRow) → W.keeps watch k rows → S.keeps k rows }
+        requires sink { IsReady (S.stage sink.old) (S.failures sink.old) }
+        ensures ready { C.ready crew.new }
+        ensures serves { C.serves crew.new start.entry.session.scenario.now start.entry.session.net.now }
+        ensures same { C.same crew.old crew.new }
+        ensures under_way { IfOk result (λ e. IsUnderWay M.plain e) }
+        ensures device { S.same sink.old sink.new }
+        ensures stands { StandsAs result (S.stage sink.new) }
+        ensures failures { S.failures sink.new ≡ S.failures sink.old + stopped_in result }
+        ensures asked { TellsStreamAsked start.entry.session.net.now asked result }
+        ensures left { IsLeft sink.old result sink.new }
+        ensures last { InRunsOf start.entry (λ s. TellsLast S.took S.part (IsAt M.plain s) s sink.old result sink.new) }
+        ensures windows { InRunsOf start.entry (λ s. CallsInWindows C.handed s start.entry.session.net.now asked
+            crew.old result crew.new) }
+        ensures refused { InRunsOf start.entry (λ s. RefusedInWindows S.took S.part s start.entry.session.net.now asked
+            sink.old result sink.new) }
+        ensures undone { InRunsOf start.entry (λ s. TellsUndone S.stage S.took S.part
+            (MayLackWindow s start.entry.session.net.now asked) s sink.old result sink.new) }
+    {
+        let cutting = match Cutting::of(start.session, asked) {
+            Ok(cutting) => cutting,
+            Err(fault) => return Err(fault.into()),
+        };
+        let engine = match WatchEngine::open(alloc, start, cutting, &watch) {
+            Ok(opened) => opened,
+            Err(error) => return Err(error.into()),
+        };
+        match engine.stream(alloc, crew, watch, sink) {
+            Ok(ran) => Ok(ran),
+            Err(halt) => Err(halt.into()),
+        }
+    }
+
     // The window that begins at this tick: every cell runs alone to its end, and then hears all packets that were sent in it.
     fn window<W: Watch<K> + Copy, C: WatchCrew<M, K, W>>(
         self,
@@ -67,6 +115,7 @@ impl<'a, M: Participant, K: Drop> WatchEngine<'a, M, K> {
         requires early { begin < self.engine.session.scenario.now.until }
         ensures ready { C.ready crew.new }
         ensures serves { C.serves crew.new self.entry.engine.session.scenario.now self.entry.engine.session.net.now }
+        ensures same { C.same crew.old crew.new }
         ensures frame { IfOk result (λ e. frame_of e.engine ≡ frame_of self.entry.engine) }
         ensures stands { IfOk result (λ e. IsWatching M.plain e) }
         ensures later { IfOk result (λ e. (next : ℕ) → BeginsNext M.plain e.engine next → begin < next) }
@@ -159,9 +208,9 @@ impl<'a, M: Participant, K: Drop> WatchEngine<'a, M, K> {
         }
     }
 
-    /// Windows, one after the other, until nothing is pending before the end of the run. A sink is handed first no row, and then
-    /// what is kept of the rows of each window as it ends: each begins with what is kept of none.
-    pub(crate) fn stream<W: Watch<K> + Copy, C: WatchCrew<M, K, W>, S: KeptSink<K>>(
+    // Windows, one after the other, until nothing is pending before the end of the run. A sink is handed first no row, and then
+    // what is kept of the rows of each window as it ends: each begins with what is kept of none.
+    fn stream<W: Watch<K> + Copy, C: WatchCrew<M, K, W>, S: KeptSink<K>>(
         self,
         alloc: Global,
         crew: &mut C,
@@ -176,6 +225,7 @@ impl<'a, M: Participant, K: Drop> WatchEngine<'a, M, K> {
         requires sink { IsReady (S.stage sink.old) (S.failures sink.old) }
         ensures ready { C.ready crew.new }
         ensures serves { C.serves crew.new self.entry.engine.session.scenario.now self.entry.engine.session.net.now }
+        ensures same { C.same crew.old crew.new }
         ensures stands { IfOk result (λ e. IsUnderWay M.plain e) }
         ensures frame { IfOk result (λ e. frame_of e ≡ frame_of self.entry.engine) }
         ensures device { S.same sink.old sink.new }

@@ -7,7 +7,6 @@ ghost use Rattle.srm_engine.specs.Streams.{StandsAs, stopped_in};
 ghost use Rattle.srm_engine.specs.WindowStreams.{IsLeft, TellsStreamAsked, CallsInWindows, RefusedInWindows};
 ghost use Rattle.srm_engine.specs.RowRuns.{TellsTotals, MayLackWindow, TellsUndone};
 
-use crate::cutting::Cutting;
 use crate::start::Start;
 use crate::stream_fault::StreamFault;
 use crate::watch_engine::WatchEngine;
@@ -67,16 +66,8 @@ pub fn window_kept<
     ensures undone { InRunsOf start.entry (λ s. TellsUndone S.stage S.took S.part
         (MayLackWindow s start.entry.session.net.now asked) s sink.old result sink.new) }
 {
-    let cutting = match Cutting::of(start.session, asked) {
-        Ok(cutting) => cutting,
-        Err(fault) => return Err(fault.into()),
-    };
-    let engine = match WatchEngine::open(alloc, start, cutting, &watch) {
-        Ok(opened) => opened,
-        Err(error) => return Err(error.into()),
-    };
-    match engine.stream(alloc, crew, watch, sink) {
+    match WatchEngine::run(alloc, start, crew, asked, watch, sink) {
         Ok(ran) => Ok(ran.into_totals()),
-        Err(halt) => Err(halt.into()),
+        Err(fault) => Err(fault),
     }
 }

@@ -1,15 +1,18 @@
 //! The run in windows, its rows handed on as they come.
-ghost use Rattle.std.specs.Prelude.{◌≡◌, ◌<◌, ◌≤◌, ◌+◌, ◌-◌, ◌^◌, ℕ, map};
+ghost use Rattle.std.specs.Prelude.{◌≡◌, ◌<◌, ◌+◌, ◌-◌, ◌^◌, ℕ, map};
 ghost use Rattle.srm_scenario.specs.Plain.{network_of};
 ghost use Rattle.srm_engine.specs.Openings.{HoldOpeningRecords, InRuns};
 ghost use Rattle.srm_interfaces.specs.Sinks.{IsOpen};
 ghost use Rattle.srm_engine.specs.Streams.{StandsAs, stopped_in, TellsStream};
 ghost use Rattle.srm_engine.specs.WindowStreams.{IsLeft, TellsStreamAsked, CallsInWindows, RefusedInWindows};
 
+use crate::by_rows::ByRows;
+use crate::keep_rows::KeepRows;
+use crate::merged_rows::MergedRows;
 use crate::start::Start;
 use crate::stream_fault::StreamFault;
+use crate::watch_engine::WatchEngine;
 use crate::width::Windows;
-use crate::window_engine::WindowEngine;
 use srm_interfaces::crew::Crew;
 use srm_interfaces::sink::RowSink;
 use srm_ledger::totals::Totals;
@@ -69,7 +72,26 @@ pub fn window_stream<M: Participant, C: Crew<M>, S: RowSink>(
 {
     let session = Session { scenario, net };
     let start = Start { session, members };
-    let ran = match WindowEngine::run(alloc, start, crew, asked, sink) {
+    let mut watched = ByRows { crew };
+    let mut merged = MergedRows {
+        sink,
+        is_refused: false,
+    };
+    let ran = WatchEngine::run(
+        alloc,
+        start,
+        &mut watched,
+        asked,
+        KeepRows { alloc },
+        &mut merged,
+    );
+    // By its contract, crew and sink are then as the run left them.
+    let ByRows { crew: _crew } = watched;
+    let MergedRows {
+        sink: _sink,
+        is_refused: _,
+    } = merged;
+    let ran = match ran {
         Ok(ran) => ran,
         Err(fault) => return Err(fault),
     };

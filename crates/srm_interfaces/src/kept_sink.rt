@@ -17,12 +17,12 @@ pub trait KeptSink<K>: RowSink {
     ///
     /// # Errors
     /// As of `rows`.
-    fn kept(&mut self, alloc: Global, kept: &[K]) -> Result<(), SinkFault>
+    fn kept(&mut self, alloc: Global, kept: Vec<K>) -> Result<(), SinkFault>
         requires open { IsOpen (Self.stage self.old) }
         requires failures { Self.failures self.old < 2 ^ 64 - 1 }
         ensures same { Self.same self.old self.new }
         ensures stage { Self.stage self.new ≡ stage_after result }
         ensures failures { Self.failures self.new ≡ Self.failures self.old + stops_in result }
-        ensures rows { (rows : List OneRow) → KeepInTurn keeps kept.now rows
+        ensures rows { (rows : List OneRow) → KeepInTurn keeps kept.items rows
             → MatchResult result (λ _. Self.took self.old rows self.new) (λ _. Self.part self.old rows self.new) };
 }

@@ -27,6 +27,9 @@ pub trait WatchCrew<M: Participant, K, W: Watch<K>> {
     // It serves runs of this scenario on this network.
     ghost serves: { Self → PlainScenario → Network → Type 0 };
 
+    // Both are of one crew.
+    ghost same: { Self → Self → Type 0 };
+
     // Between these two values it was handed exactly these calls of `map`, each the list of its jobs.
     ghost handed: { Self → List (List PlainJob) → Self → Type 0 };
 
@@ -48,6 +51,7 @@ pub trait WatchCrew<M: Participant, K, W: Watch<K>> {
         requires may { MayMap M.plain session.net.now ledger.now seat jobs.items }
         ensures ready { ready self.new }
         ensures serves { serves self.new session.entry.scenario.now session.entry.net.now }
+        ensures same { same self.old self.new }
         ensures done { MapsWatched M.plain (W.keeps watch) session.entry.scenario.now session.entry.net.now seat
             jobs.items result }
         ensures handed { IfOk result (λ _. (ps : List PlainJob) → AreJobs M.plain (jobs_in jobs.items) ps
@@ -71,9 +75,14 @@ pub trait WatchCrew<M: Participant, K, W: Watch<K>> {
             groups.items }
         ensures ready { ready self.new }
         ensures serves { serves self.new session.entry.scenario.now session.entry.net.now }
+        ensures same { same self.old self.new }
         ensures heard { TellsHeard M.plain (traffic_of session.entry.scenario.now session.entry.net.now) (packets_in sent.items)
             groups.items result }
         ensures handed { handed self.old [] self.new };
+
+    ghost same_self: { (c : Self) → same c c };
+
+    ghost same_more: { (a b c : Self) → same a b → same b c → same a c };
 
     ghost handed_none: { (c : Self) → handed c [] c };
 

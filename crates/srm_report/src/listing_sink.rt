@@ -368,18 +368,18 @@ impl<'a, L: Listing, O: Outlet> KeptSink<Lines> for ListingSink<'a, L, O> {
     ghost keeps = { λ k rows. k ≡ lines_of L.form rows };
 
     /// Writes the lines of the rows that come next after those before, as `rows` does, of the lines of each member.
-    fn kept(&mut self, alloc: Global, kept: &[Lines]) -> Result<(), SinkFault>
+    fn kept(&mut self, alloc: Global, kept: Vec<Lines>) -> Result<(), SinkFault>
         requires open { IsOpen (stage_of self.old) }
         requires failures { O.failures (outlet_under self.old) < 2 ^ 64 - 1 }
         ensures same { AreOverOne self.old self.new }
         ensures stage { stage_of self.new ≡ stage_after result }
         ensures failures { O.failures (outlet_under self.new) ≡ O.failures (outlet_under self.old) + stops_in result }
-        ensures rows { (rows : List R) → AreLinesOf L.form rows kept.now
+        ensures rows { (rows : List R) → AreLinesOf L.form rows kept.items
             → MatchResult result (λ _. PutsRows O.taken L.form self.old rows self.new)
             (λ _. PutsPart O.taken L.form self.old rows self.new) }
         ensures left { LeavesOutlet self.old result self.new }
     {
-        let answer = self.put_lines(alloc, kept);
+        let answer = self.put_lines(alloc, kept.as_slice());
         self.has_begun = true;
         self.standing = standing_after(&answer);
         answer

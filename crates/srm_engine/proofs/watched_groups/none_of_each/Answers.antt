@@ -1,4 +1,4 @@
-use Rattle.std.proofs.Common.{◌∙◌, ◌∷◌, ◌++◌, ◌+◌, [], All, length, take, ap, sym, subst, add-one}
+use Rattle.std.proofs.Common.{◌∙◌, ◌∷◌, ◌++◌, [], All, length, take, ap, sym, subst, add-one}
 use Rattle.std.proofs.Math.Seq.{take-suc}
 use Rattle.std.proofs.lemmas.List.{take_all, map-append}
 use Rattle.std.proofs.lemmas.List.Elements.{All-append}

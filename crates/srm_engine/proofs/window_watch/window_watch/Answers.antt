@@ -1,6 +1,5 @@
-use Rattle.std.proofs.Common.{◌≡◌, ◌∙◌, ℕ, length, refl, sym, ap, subst}
+use Rattle.std.proofs.Common.{◌∙◌, ℕ, length, refl, sym, ap, subst}
 use Rattle.srm_scenario.specs.declared.session.Session.{Session}
-use Rattle.srm_cell.specs.Setting.{Setting}
 use Rattle.srm_cell.specs.Crossings.{crossings}
 use Rattle.srm_model.specs.World.{World, IsLast, exits_of}
 use Rattle.srm_model.specs.WindowChains.{AreWindows, window_jobs}

@@ -1,4 +1,4 @@
-use Rattle.std.proofs.Common.{◌≡◌, ◌++◌, ◌∷◌, [], sym, subst}
+use Rattle.std.proofs.Common.{◌++◌, ◌∷◌, [], sym, subst}
 use Rattle.srm_net.specs.Spreads.{IsSpread}
 use Rattle.srm_scenario.specs.declared.session.Session.{Session}
 use Rattle.srm_cell.specs.declared.tally.Tally.{Tally}

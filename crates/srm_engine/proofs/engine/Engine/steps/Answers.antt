@@ -2,7 +2,7 @@ use Rattle.std.proofs.Common.{◌≡◌, ◌<◌, ◌^◌, List, [], ◌∷◌, 
 use Rattle.std.proofs.Common.{length-append, arith}
 use Rattle.std.proofs.lemmas.Result.{err_from_is_err_and}
 use Rattle.srm_member.specs.declared.row.Row.{Row}
-use Rattle.srm_cell.specs.Setting.{Setting, setting_of}
+use Rattle.srm_cell.specs.Setting.{Setting}
 use Rattle.srm_model.specs.World.{step, IsReached}
 use Rattle.srm_engine.specs.Engines.{setting_in, MayRefuseStep}
 use Rattle.srm_engine.specs.Starts.{setting_on}

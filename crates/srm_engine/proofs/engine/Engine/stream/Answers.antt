@@ -1,6 +1,6 @@
-use Rattle.std.proofs.Common.{◌≡◌, ◌<◌, ◌≤◌, List, [], Ok, inr, refl, sym, ◌∙◌, ap, subst, add-zero, length, length-append, arith}
+use Rattle.std.proofs.Common.{◌≡◌, ◌<◌, List, Ok, inr, refl, sym, ◌∙◌, ap, subst, add-zero, length, length-append, arith}
 use Rattle.srm_member.specs.declared.row.Row.{Row}
-use Rattle.srm_cell.specs.Setting.{Setting, setting_of}
+use Rattle.srm_cell.specs.Setting.{Setting}
 use Rattle.srm_model.specs.World.{opening, IsReached}
 use Rattle.srm_engine.specs.Engines.{setting_in}
 use Rattle.srm_engine.specs.Starts.{setting_on}

@@ -1,4 +1,4 @@
-use Rattle.std.proofs.Common.{◌≡◌, ◌∙◌, ◌<◌, ℕ, List, sym, ◌++◌, ◌∷◌, [], add-zero, arith, ap, subst, refl}
+use Rattle.std.proofs.Common.{◌∙◌, ◌<◌, ℕ, List, sym, ◌++◌, ◌∷◌, [], add-zero, arith, ap, subst, refl}
 use Rattle.srm_scenario.specs.declared.session.Session.{Session}
 use Rattle.srm_member.specs.declared.row.Row.{Row}
 use Rattle.srm_model.specs.World.{opening, IsReached, IsLast}
@@ -28,6 +28,7 @@ pub loop-begin-init : goal.loop-begin-init
 loop-begin-init g c = record {
   ready = c.requires.ready;
   serves = c.requires.serves;
+  same = g.met.C.WatchCrew.same_self c.args.crew.now;
   stands = c.requires.stands;
   none = c.requires.none;
   frame = refl;
@@ -135,6 +136,7 @@ loop-begin-preserved g c =
       ready = done.ready;
       serves = subst (λ (k : Session × ℕ × Ends). g.C.WatchCrew.serves c.window.new.crew k.0.scenario.now k.0.net.now)
           v.frame done.serves;
+      same = g.met.C.WatchCrew.same_more c.args.crew.now c.loop-begin.crew c.window.new.crew v.same done.same;
       stands = handed.stands;
       none = handed.none;
       frame = frame ∙ v.frame;
@@ -183,3 +185,14 @@ returns-clause-windows g c = λ seed h.
       subst (λ (k : Session × ℕ × Ends). g.C.WatchCrew.handed c.args.crew.now
           (window_jobs (ends_rule (setting_on k.0 seed) k.2) k.1 i.0) c.loop-begin.crew) v.frame i.4,
     )
+
+pub returns-in-Err-clause-same : goal.returns-in-Err-clause-same
+returns-in-Err-clause-same g c = g.met.C.WatchCrew.same_self c.args.crew.now
+
+pub returns-in-Err-window-clause-same : goal.returns-in-Err-window-clause-same
+returns-in-Err-window-clause-same g c = g.met.C.WatchCrew.same_more c.args.crew.now c.loop-begin.crew c.window.new.crew
+    c.loop-begin.invariant.same c.in-Err-window.ensures.same
+
+pub returns-in-Err-handed_on-clause-same : goal.returns-in-Err-handed_on-clause-same
+returns-in-Err-handed_on-clause-same g c = g.met.C.WatchCrew.same_more c.args.crew.now c.loop-begin.crew c.window.new.crew
+    c.loop-begin.invariant.same c.in-Ok.ensures.same

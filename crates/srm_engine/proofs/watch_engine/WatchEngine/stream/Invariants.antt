@@ -11,6 +11,7 @@ abbrev pub invariant-loop-begin : goal.invariant-loop-begin
 invariant-loop-begin g l = record {
   ready : g.C.WatchCrew.ready l.crew;
   serves : g.C.WatchCrew.serves l.crew l.fn.self.engine.session.scenario.now l.fn.self.engine.session.net.now;
+  same : g.C.WatchCrew.same l.fn.crew l.crew;
   stands : IsWatching g.M.Participant.plain l.ran;
   none : KeepsRows (g.W.Watch.keeps l.watch) l.ran [];
   frame : frame_of l.ran.engine ≡ frame_of l.fn.self.engine;

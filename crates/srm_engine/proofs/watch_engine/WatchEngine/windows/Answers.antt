@@ -1,4 +1,4 @@
-use Rattle.std.proofs.Common.{◌≡◌, ◌∙◌, ◌<◌, ℕ, List, sym, ◌++◌, ◌∷◌, [], arith, ap, subst, refl}
+use Rattle.std.proofs.Common.{◌∙◌, ◌<◌, ℕ, List, sym, ◌++◌, ◌∷◌, [], arith, ap, subst, refl}
 use Rattle.srm_scenario.specs.declared.session.Session.{Session}
 use Rattle.srm_member.specs.declared.row.Row.{Row}
 use Rattle.srm_engine.specs.Starts.{setting_on}
