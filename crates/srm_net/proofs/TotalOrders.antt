@@ -1,14 +1,12 @@
 -- Keys, names, pages and drops are ordered by their numbers: totally, and what ties is one.
 use Rattle.std.proofs.Common.{arith}
-use Rattle.std.proofs.Common.{◌≡◌, [], ◌∷◌, Some, Ordering, Equal, is_lt, ap, ◌∙◌, nat_cmp}
+use Rattle.std.proofs.Common.{◌≡◌, [], ◌∷◌, Equal, ap, ◌∙◌, nat_cmp}
 use Rattle.std.specs.Cmp.{IsTotalOrder, on_total}
 use Rattle.std.specs.Cmp.Lexicographic.{nat_list_cmp_total}
-use Rattle.std.specs.Ordering.{is_some_and, ordering_then, partial_lt, partial_ordering_then}
+use Rattle.std.specs.Ordering.{ordering_then}
 use Rattle.std.proofs.lemmas.Cmp.{tied_itself}
 use Rattle.srm_net.specs.contracts.key.KeyOrd.TheImpl as key_order
-use Rattle.srm_net.specs.contracts.key.KeyPartialOrd.TheImpl as key_partial
 use Rattle.srm_net.specs.contracts.rank.RankOrd.TheImpl as rank_order
-use Rattle.srm_net.specs.contracts.rank.RankPartialOrd.TheImpl as rank_partial
 use Rattle.srm_net.specs.declared.key.Key.{Key}
 use Rattle.srm_net.specs.declared.link.DropSpec.{DropSpec}
 use Rattle.srm_net.specs.declared.packet.Name.{Name}
@@ -45,26 +43,6 @@ keys_compared k l =
     ap (λ r. ordering_then (nat_cmp k.time l.time) (ordering_then (nat_cmp k.member l.member) (ordering_then r
     (ordering_then (nat_cmp k.a l.a) (ordering_then (nat_cmp k.b l.b) (nat_cmp k.c l.c)))))) (ranks_compared k.rank l.rank)
     ∙ numbers_compared k l
-
-ranks_partly : (r q : Rank) → rank_partial.partial_cmp-value.it r q ≡ Some (nat_cmp (rank_number r) (rank_number q))
-unfolding rank_number
-ranks_partly r q = grind arith
-
-some_then : (a b c d e f : Ordering)
-    → partial_ordering_then (Some a) (partial_ordering_then (Some b) (partial_ordering_then (Some c)
-    (partial_ordering_then (Some d) (partial_ordering_then (Some e) (Some f)))))
-    ≡ Some (ordering_then a (ordering_then b (ordering_then c (ordering_then d (ordering_then e (ordering_then f Equal))))))
-some_then a b c d e f = grind arith
-
--- `<` at keys says which is the lesser
-pub lesser_key : (k l : Key) → partial_lt key_partial.partial_cmp-value.it k l ≡ is_lt (key_cmp k l)
-lesser_key k l =
-    ap (λ o. is_some_and is_lt (partial_ordering_then (Some (nat_cmp k.time l.time))
-    (partial_ordering_then (Some (nat_cmp k.member l.member)) (partial_ordering_then o
-    (partial_ordering_then (Some (nat_cmp k.a l.a)) (partial_ordering_then (Some (nat_cmp k.b l.b)) (Some (nat_cmp k.c l.c))))))))
-    (ranks_partly k.rank l.rank)
-    ∙ ap (is_some_and is_lt) (some_then (nat_cmp k.time l.time) (nat_cmp k.member l.member)
-    (nat_cmp (rank_number k.rank) (rank_number l.rank)) (nat_cmp k.a l.a) (nat_cmp k.b l.b) (nat_cmp k.c l.c))
 
 pub name_total : IsTotalOrder name_cmp
 name_total = on_total (λ (n : Name). n.source ∷ n.page ∷ n.number ∷ []) nat_list_cmp_total
