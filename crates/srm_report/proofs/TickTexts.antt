@@ -1,6 +1,7 @@
 -- The texts of ticks, as lines are put behind them.
 use Rattle.std.proofs.Common.{◌≡◌, ◌∙◌, ◌⊎◌, inl, inr, ℕ, zero, suc, ◌+◌, ◌<◌, ◌≤◌, false, true, cond, List, [], ◌∷◌, ◌++◌}
-use Rattle.std.proofs.Common.{map, replicate, length, get_or, set, ◌==◌, refl, sym, ap, eq-eqb, append_assoc, append-nil, Vec, Global, arith}
+use Rattle.std.proofs.Common.{map, replicate, length, get_or, set, ◌==◌, refl, sym, ap, eq-eqb, append_assoc, append-nil}
+use Rattle.std.proofs.Common.{Vec, Global, arith}
 use Rattle.std.specs.List.{flat_map}
 use Rattle.std.proofs.lemmas.Bool.{ne_eqb}
 use Rattle.std.proofs.lemmas.Grind.{flat_map-append}
