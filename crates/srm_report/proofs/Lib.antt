@@ -24,8 +24,8 @@ pub mod TableLemmas
 mod TakingLemmas
 pub mod TallyLemmas
 mod SumLemmas
-mod TurnLemmas
 mod TickLemmas
 mod TickTexts
 mod SpanLemmas
+mod PlaceLemmas
 mod PieceLemmas

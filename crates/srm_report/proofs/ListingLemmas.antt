@@ -1,11 +1,12 @@
 -- Tables that list rows, row by row.
 use Rattle.std.proofs.Common.{arith}
-use Rattle.std.proofs.Common.{◌≡◌, ◌∙◌, ℕ, ◌<◌, ◌+◌, List, [], ◌∷◌, ◌++◌, length, get_or, take, ap, sym, append-nil, append_assoc}
+use Rattle.std.proofs.Common.{◌≡◌, ◌∙◌, ℕ, ◌<◌, ◌+◌, List, [], ◌∷◌, ◌++◌}
+use Rattle.std.proofs.Common.{length, get_or, take, fold, refl, ap, sym, append-nil, append_assoc}
 use Rattle.std.proofs.Math.Seq.{take-length}
-use Rattle.std.proofs.lemmas.List.{map-append, take_more}
+use Rattle.std.proofs.lemmas.List.{take_more}
 use Rattle.std.proofs.lemmas.Grind.{flat_map-append}
 use Rattle.srm_member.specs.declared.row.Row.{Row}
-use Rattle.srm_report.specs.KeptLines.{lines_of}
+use Rattle.srm_report.specs.KeptLines.{line_behind, lines_of}
 use Rattle.srm_report.specs.Listings.{Form, lines_in}
 
 -- the lines of one more row
@@ -23,15 +24,19 @@ pub text-more : (f : Form) (front : List ℕ) (rows : List Row) (i : ℕ) (r : R
     → new ≡ front ++ lines_in f (take (i + 1) rows)
 text-more f front rows i r old new line h e before is grown = grind (arith, append_assoc, lines-more)
 
+fold_push : {A B : Type 0} (g : B → A → B) (b : B) (xs : List A) (x : A) → fold g b (xs ++ x ∷ []) ≡ g (fold g b xs) x
+fold_push g b [] x = refl
+fold_push g b (y ∷ xs) x = fold_push g (g b y) xs x
+
 -- lines that are kept, with that of the next row
-pub kept-more : (f : Form) (before rows : List Row) (i : ℕ) (r : Row) (old new : List (ℕ × List ℕ)) (line : List ℕ) → i < length rows
-    → r ≡ get_or rows i r → old ≡ lines_of f (before ++ take i rows) → line ≡ f.line r → new ≡ old ++ (r.key.time, line) ∷ []
+pub kept-more : (f : Form) (before rows : List Row) (i : ℕ) (r : Row) (old new : List (ℕ × List ℕ)) → i < length rows
+    → r ≡ get_or rows i r → old ≡ lines_of f (before ++ take i rows) → new ≡ line_behind old r.key.time (f.line r)
     → new ≡ lines_of f (before ++ take (i + 1) rows)
-kept-more f before rows i r old new line h e was is grown =
+kept-more f before rows i r old new h e was grown =
     let one : take (i + 1) rows ≡ take i rows ++ r ∷ [] = take_more rows i r h ∙ ap (λ q. take i rows ++ q ∷ []) (sym e) in
     grown
-    ∙ (λ k. was k ++ (r.key.time, is k) ∷ [])
-    ∙ sym (map-append (λ (q : Row). (q.key.time, f.line q)) (before ++ take i rows) (r ∷ []))
+    ∙ ap (λ own. line_behind own r.key.time (f.line r)) was
+    ∙ sym (fold_push (λ own (q : Row). line_behind own q.key.time (f.line q)) [] (before ++ take i rows) r)
     ∙ ap (lines_of f) (append_assoc before (take i rows) (r ∷ []) ∙ ap (λ l. before ++ l) (sym one))
 
 -- a text of all rows has their lines

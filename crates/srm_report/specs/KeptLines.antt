@@ -1,14 +1,17 @@
--- Lines of rows, kept member by member.
-use Rattle.std.specs.Prelude.{ℕ, zero, suc, ◌+◌, ◌*◌, ◌^◌, List, [], ◌∷◌, ◌++◌, ◌≡◌, ◌≤◌, ◌-◌, take, drop}
-use Rattle.std.specs.Prelude.{map, nat_lt, cond, ◌==◌, ◌<◌, length, slice_index_or}
-use Rattle.std.specs.List.{flat_map, range_with_len}
+-- Lines of rows, kept member by member: those of one tick together.
+use Rattle.std.specs.Prelude.{ℕ, suc, zero, ◌+◌, List, [], ◌∷◌, ◌++◌, ◌≡◌, ◌≤◌, ◌-◌, take, drop}
+use Rattle.std.specs.Prelude.{map, cond, ◌==◌, All, Contains}
+use Rattle.std.specs.List.{flat_map, fold, range_with_len}
+use Rattle.std.specs.List.Sorted.{IsStrictlyIncreasing}
 use Rattle.srm_member.specs.declared.row.Row.{Row}
 use Rattle.srm_interfaces.specs.InTurn.{KeepInTurn}
 use Rattle.srm_report.specs.Listings.{Form}
 use Rattle.srm_report.specs.declared.lines.LineEnd.{LineEnd}
 use Rattle.srm_report.specs.declared.span.Span.{Span}
+use Rattle.srm_report.specs.declared.ticks.Ticks.{Ticks}
+use Rattle.srm_report.specs.declared.ticks.Ticks.TheVariants as ticks
 
--- the lines of a text which end there, from this place on
+-- the parts of a text which end there, from this place on, each with its tick
 unfoldable pub cut_from : ℕ → List ℕ → List LineEnd → List (ℕ × List ℕ)
 cut_from start text [] = []
 cut_from start text (e ∷ es) = (e.time, take (e.end - start) (drop start text)) ∷ cut_from e.end text es
@@ -18,30 +21,21 @@ unfoldable pub AreEnds : ℕ → ℕ → List LineEnd → Type 0
 AreEnds start all [] = start ≡ all
 AreEnds start all (e ∷ es) = (start ≤ e.end) × (e.end ≤ all) × AreEnds e.end all es
 
--- where line i starts, of those from this place on
+-- where part i starts, of those from this place on
 abbrev pub start_at : ℕ → ℕ → List LineEnd → ℕ
 start_at start zero es = start
 start_at start (suc i) [] = start
 start_at start (suc i) (e ∷ es) = start_at e.end i es
 
--- the lines of these rows, each with its time
+-- these lines, and a line of tick t behind them: with the last of them, where those are of the same tick
+abbrev pub line_behind : List (ℕ × List ℕ) → ℕ → List ℕ → List (ℕ × List ℕ)
+line_behind [] t line = (t, line) ∷ []
+line_behind (own ∷ []) t line = cond (own.0 == t) ((t, own.1 ++ line) ∷ []) (own ∷ (t, line) ∷ [])
+line_behind (own ∷ next ∷ more) t line = own ∷ line_behind (next ∷ more) t line
+
+-- the lines of these rows, those of one tick together, with their ticks
 abbrev pub lines_of : Form → List Row → List (ℕ × List ℕ)
-lines_of f rows = map (λ (r : Row). (r.key.time, f.line r)) rows
-
--- ---- turns
-
--- a turn in one number: a time before 2^48, and behind it the number of a member
-abbrev pub turn_at : ℕ → ℕ → ℕ
-turn_at m t = cond (nat_lt t (2 ^ 48)) (t * 2 ^ 16 + m) 0
-
--- the turn of a row
-abbrev pub turn_of : Row → ℕ
-turn_of r = turn_at r.key.member r.key.time
-
--- the turns of the lines of member m, of member m + 1 and so on
-abbrev pub turns_from : ℕ → List (List (ℕ × List ℕ)) → List ℕ
-turns_from m [] = []
-turns_from m (l ∷ ls) = map (λ (x : ℕ × List ℕ). turn_at m x.0) l ++ turns_from (suc m) ls
+lines_of f rows = fold (λ own (r : Row). line_behind own r.key.time (f.line r)) [] rows
 
 -- these are the lines of all members, of these rows, which stand in order: member m's are those of its rows
 abbrev pub AreLinesOf : Form → List Row → List (List (ℕ × List ℕ)) → Type 0
@@ -49,30 +43,39 @@ AreLinesOf f rows lists = KeepInTurn (λ l own. l ≡ lines_of f own) lists rows
 
 -- ---- ticks
 
+-- the ticks, one after the other
+abbrev pub ticks_in : Ticks → List ℕ
+ticks_in (ticks.From first count) = range_with_len first count
+ticks_in (ticks.These times) = times.items
+
+-- the ticks of all these lines
+abbrev pub times_of : List (List (ℕ × List ℕ)) → List ℕ
+times_of lists = flat_map (λ own. map (λ (x : ℕ × List ℕ). x.0) own) lists
+
+-- these are ticks in order, each once, and those of all these lines are among them
+pub record AreTicksOf (lists : List (List (ℕ × List ℕ))) (all : List ℕ) : Type 0 where
+  pub in_order : IsStrictlyIncreasing all
+  pub among : All (Contains all) (times_of lists)
+
 -- the text of those of these lines that are of tick t
 abbrev pub text_at : ℕ → List (ℕ × List ℕ) → List ℕ
 text_at t own = flat_map (λ (x : ℕ × List ℕ). cond (x.0 == t) x.1 []) own
 
--- the texts of n ticks, from tick t on: of each member's lines those of the tick, member after member
-abbrev pub tick_texts : ℕ → ℕ → List (List (ℕ × List ℕ)) → List (List ℕ)
-tick_texts t n lists = map (λ u. flat_map (text_at u) lists) (range_with_len t n)
+-- the text of each of these ticks: of each member's lines those of the tick, member after member
+abbrev pub tick_texts : List ℕ → List (List (ℕ × List ℕ)) → List (List ℕ)
+tick_texts all lists = map (λ t. flat_map (text_at t) lists) all
 
--- the texts of ticks, from tick t on, each with the text of these lines that are of its tick behind it
-abbrev pub with_ticks : ℕ → List (ℕ × List ℕ) → List (List ℕ) → List (List ℕ)
-with_ticks t own [] = []
-with_ticks t own (text ∷ texts) = (text ++ text_at t own) ∷ with_ticks (t + 1) own texts
+-- the texts of these ticks, each with the text of these lines that are of its tick behind it
+abbrev pub with_ticks : List ℕ → List (ℕ × List ℕ) → List (List ℕ) → List (List ℕ)
+with_ticks all own [] = []
+with_ticks [] own (text ∷ texts) = text ∷ texts
+with_ticks (t ∷ all) own (text ∷ texts) = (text ++ text_at t own) ∷ with_ticks all own texts
 
 -- ---- spans
 
--- a time is of these ticks
+-- a tick is one from the first to the last
 abbrev pub IsWithin : Span → ℕ → Type 0
 IsWithin s t = (s.first ≤ t) × (t ≤ s.last)
-
--- the first and the last of these lines are of these ticks
-abbrev pub AreWithin : Span → List (ℕ × List ℕ) → Type 0
-AreWithin s own =
-    (d : ℕ × List ℕ) → 0 < length own
-    → (s.first ≤ (slice_index_or own 0 d).0) × ((slice_index_or own (length own - 1) d).0 ≤ s.last)
 
 -- the ticks of the first are among those of the second
 abbrev pub IsWider : Span → Span → Type 0

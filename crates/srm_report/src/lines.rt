@@ -1,7 +1,7 @@
-//! Lines of rows, kept as one text and where each line ends.
+//! Lines of rows, kept as one text, and where those of each tick end.
 ghost use Rattle.std.specs.Prelude.{◌≡◌, ◌<◌, ◌≤◌, ◌++◌, ◌∷◌, [], length, is_ok, if◌then◌else◌};
 ghost use Rattle.std.proofs.Math.ListN.{get_or};
-ghost use Rattle.srm_report.specs.KeptLines.{start_at};
+ghost use Rattle.srm_report.specs.KeptLines.{line_behind, start_at};
 
 use crate::listing::Listing;
 use srm_member::row::Row;
@@ -11,16 +11,16 @@ use std::marker::Model;
 /// How many bytes most lines have at most, to make room for them at once.
 pub(crate) const USUAL_LINE: usize = 40;
 
-/// When a row was, and where its line ends.
+/// A tick, and where its lines end.
 #[derive(Clone, Copy)]
 pub struct LineEnd {
-    /// When.
+    /// The tick.
     pub time: u64,
-    /// Where.
+    /// Where they end.
     pub end: usize,
 }
 
-/// Lines of rows. Contracts see them as a list of times and lines.
+/// The lines of a member's rows, in parts: those of one tick are together. Contracts see them as a list of ticks and texts.
 #[derive(Drop)]
 pub struct Lines {
     ends: Vec<LineEnd>,
@@ -38,7 +38,7 @@ impl Model for Lines {
     ghost invariant = { λ l. AreEnds 0 (length l.text.items) l.ends.items };
 }
 
-// Where a line starts.
+// Where a part starts.
 fn start_of(ends: &[LineEnd], index: usize) -> usize
     requires { index ≤ length ends.now }
     ensures { result ≡ start_at 0 index ends.now }
@@ -73,25 +73,29 @@ impl Lines {
     /// # Errors
     /// [`AllocError`]: the lines are as they were.
     pub fn put<L: Listing>(&mut self, row: &Row) -> Result<(), AllocError>
-        ensures { self.new ≡ (if is_ok result then self.old ++ (row.now.key.time, L.form.line row.now) ∷ [] else self.old) }
+        ensures { self.new ≡ (if is_ok result then line_behind self.old row.now.key.time (L.form.line row.now) else self.old) }
     {
         self.ends.reserve(1)?;
         L::put_line(&mut self.text, row)?;
-        self.ends.push(LineEnd {
-            time: row.key.time,
-            end: self.text.len(),
-        })?;
+        let time = row.key.time;
+        let end = self.text.len();
+        let count = self.ends.len();
+        if count > 0 && self.ends[count - 1].time == time {
+            self.ends[count - 1] = LineEnd { time, end };
+            return Ok(());
+        }
+        self.ends.push(LineEnd { time, end })?;
         Ok(())
     }
 
-    /// How many lines there are.
+    /// How many parts there are.
     pub fn len(&self) -> usize
         ensures { result ≡ length self.now }
     {
         self.ends.len()
     }
 
-    /// When the row of a line was.
+    /// The tick of a part.
     pub fn time(&self, index: usize) -> u64
         requires { index < length self.now }
         ensures { (d : _) → result ≡ (get_or self.now index d).0 }
@@ -99,8 +103,8 @@ impl Lines {
         self.ends[index].time
     }
 
-    /// A line.
-    pub fn line(&self, index: usize) -> &[u8]
+    /// The text of a part.
+    pub fn text(&self, index: usize) -> &[u8]
         requires { index < length self.now }
         ensures { (d : _) → result.now ≡ (get_or self.now index d).1 }
     {

@@ -6,7 +6,7 @@ ghost use Rattle.srm_report.specs.KeptLines.{AreLinesOf};
 ghost use Rattle.srm_report.specs.Standings.{text_next, after_answer, TakesText};
 
 use crate::fault::ReportFault;
-use crate::in_turn::put_in_order;
+use crate::in_order::put_in_order;
 use crate::lines::Lines;
 use crate::listing::Listing;
 use crate::outlet::{OutFault, Outlet};

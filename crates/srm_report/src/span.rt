@@ -1,33 +1,30 @@
-//! The ticks of lines.
-ghost use Rattle.std.specs.Prelude.{◌≡◌, ◌+◌, ◌≤◌, List, All, IfSome};
-ghost use Rattle.srm_member.specs.declared.row.Row.{Row as R};
-ghost use Rattle.srm_report.specs.Listings.{Form};
-ghost use Rattle.srm_report.specs.KeptLines.{AreLinesOf, IsWithin, AreWithin, IsWider};
+//! The span of the ticks of lines.
+ghost use Rattle.std.specs.Prelude.{◌≡◌, ◌+◌, All, IfSome};
+ghost use Rattle.srm_report.specs.KeptLines.{IsWithin, IsWider, times_of};
 
 use crate::lines::Lines;
 
-// How many lines there are for each tick, at least, where the ticks are crowded.
-const CROWD: u64 = 8;
+// How many ticks there are for each part of the lines, at most, where the ticks are crowded.
+const MOST_TICKS: u64 = 4;
 
-/// The ticks of lines, from the first to the last, and how many lines there are, up to 2^64 - 1. Where there is none, the first
-/// tick is after the last.
+/// The ticks of lines, from the first to the last, and how many parts the lines have, each of one tick, up to 2^64 - 1. Where there
+/// is none, the first tick is after the last.
 #[derive(Clone, Copy)]
 pub(crate) struct Span {
     first: u64,
     last: u64,
-    lines: u64,
+    parts: u64,
 }
 
 impl Span {
     /// The ticks of the lines of all members.
     pub(crate) fn of(lists: &[Lines]) -> Span
-        ensures { (f : Form) (rows : List R) → AreLinesOf f rows lists.now
-            → All (λ r. IsWithin result r.key.time) rows }
+        ensures { All (IsWithin result) (times_of lists.now) }
     {
         let mut span = Span {
             first: u64::MAX,
             last: 0,
-            lines: 0,
+            parts: 0,
         };
         for own in lists {
             span = span.and(own);
@@ -42,7 +39,7 @@ impl Span {
         self.first
     }
 
-    /// How many ticks there are, where there are at least eight lines for each tick.
+    /// How many ticks there are, where they are at most four for each part.
     pub(crate) fn crowded_ticks(&self) -> Option<usize>
         ensures { IfSome result (λ ticks. self.now.first + ticks ≡ self.now.last + 1) }
     {
@@ -50,26 +47,34 @@ impl Span {
             return None;
         }
         let more = self.last - self.first;
-        if more < self.lines / CROWD {
+        if more < self.parts.saturating_mul(MOST_TICKS) {
             Some(more as usize + 1)
         } else {
             None
         }
     }
 
-    // The same with a member's lines, which stand in order of their times.
+    // The same with a member's lines.
     fn and(self, own: &Lines) -> Span
         ensures wider { IsWider self result }
-        ensures within { AreWithin result own.now }
+        ensures within { All (λ x. IsWithin result x.0) own.now }
     {
-        let count = own.len();
-        if count == 0 {
-            return self;
+        let mut span = self;
+        for index in 0..own.len() {
+            span = span.with(own.time(index));
         }
+        span
+    }
+
+    // The same with a part of this tick.
+    fn with(self, time: u64) -> Span
+        ensures wider { IsWider self result }
+        ensures within { IsWithin result time }
+    {
         Span {
-            first: self.first.min(own.time(0)),
-            last: self.last.max(own.time(count - 1)),
-            lines: self.lines.saturating_add(count as u64),
+            first: self.first.min(time),
+            last: self.last.max(time),
+            parts: self.parts.saturating_add(1),
         }
     }
 }

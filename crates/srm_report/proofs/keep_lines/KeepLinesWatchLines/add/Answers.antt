@@ -1,8 +1,8 @@
-use Rattle.std.proofs.Common.{◌≡◌, ◌∙◌, ◌<◌, ◌++◌, refl, ap, append-nil, sym, length, take, arith}
+use Rattle.std.proofs.Common.{◌≡◌, ◌∙◌, ◌<◌, ◌++◌, ap, append-nil, sym, length, take, arith}
 use Rattle.std.proofs.Math.Seq.{take-length}
 use Rattle.srm_report.specs.KeptLines.{lines_of}
 use Rattle.srm_report.proofs.ListingLemmas.{kept-more}
-use Rattle.srm_report.proofs.TurnLemmas.{any_default}
+use Rattle.std.proofs.lemmas.List.{get_or_default}
 use Rattle.srm_report.proofs.keep_lines.KeepLinesWatchLines.add.Goals as goal
 
 pub loop-row-init : goal.loop-row-init
@@ -13,8 +13,8 @@ loop-row-preserved g c before was =
     let rows = c.args.rows.now in
     let i = c.loop-row.row-index in
     let lt : i < length rows = c.loop-row-test.true in
-    kept-more g.L.Listing.form before rows i c.row-item.result c.loop-row.kept c.put.new.self _ lt
-    (c.row-item.is ∙ any_default rows i _ _ lt) (c.loop-row.invariant before was) refl c.in_ok-put.ensures
+    kept-more g.L.Listing.form before rows i c.row-item.result c.loop-row.kept c.put.new.self lt
+    (c.row-item.is ∙ get_or_default rows i _ _ lt) (c.loop-row.invariant before was) c.in_ok-put.ensures
 
 pub returns : goal.returns
 returns g c before was =

@@ -1,7 +1,0 @@
-use Rattle.std.proofs.Common.{◌≡◌, map, take}
-use Rattle.srm_report.specs.KeptLines.{tick_texts}
-use Rattle.srm_report.proofs.in_turn.by_ticks.Given as goal
-
--- the lines of the members so far were put behind the texts
-abbrev pub invariant-loop-own : goal.invariant-loop-own
-invariant-loop-own l = map (λ p. p.items) l.texts.items ≡ tick_texts l.first l.ticks (take l.own-index l.lists)
