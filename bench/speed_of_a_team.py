@@ -45,7 +45,7 @@ LABELS = {"members": "members", "delay": "delay of a link (ticks)", "workers": "
 
 
 def words(setting: Setting) -> list[str]:
-    """The options of the team; a job has as many members as go evenly to four jobs for each worker."""
+    """The options of the team; a job has as many members as go evenly to sixteen jobs for each worker."""
     cut = min(1024, max(1, setting.members // (16 * setting.workers)))
     return ["--engine", "window", "--crew", "team", "--workers", str(setting.workers), "--cut", str(cut)]
 
