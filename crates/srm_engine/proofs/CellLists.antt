@@ -13,6 +13,7 @@ use Rattle.srm_cell.specs.Views.{IsCell}
 use Rattle.srm_cell.specs.Jobs as cell
 use Rattle.srm_engine.specs.Seen.{AreCellsInOrder}
 use Rattle.srm_model.specs.WindowRuns.{own_cells}
+use Rattle.srm_interfaces.proofs.GroupedLemmas.{all_in_append}
 use Rattle.srm_engine.specs.Groups.{AreCuts, AreFull, sizes, all_in}
 use Rattle.srm_model.proofs.RunLemmas.{shifted}
 use Rattle.std.proofs.lemmas.Option.{same_Some}
@@ -86,10 +87,6 @@ last_cuts cut (m ∷ []) n some most h = (h.0, (some, most))
 last_cuts cut (m ∷ k ∷ ns) n some most h = (h.0, last_cuts cut (k ∷ ns) n some most h.1)
 
 module _ {A : Type 0} where
-  pub all_in_append : (gs hs : List (Vec A)) → all_in (gs ++ hs) ≡ all_in gs ++ all_in hs
-  all_in_append [] hs = refl
-  all_in_append (g ∷ gs) hs = ap (λ l. g.items ++ l) (all_in_append gs hs) ∙ sym (append_assoc g.items (all_in gs) (all_in hs))
-
   pub no_more_groups : (gs : List (Vec A)) → sizes gs ≡ [] → gs ≡ []
   no_more_groups [] h = refl
   no_more_groups (g ∷ gs) h = cc

@@ -1,5 +1,5 @@
 -- What is kept of a window's rows may be handed on, and what it tells.
-use Rattle.std.proofs.Common.{◌≡◌, ◌∙◌, ℕ, suc, ◌<◌, ◌≤◌, ◌^◌, List, [], ◌∷◌, ◌++◌, Err, All, IsSorted, length, sym, subst, arith}
+use Rattle.std.proofs.Common.{◌≡◌, ◌∙◌, ℕ, suc, ◌<◌, ◌≤◌, ◌^◌, List, [], ◌∷◌, ◌++◌, All, IsSorted, length, sym, subst, arith}
 use Rattle.std.proofs.lemmas.List.Elements.{All-nil, All-cons}
 use Rattle.srm_net.specs.declared.key.Key.{Key}
 use Rattle.srm_scenario.proofs.Members.{few_members}
@@ -9,19 +9,18 @@ use Rattle.srm_member.proofs.AllIn.{AllIn, AllIn-second}
 use Rattle.srm_cell.specs.Setting.{Setting, IsFit}
 use Rattle.srm_cell.specs.Cells.{PlainCell}
 use Rattle.srm_cell.proofs.CellSteps.{before_some}
+use Rattle.srm_interfaces.specs.declared.sink.SinkFault.{SinkFault}
 use Rattle.srm_interfaces.specs.Watches.{KeepMembers}
 use Rattle.srm_interfaces.specs.InTurn.{HasTurn, KeepInTurn}
 use Rattle.srm_model.specs.World.{World, IsReached, least_event, opening, row_cmp}
 use Rattle.srm_model.proofs.OneWindow.{part_rows}
 use Rattle.srm_model.proofs.RunLemmas.{Seq, rest, next}
 use Rattle.srm_model.proofs.Sequential.{Good, good_reached, good_step, member_below, step_facts}
-use Rattle.srm_engine.specs.declared.halt.Halt.{Halt}
 use Rattle.srm_engine.specs.declared.halt.Halt.TheVariants as halt
 use Rattle.srm_engine.specs.declared.window_fault.WindowFault.{WindowFault}
-use Rattle.srm_engine.specs.declared.window_fault.WindowFault.TheVariants.{NoMemory}
 use Rattle.srm_engine.specs.declared.watch_engine.WatchEngine.{WatchEngine}
 use Rattle.srm_engine.specs.Streams.{TellsHalt}
-use Rattle.srm_engine.specs.WatchEngines.{IsWatching, HandsKept, KeepsRows, kept_by}
+use Rattle.srm_engine.specs.WatchEngines.{IsWatching, KeepsRows, kept_by}
 use Rattle.srm_engine.specs.WindowEngines.{ComesTo, setting_by}
 use Rattle.srm_engine.proofs.Stepping.{opening_reached, opening_trace}
 use Rattle.srm_engine.proofs.WatchWindows.{all_long}
@@ -89,13 +88,11 @@ kept_in_turn f keeps e is seed begins w comes front rows grown sorted kept =
       are = kept;
     }
 
--- why not all was handed on that is kept of a window
-pub kept_halted : {S : Type 0} (took part : S → List Row → S → Type 0)
+-- where a sink stops as it is handed what is kept of a window, it took no more than a front of the trace
+pub kept_stopped : {S : Type 0} (took part : S → List Row → S → Type 0)
     → ((a b c : S) (xs ys : List Row) → took a xs b → part b ys c → part a (xs ++ ys) c)
     → (s : Setting) (may : World → WindowFault → Type 0) (rows : List Row) (from sink to : S) (w u : World)
-    → IsReached s w → may w NoMemory → took from w.trace sink → IsReached s u → u.trace ≡ w.trace ++ rows
-    → (x : Halt WindowFault) → HandsKept {A = Unit {0}} took part rows sink (Err x) to → TellsHalt took part may s from x to
-kept_halted took part more s may rows from sink to w u comes none so_far later grown (halt.Run e) h =
-    (w, comes, subst (took from w.trace) (sym h.1) so_far, subst (may w) (sym h.0) none)
-kept_halted took part more s may rows from sink to w u comes none so_far later grown (halt.Sink e) h =
+    → took from w.trace sink → IsReached s u → u.trace ≡ w.trace ++ rows
+    → (x : SinkFault) → part sink rows to → TellsHalt took part may s from (halt.Sink x) to
+kept_stopped took part more s may rows from sink to w u so_far later grown x h =
     (u, later, subst (λ (l : List Row). part from l to) (sym grown) (more from sink to w.trace rows so_far h))

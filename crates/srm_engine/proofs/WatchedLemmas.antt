@@ -1,7 +1,7 @@
 -- Watched jobs, and what is left of what is done of them.
-use Rattle.std.proofs.Common.{◌≡◌, ◌∙◌, ◌++◌, ℕ, suc, List, [], ◌∷◌, All, length, map, refl, sym, ap, append_assoc, append-nil}
-use Rattle.std.proofs.Common.{length-append, add-one}
-use Rattle.std.proofs.lemmas.List.{map-append}
+use Rattle.std.proofs.Common.{◌≡◌, ◌∙◌, ◌++◌, ℕ, suc, List, [], ◌∷◌, All, length, map, refl, sym, ap, append_assoc}
+use Rattle.std.proofs.Common.{length-append, add-one, ◌+◌, ◌<◌, get_or, set, take, subst}
+use Rattle.std.proofs.lemmas.List.{map-append, map-set, get_or-map, set-get_or, take_more_set}
 use Rattle.std.proofs.lemmas.List.Elements.{All-nil, All-cons, All-head, All-tail, All-append, filter_map-append}
 use Rattle.std.specs.Global.{Vec}
 use Rattle.srm_net.specs.Network.{Network}
@@ -17,6 +17,7 @@ use Rattle.srm_cell.proofs.RowPackets.{joined-append}
 use Rattle.srm_interfaces.specs.declared.watched.WatchedJob.{WatchedJob}
 use Rattle.srm_interfaces.specs.declared.watched.WatchedDone.{WatchedDone}
 use Rattle.srm_interfaces.specs.Watches.{HaveKept, KeepEach, WatchEach, jobs_in, KeepMembers}
+use Rattle.srm_interfaces.proofs.GroupedLemmas.{all_in_push}
 use Rattle.srm_engine.specs.Groups.{all_in, sizes, jobs_with, groups_of, lists_of}
 use Rattle.srm_engine.specs.WatchedGroups.{watched_with, groups_in, kept_of, sent_of}
 
@@ -74,13 +75,25 @@ module _ {M K : Type 0} where
   places_in [] = refl
   places_in (j ∷ js) = ap (λ l. j.place ∷ l) (places_in js)
 
--- ---- groups
-
-pub all_in_push : {A : Type 0} (gs : List (Vec A)) (g : Vec A) → all_in (gs ++ g ∷ []) ≡ all_in gs ++ g.items
-all_in_push [] g = append-nil g.items
-all_in_push (x ∷ gs) g = ap (λ l. x.items ++ l) (all_in_push gs g) ∙ sym (append_assoc x.items (all_in gs) g.items)
-
 -- ---- what is kept
+
+-- where one of a group is written back, and is so, those so far are
+pub one_done : {K : Type 0} (P : K → Type 0) (group : List K) (i : ℕ) (own : K) → i < length group → All P (take i group) → P own
+    → All P (take (i + 1) (set group i own))
+one_done P group i own lt before is =
+    subst (All P) (sym (take_more_set group i own lt)) (All-append P (take i group) (own ∷ []) before (All-cons P own [] is (All-nil P)))
+
+-- where a group is written back with as many as before, of which all are so, the groups so far are
+pub group_done : {K : Type 0} (P : K → Type 0) (gs : List (Vec K)) (i : ℕ) (v : Vec K) → i < length gs
+    → length v.items ≡ length (get_or gs i v).items → All P (all_in (take i gs)) → All P v.items
+    → (sizes (set gs i v) ≡ sizes gs) × All P (all_in (take (i + 1) (set gs i v)))
+group_done {K} P gs i v lt long before own = (
+  map-set (λ (g : Vec K). length g.items) gs i v
+      ∙ ap (set (sizes gs) i) (long ∙ sym (get_or-map (λ (g : Vec K). length g.items) gs i v 0 lt))
+      ∙ set-get_or (sizes gs) i 0,
+  subst (All P) (sym (ap all_in (take_more_set gs i v lt) ∙ all_in_push (take i gs) v))
+      (All-append P (all_in (take i gs)) v.items before own),
+)
 
 module _ {K : Type 0} (keeps : K → List Row → Type 0) where
   pub none_kept : (m : ℕ) (ks : List K) → All (λ k. keeps k []) ks → KeepMembers keeps m ks []

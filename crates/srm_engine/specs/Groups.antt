@@ -10,6 +10,7 @@ use Rattle.srm_cell.specs.declared.job.Done as job
 use Rattle.srm_cell.specs.Setting.{Setting}
 use Rattle.srm_cell.specs.Cells.{PlainCell}
 use Rattle.srm_cell.specs.Crossings.{packets_of}
+pub use Rattle.srm_interfaces.specs.Grouped.{all_in, sizes}
 use Rattle.srm_engine.specs.Seen.{AreCellsInOrder}
 use Rattle.srm_engine.specs.declared.groups.Groups.{Groups}
 use Rattle.srm_engine.specs.Soonest.{AreSoonest}
@@ -39,16 +40,6 @@ AreCuts cut (n ∷ m ∷ ns) = (n ≡ cut) × AreCuts cut (m ∷ ns)
 abbrev pub AreFull : ℕ → List ℕ → Type 0
 AreFull cut [] = Unit {0}
 AreFull cut (n ∷ ns) = (n ≡ cut) × AreFull cut ns
-
-module _ {A : Type 0} where
-  -- the size of each group
-  abbrev pub sizes : List (Vec A) → List ℕ
-  sizes gs = map (λ (g : Vec A). length g.items) gs
-
-  -- what is in the groups, group after group
-  abbrev pub all_in : List (Vec A) → List A
-  all_in [] = []
-  all_in (g ∷ gs) = g.items ++ all_in gs
 
 module _ {M : Type 0} where
   -- the groups are those of all these plain cells, in runs of `cut`

@@ -1,5 +1,5 @@
 -- What is seen of the engine in windows that keeps what a watch keeps, and what its calls tell.
-use Rattle.std.specs.Prelude.{◌≡◌, ℕ, List, [], ◌∷◌, ◌++◌, IsSorted, Result, Ok, Err, MatchResult}
+use Rattle.std.specs.Prelude.{◌≡◌, ℕ, List, [], ◌∷◌, ◌++◌, IsSorted, Result, MatchResult}
 use Rattle.srm_member.specs.declared.row.Row.{Row}
 use Rattle.srm_member.specs.Record.{Record}
 use Rattle.srm_cell.specs.Jobs as cell
@@ -7,22 +7,11 @@ use Rattle.srm_model.specs.World.{World, IsLast, row_cmp}
 use Rattle.srm_model.specs.WindowRuns.{jobs_of}
 use Rattle.srm_model.specs.WindowChains.{window_jobs}
 use Rattle.srm_engine.specs.declared.watch_engine.WatchEngine.{WatchEngine}
-use Rattle.srm_engine.specs.declared.halt.Halt.{Halt}
-use Rattle.srm_engine.specs.declared.halt.Halt.TheVariants as halt
 use Rattle.srm_engine.specs.declared.window_fault.WindowFault.{WindowFault}
-use Rattle.srm_engine.specs.declared.window_fault.WindowFault.TheVariants.{NoMemory}
 use Rattle.srm_engine.specs.Groups.{all_in, sizes}
 use Rattle.srm_interfaces.specs.Watches.{KeepMembers}
 use Rattle.srm_engine.specs.WindowEngines.{ComesTo, IsUnderWay, OpensAt, setting_by, rule_by}
 use Rattle.srm_engine.specs.Windowed.{MayCome, MayRefuseWindow}
-
--- what is told where a sink is handed what is kept of these rows: it took them, or no more than a front; or memory was
--- refused before, and it is as it was
-abbrev pub HandsKept : {A S : Type 0} → (S → List Row → S → Type 0) → (S → List Row → S → Type 0) → List Row → S
-    → Result A (Halt WindowFault) → S → Type 0
-HandsKept took part rows old (Ok v) new = took old rows new
-HandsKept took part rows old (Err (halt.Run e)) new = (e ≡ NoMemory) × (new ≡ old)
-HandsKept took part rows old (Err (halt.Sink e)) new = part old rows new
 
 module _ {M K : Type 0} where
   -- all that is kept, group after group

@@ -22,6 +22,10 @@ impl Watch<Vec<Row>> for KeepRows {
         Vec::new(self.alloc)
     }
 
+    fn clear(&self, kept: &mut Vec<Row>) {
+        kept.clear();
+    }
+
     fn add(&self, kept: &mut Vec<Row>, rows: &[Row]) -> Result<(), AllocError> {
         for row in rows {
             kept.push(copied(self.alloc, row)?)?;

@@ -1,5 +1,5 @@
 //! The engine in windows that keeps no rows, but what a watch keeps of them.
-ghost use Rattle.std.specs.Prelude.{◌≡◌, ◌<◌, ◌+◌, ◌-◌, ◌^◌, [], ℕ, List, IfOk};
+ghost use Rattle.std.specs.Prelude.{◌≡◌, ◌<◌, ◌+◌, ◌-◌, ◌^◌, [], ℕ, List, IfOk, MatchResult};
 ghost use Rattle.srm_member.specs.declared.row.Row.{Row as OneRow};
 ghost use Rattle.srm_interfaces.specs.declared.sink.Stage.{Stage as AStage};
 ghost use Rattle.srm_interfaces.specs.Sinks.{IsReady, stage_after, stops_in};
@@ -10,19 +10,20 @@ ghost use Rattle.srm_engine.specs.WindowStreams.{IsLeft, TellsStreamAsked, Calls
 ghost use Rattle.srm_engine.specs.RowRuns.{TellsLast, MayLackWindow, TellsUndone};
 ghost use Rattle.srm_engine.specs.Ends.{MayCut};
 ghost use Rattle.srm_engine.specs.WindowEngines.{frame_of, IsUnderWay, IsAt, OpensAt, BeginsNext, TellsWindows};
-ghost use Rattle.srm_engine.specs.WatchEngines.{IsWatching, KeepsRows, HandsKept, TellsWatched, TellsAllWatched, kept_by};
+ghost use Rattle.srm_engine.specs.WatchEngines.{IsWatching, KeepsRows, TellsWatched, TellsAllWatched, kept_by};
 
 use crate::cutting::Cutting;
 use crate::groups::Groups;
 use crate::halt::Halt;
-use crate::handing::{hand_kept, hand_none};
+use crate::handing::hand_none;
 use crate::start::Start;
 use crate::stream_fault::StreamFault;
-use crate::watched_groups::{none_of_each, taken_apart, watched_jobs};
+use crate::watched_groups::{clear_each, none_of_each, taken_apart, watched_jobs};
 use crate::width::Windows;
 use crate::window_engine::WindowEngine;
 use crate::window_fault::WindowFault;
 use srm_interfaces::kept_sink::KeptSink;
+use srm_interfaces::sink::SinkFault;
 use srm_interfaces::watch::Watch;
 use srm_interfaces::watch_crew::WatchCrew;
 use srm_member::participant::Participant;
@@ -185,7 +186,7 @@ impl<'a, M: Participant, K: Drop> WatchEngine<'a, M, K> {
         alloc: Global,
         watch: &W,
         sink: &mut S,
-    ) -> Result<WatchEngine<'a, M, K>, Halt<WindowFault>>
+    ) -> Result<WatchEngine<'a, M, K>, SinkFault>
         requires stands { IsWatching M.plain self }
         requires live { S.stage sink.old ≡ AStage.Live }
         requires failures { S.failures sink.old < 2 ^ 64 - 1 }
@@ -193,19 +194,16 @@ impl<'a, M: Participant, K: Drop> WatchEngine<'a, M, K> {
         ensures stands { IfOk result (λ e. IsWatching M.plain e) }
         ensures none { IfOk result (λ e. KeepsRows (W.keeps watch.now) e []) }
         ensures device { S.same sink.old sink.new }
-        ensures stage { S.stage sink.new ≡ stage_after (sink_in result) }
-        ensures failures { S.failures sink.new ≡ S.failures sink.old + stops_in (sink_in result) }
+        ensures stage { S.stage sink.new ≡ stage_after result }
+        ensures failures { S.failures sink.new ≡ S.failures sink.old + stops_in result }
         ensures rows { (rows : List OneRow) → KeepInTurn S.keeps (kept_by self.entry) rows
-            → HandsKept S.took S.part rows sink.old result sink.new }
+            → MatchResult result (λ _. S.took sink.old rows sink.new) (λ _. S.part sink.old rows sink.new) }
     {
         let WatchEngine { engine, kept } = self;
-        let Ok(none) = none_of_each(alloc, watch, engine.groups.groups.as_slice()) else {
-            return Err(Halt::Run(WindowFault::NoMemory));
-        };
-        match hand_kept(alloc, sink, kept) {
-            Ok(()) => Ok(WatchEngine { engine, kept: none }),
-            Err(halt) => Err(halt),
-        }
+        sink.kept(alloc, kept.as_slice())?;
+        let mut kept = kept;
+        clear_each(watch, kept.as_mut_slice());
+        Ok(WatchEngine { engine, kept })
     }
 
     // Windows, one after the other, until nothing is pending before the end of the run. A sink is handed first no row, and then
@@ -247,7 +245,7 @@ impl<'a, M: Participant, K: Drop> WatchEngine<'a, M, K> {
             };
             let next = match ended.handed_on(alloc, &watch, sink) {
                 Ok(next) => next,
-                Err(halt) => return Err(halt),
+                Err(fault) => return Err(Halt::Sink(fault)),
             };
             begin = next.engine.begin();
             ran = next;

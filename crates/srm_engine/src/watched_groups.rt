@@ -43,6 +43,26 @@ fn none_of<K: Drop, W: Watch<K>>(
     Ok(own)
 }
 
+/// Makes what is kept of each cell of the groups what the watch keeps of no row.
+pub(crate) fn clear_each<K, W: Watch<K>>(watch: &W, groups: &mut [Vec<K>])
+    ensures each { sizes groups.new ≡ sizes groups.old }
+    ensures none { All (λ k. W.keeps watch.now k []) (all_in groups.new) }
+{
+    for group in groups.iter_mut() {
+        clear_group(watch, group.as_mut_slice());
+    }
+}
+
+// The same of the cells of one group.
+fn clear_group<K, W: Watch<K>>(watch: &W, group: &mut [K])
+    ensures many { length group.new ≡ length group.old }
+    ensures none { All (λ k. W.keeps watch.now k []) group.new }
+{
+    for own in group.iter_mut() {
+        watch.clear(own);
+    }
+}
+
 /// The jobs of a window, one for each group, with what is kept of its cells.
 pub(crate) fn watched_jobs<M: Participant, K: Drop>(
     alloc: Global,

@@ -4,3 +4,4 @@ pub mod Hearers
 pub mod Sinks
 pub mod Watches
 pub mod InTurn
+pub mod Grouped

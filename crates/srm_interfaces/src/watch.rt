@@ -14,6 +14,10 @@ pub trait Watch<K> {
     fn none(&self) -> K
         ensures { keeps self.now result [] };
 
+    /// Makes this what is kept of no row, whatever it was.
+    fn clear(&self, kept: &mut K)
+        ensures { keeps self.now kept.new [] };
+
     /// Takes in more rows of the member.
     ///
     /// # Errors

@@ -72,7 +72,7 @@ ends_more text line s n (x ∷ es) e h d f =
     let b : x.end ≤ n = omega arith in
     (h.0, b, ends_more text line x.end n es e h.2 d f)
 
-pub cut_more : (text line : List ℕ) (s : ℕ) (es : List LineEnd) (e : LineEnd) → AreEnds s (length text) es
+cut_more : (text line : List ℕ) (s : ℕ) (es : List LineEnd) (e : LineEnd) → AreEnds s (length text) es
     → e.end ≡ length text + length line
     → cut_from s (text ++ line) (es ++ e ∷ []) ≡ cut_from s text es ++ (e.time, line) ∷ []
 unfolding AreEnds cut_from

@@ -28,4 +28,5 @@ mod TickLemmas
 mod TickTexts
 mod SpanLemmas
 mod PlaceLemmas
+mod ChainLemmas
 mod PieceLemmas

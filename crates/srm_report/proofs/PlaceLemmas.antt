@@ -14,24 +14,17 @@ use Rattle.std.proofs.lemmas.List.Kept.{AllPairs-from_increasing, Contains-dedup
 use Rattle.std.proofs.lemmas.List.Sorted.{searched, list_any-IsPermutation}
 use Rattle.std.proofs.lemmas.Map.Keys.{IsStrictlyIncreasing-dedup}
 use Rattle.srm_report.specs.declared.span.Span.{Span}
-use Rattle.srm_report.specs.KeptLines.{AreTicksOf, IsWithin, times_of}
-use Rattle.srm_report.proofs.TickLemmas.{range_has}
+use Rattle.srm_report.specs.KeptLines.{AreTicksOf, IsWithin, times_in}
+use Rattle.srm_report.proofs.TickLemmas.{range_has, range_increases}
 
 -- ---- all ticks from one on
 
-range_increases : (a n : ℕ) → IsStrictlyIncreasing (range_with_len a n)
-range_increases a n k lt =
-    let long = length-range_with_len a n in
-    let first = get_or-range_with_len a n k 0 (omega arith) in
-    let next = get_or-range_with_len a n (k + 1) 0 (omega arith) in
-    omega arith
-
 pub ticks_of_span : (s : Span) (n : ℕ) (lists : List (List (ℕ × List ℕ))) → s.first + n ≡ s.last + 1
-    → All (IsWithin s) (times_of lists) → AreTicksOf lists (range_with_len s.first n)
+    → All (IsWithin s) (times_in lists) → AreTicksOf lists (range_with_len s.first n)
 ticks_of_span s n lists e h = record {
   in_order = range_increases s.first n;
   among = All-weaker (IsWithin s) (Contains (range_with_len s.first n))
-      (λ x w. let low = w.0 in let high = w.1 in range_has s.first n x low (omega arith)) (times_of lists) h;
+      (λ x w. let low = w.0 in let high = w.1 in range_has s.first n x low (omega arith)) (times_in lists) h;
 }
 
 pub before_range : (a n x : ℕ) → (x < a) ⊎ (a + n ≤ x) → Contains (range_with_len a n) x → ⊥
@@ -59,7 +52,7 @@ permuted xs ys x perm c =
     let same = eqb-true some.1 x some.4 in
     subst (Contains ys) same (some.0, some.2, some.3)
 
-pub ticks_of_times : (times sorted left : List ℕ) (lists : List (List (ℕ × List ℕ))) → times ≡ times_of lists
+pub ticks_of_times : (times sorted left : List ℕ) (lists : List (List (ℕ × List ℕ))) → times ≡ times_in lists
     → IsPermutation times sorted → IsSorted nat_cmp sorted → left ≡ dedup (λ x y. x == y) sorted → AreTicksOf lists left
 ticks_of_times times sorted left lists are perm in_order is = record {
   in_order = subst IsStrictlyIncreasing (sym is) (IsStrictlyIncreasing-dedup sorted in_order);

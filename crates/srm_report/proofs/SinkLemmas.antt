@@ -1,7 +1,7 @@
 -- What writing after what is gathered does to a sink.
 use Rattle.std.proofs.Common.{arith}
 use Rattle.std.proofs.Common.{◌≡◌, ◌∙◌, ℕ, ◌+◌, ◌<◌, Bool, List, [], ◌++◌, Option, Result, Ok, Err, length, ◌≤◌, take, drop}
-use Rattle.std.proofs.Common.{get_or, ap, refl, sym, subst, append-nil, Vec, Global}
+use Rattle.std.proofs.Common.{get_or, ap, refl, sym, subst, append-nil}
 use Rattle.std.specs.Result.{MatchResult}
 use Rattle.srm_member.specs.declared.row.Row.{Row}
 use Rattle.srm_interfaces.specs.declared.sink.SinkFault.{SinkFault}
@@ -15,7 +15,9 @@ use Rattle.srm_report.specs.Standings.{text_next, after_answer, TakesText}
 use Rattle.srm_report.specs.ListingSinks.{outlet_under, gathered_by, stage_at, written_by, PutsAll, PutsFront}
 use Rattle.srm_report.specs.ListingSinks.{PutsText, PutsRows, PutsPart, WritesThrough}
 use Rattle.srm_report.specs.SinkLaws.{all_more, front_more, front_longer}
-use Rattle.srm_report.proofs.PieceLemmas.{text_in, pieces_so_far, pieces_cut}
+use Rattle.srm_report.specs.declared.piece.Piece.{Piece}
+use Rattle.srm_report.specs.Pieces.{bytes_of, whole_text}
+use Rattle.srm_report.proofs.PieceLemmas.{pieces_so_far, pieces_cut}
 
 -- after what was gathered is written, a text is
 pub written_after : {L O A E : Type 0} (taken : O → Option (List ℕ)) (a b c : ListingSink L O) (text : List ℕ) (r : Result A E)
@@ -48,16 +50,16 @@ pub rows_put : {L O A : Type 0} (taken : O → Option (List ℕ)) (f : Form) (a 
 rows_put taken f a b rows r begun s fits h e = grind arith
 
 -- after the first pieces of a text one more is put, or else no more than a front of it is taken
-module _ {L O : Type 0} (taken : O → Option (List ℕ)) (a b c : ListingSink L O) (ps : List (Vec ℕ Global)) (i : ℕ)
-    (p : Vec ℕ Global) (lt : i < length ps) (is : p ≡ get_or ps i p) (so_far : PutsAll taken a (text_in (take i ps)) b) where
-  pub piece_put : PutsAll taken b p.items c → PutsAll taken a (text_in (take (i + 1) ps)) c
+module _ {L O : Type 0} (taken : O → Option (List ℕ)) (a b c : ListingSink L O) (ps : List Piece) (i : ℕ) (p : Piece)
+    (lt : i < length ps) (is : p ≡ get_or ps i p) (so_far : PutsAll taken a (whole_text (take i ps)) b) where
+  pub piece_put : PutsAll taken b (bytes_of p) c → PutsAll taken a (whole_text (take (i + 1) ps)) c
   piece_put k =
       subst (λ (l : List ℕ). PutsAll taken a l c) (sym (pieces_so_far ps i p lt is))
-      (all_more taken a b c (text_in (take i ps)) p.items so_far k)
+      (all_more taken a b c (whole_text (take i ps)) (bytes_of p) so_far k)
 
-  pub piece_front : PutsFront taken b p.items c → PutsFront taken a (text_in ps) c
+  pub piece_front : PutsFront taken b (bytes_of p) c → PutsFront taken a (whole_text ps) c
   piece_front k =
       subst (λ (l : List ℕ). PutsFront taken a l c)
-      (ap (λ (l : List ℕ). l ++ text_in (drop (i + 1) ps)) (sym (pieces_so_far ps i p lt is)) ∙ pieces_cut (i + 1) ps)
-      (front_longer taken a c (text_in (take i ps) ++ p.items) (text_in (drop (i + 1) ps))
-      (front_more taken a b c (text_in (take i ps)) p.items so_far k))
+      (ap (λ (l : List ℕ). l ++ whole_text (drop (i + 1) ps)) (sym (pieces_so_far ps i p lt is)) ∙ pieces_cut (i + 1) ps)
+      (front_longer taken a c (whole_text (take i ps) ++ bytes_of p) (whole_text (drop (i + 1) ps))
+      (front_more taken a b c (whole_text (take i ps)) (bytes_of p) so_far k))

@@ -17,8 +17,9 @@ use Rattle.srm_interfaces.specs.InTurn.{HasTurn}
 use Rattle.srm_model.specs.World.{row_cmp}
 use Rattle.srm_model.proofs.SortedRows.{rows_rise}
 use Rattle.srm_report.specs.Listings.{Form, lines_in}
-use Rattle.srm_report.specs.KeptLines.{line_behind, lines_of, text_at, tick_texts, times_of}
+use Rattle.srm_report.specs.KeptLines.{line_behind, lines_of, text_at, tick_texts, times_in}
 use Rattle.srm_report.specs.KeptLines.{AreLinesOf, AreTicksOf}
+use Rattle.std.specs.List.Sorted.{IsStrictlyIncreasing}
 use Rattle.srm_report.proofs.TickTexts.{AreRising, rising}
 
 -- ---- a list in order is its parts
@@ -80,13 +81,12 @@ module _ {A : Type 0} (k : A → ℕ) where
 
 -- ---- numbers from one on
 
-pub range_above : (a b n : ℕ) → a < b → AllIn (λ u. a < u) (range_with_len b n)
-range_above a b zero lt = tt
-range_above a b (suc n) lt = (lt, range_above a (b + 1) n (omega arith))
-
-pub range_rises : (a n : ℕ) → AreRising (range_with_len a n)
-range_rises a zero = tt
-range_rises a (suc n) = (range_above a (a + 1) n (omega arith), range_rises (a + 1) n)
+pub range_increases : (a n : ℕ) → IsStrictlyIncreasing (range_with_len a n)
+range_increases a n k lt =
+    let long = length-range_with_len a n in
+    let first = get_or-range_with_len a n k 0 (omega arith) in
+    let next = get_or-range_with_len a n (k + 1) 0 (omega arith) in
+    omega arith
 
 pub range_has : (a n x : ℕ) → a ≤ x → x < a + n → Contains (range_with_len a n) x
 range_has a n x low high =
@@ -220,7 +220,7 @@ tick_lines f t rows lists are =
     AllIn-weaker (HasTurn n) (λ (r : Row). Contains (range_with_len 0 n) r.key.member)
     (λ r has. let low = has.member in range_has 0 n r.key.member (omega arith) (omega arith)) rows
     (AllIn-at_places (HasTurn n) rows are.turns) in
-    ap (lines_in f) (sym (parts_are_whole member (range_with_len 0 n) (of_tick t rows) (range_rises 0 n)
+    ap (lines_in f) (sym (parts_are_whole member (range_with_len 0 n) (of_tick t rows) (rising (range_with_len 0 n) (range_increases 0 n))
     (AllIn-filter _ (λ (r : Row). r.key.time == t) rows few) (members_climb t rows rise)))
     ∙ members_tick f t 0 rows lists are.are
 
@@ -257,7 +257,7 @@ module _ (P : ℕ → Type 0) where
       (first.0, (first.1, rest.1))
 
   own_ticks : (f : Form) (rows : List Row) (m j : ℕ) (lists : List (List (ℕ × List ℕ)))
-      → KeepMembers (λ l own. l ≡ lines_of f own) m lists rows → AllIn P (times_of lists) → j < length lists
+      → KeepMembers (λ l own. l ≡ lines_of f own) m lists rows → AllIn P (times_in lists) → j < length lists
       → AllIn (λ (r : Row). P r.key.time) (rows_of_member (m + j) rows)
   own_ticks f rows m j [] k h lt = absurd (omega arith)
   own_ticks f rows m zero (l ∷ lists) k h lt =
@@ -265,12 +265,12 @@ module _ (P : ℕ → Type 0) where
       let ticks = map (λ (x : ℕ × List ℕ). x.0) l in
       subst (λ i. AllIn (λ (r : Row). P r.key.time) (rows_of_member i rows)) same
       (together_ticks f [] (rows_of_member m rows)
-      (subst (AllIn (λ x. P x.0)) k.0 (AllIn-unmap P (λ (x : ℕ × List ℕ). x.0) l (AllIn-first P ticks (times_of lists) h)))).1
+      (subst (AllIn (λ x. P x.0)) k.0 (AllIn-unmap P (λ (x : ℕ × List ℕ). x.0) l (AllIn-first P ticks (times_in lists) h)))).1
   own_ticks f rows m (suc j) (l ∷ lists) k h lt =
       let same : suc m + j ≡ m + suc j = omega arith in
       let ticks = map (λ (x : ℕ × List ℕ). x.0) l in
       subst (λ i. AllIn (λ (r : Row). P r.key.time) (rows_of_member i rows)) same
-      (own_ticks f rows (suc m) j lists k.1 (AllIn-second P ticks (times_of lists) h) (omega arith))
+      (own_ticks f rows (suc m) j lists k.1 (AllIn-second P ticks (times_in lists) h) (omega arith))
 
 module _ (P : Row → Type 0) where
   without : (b : Bool) (r : Row) (rows : List Row) → AllIn P (cond b (r ∷ rows) rows) → AllIn P rows
@@ -288,7 +288,7 @@ module _ (P : Row → Type 0) where
   )
 
 row_ticks : (P : ℕ → Type 0) (f : Form) (rows : List Row) (lists : List (List (ℕ × List ℕ))) → AreLinesOf f rows lists
-    → AllIn P (times_of lists) → AllIn (λ (r : Row). P r.key.time) rows
+    → AllIn P (times_in lists) → AllIn (λ (r : Row). P r.key.time) rows
 row_ticks P f rows lists are h =
     let n = length lists in
     of_each (λ (r : Row). P r.key.time) n rows
@@ -303,5 +303,5 @@ pub ticks_are_lines : (f : Form) (ts : List ℕ) (rows : List Row) (lists : List
 ticks_are_lines f ts rows lists ticks are =
     ticks_from f ts rows lists are
     ∙ ap (lines_in f) (parts_are_whole (λ (r : Row). r.key.time) ts rows (rising ts ticks.in_order)
-    (row_ticks (Contains ts) f rows lists are (AllIn-at_places (Contains ts) (times_of lists) ticks.among))
+    (row_ticks (Contains ts) f rows lists are (AllIn-at_places (Contains ts) (times_in lists) ticks.among))
     (times_climb rows (rows_rise rows are.in_order)))

@@ -1,19 +1,14 @@
--- The texts of ticks, as lines are put behind them.
+-- The texts of ticks, as lines are put before them.
 use Rattle.std.proofs.Common.{◌≡◌, ◌∙◌, ℕ, zero, suc, ◌+◌, ◌<◌, false, true, cond, List, [], ◌∷◌, ◌++◌, Contains}
-use Rattle.std.proofs.Common.{map, replicate, length, get_or, set, ◌==◌, refl, sym, ap, subst, eq-eqb, append_assoc, append-nil}
-use Rattle.std.proofs.Common.{Vec, Global, arith}
+use Rattle.std.proofs.Common.{replicate, length, get_or, set, ◌==◌, refl, sym, ap, subst, eq-eqb, append_assoc, append-nil}
+use Rattle.std.proofs.Common.{arith}
 use Rattle.std.specs.List.{flat_map}
 use Rattle.std.specs.List.Sorted.{IsStrictlyIncreasing}
 use Rattle.std.proofs.lemmas.List.Kept.{AllPairs-from_increasing}
 use Rattle.std.proofs.lemmas.Bool.{ne_eqb}
 use Rattle.std.proofs.lemmas.Grind.{flat_map-append}
-use Rattle.std.proofs.lemmas.List.{length-map, map-set, get_or-map}
 use Rattle.srm_member.proofs.AllIn.{AllIn, AllIn-places, AllIn-at_places}
-use Rattle.srm_report.specs.KeptLines.{text_at, tick_texts, with_ticks}
-
--- the texts that vectors hold
-abbrev pub texts_in : List (Vec ℕ Global) → List (List ℕ)
-texts_in vs = map (λ (v : Vec ℕ Global). v.items) vs
+use Rattle.srm_report.specs.KeptLines.{text_at, tick_texts, with_members, with_ticks}
 
 -- each number is below those after it
 abbrev pub AreRising : List ℕ → Type 0
@@ -32,35 +27,44 @@ rising (t ∷ ts) h =
 pub no_line : (ts : List ℕ) (texts : List (List ℕ)) → with_ticks ts [] texts ≡ texts
 no_line ts [] = refl
 no_line [] (text ∷ texts) = refl
-no_line (t ∷ ts) (text ∷ texts) = λ i. append-nil text i ∷ no_line ts texts i
+no_line (t ∷ ts) (text ∷ texts) = ap (λ l. text ∷ l) (no_line ts texts)
 
-pub lines_more : (ts : List ℕ) (xs ys : List (ℕ × List ℕ)) (texts : List (List ℕ))
-    → with_ticks ts ys (with_ticks ts xs texts) ≡ with_ticks ts (xs ++ ys) texts
-lines_more ts xs ys [] = refl
-lines_more [] xs ys (text ∷ texts) = refl
-lines_more (t ∷ ts) xs ys (text ∷ texts) =
-    let here : (text ++ text_at t xs) ++ text_at t ys ≡ text ++ text_at t (xs ++ ys) =
-    append_assoc text (text_at t xs) (text_at t ys)
-    ∙ ap (λ l. text ++ l) (sym (flat_map-append (λ (x : ℕ × List ℕ). cond (x.0 == t) x.1 []) xs ys)) in
-    λ i. here i ∷ lines_more ts xs ys texts i
+-- a part before others
+pub part_more : (ts : List ℕ) (x : ℕ × List ℕ) (own : List (ℕ × List ℕ)) (texts : List (List ℕ))
+    → with_ticks ts (x ∷ []) (with_ticks ts own texts) ≡ with_ticks ts (x ∷ own) texts
+part_more ts x own [] = refl
+part_more [] x own (text ∷ texts) = refl
+part_more (t ∷ ts) x own (text ∷ texts) =
+    let here : text_at t (x ∷ []) ++ (text_at t own ++ text) ≡ text_at t (x ∷ own) ++ text =
+    sym (append_assoc (text_at t (x ∷ [])) (text_at t own) text)
+    ∙ ap (λ l. l ++ text) (sym (flat_map-append (λ (x : ℕ × List ℕ). cond (x.0 == t) x.1 []) (x ∷ []) own)) in
+    λ i. here i ∷ part_more ts x own texts i
 
 pub no_member : (ts : List ℕ) → replicate (length ts) [] ≡ tick_texts ts []
 no_member [] = refl
 no_member (t ∷ ts) = ap (λ l. [] ∷ l) (no_member ts)
 
-pub as_many_texts : (ts : List ℕ) (lists : List (List (ℕ × List ℕ))) (vs : List (Vec ℕ Global)) → texts_in vs ≡ tick_texts ts lists
-    → length vs ≡ length ts
-as_many_texts ts lists vs e =
-    sym (length-map vs (λ (v : Vec ℕ Global). v.items)) ∙ ap length e ∙ length-map ts (λ t. flat_map (text_at t) lists)
+pub as_many_texts : (ts : List ℕ) (own : List (ℕ × List ℕ)) (texts : List (List ℕ)) → length (with_ticks ts own texts) ≡ length texts
+as_many_texts ts own [] = refl
+as_many_texts [] own (text ∷ texts) = refl
+as_many_texts (t ∷ ts) own (text ∷ texts) = ap suc (as_many_texts ts own texts)
 
+-- a member before others
 pub member_more : (ts : List ℕ) (own : List (ℕ × List ℕ)) (lists : List (List (ℕ × List ℕ)))
-    → with_ticks ts own (tick_texts ts lists) ≡ tick_texts ts (lists ++ own ∷ [])
+    → with_ticks ts own (tick_texts ts lists) ≡ tick_texts ts (own ∷ lists)
 member_more [] own lists = refl
-member_more (t ∷ ts) own lists =
-    let here : flat_map (text_at t) lists ++ text_at t own ≡ flat_map (text_at t) (lists ++ own ∷ []) =
-    ap (λ l. flat_map (text_at t) lists ++ l) (sym (append-nil (text_at t own)))
-    ∙ sym (flat_map-append (text_at t) lists (own ∷ [])) in
-    λ i. here i ∷ member_more ts own lists i
+member_more (t ∷ ts) own lists = ap (λ l. (text_at t own ++ flat_map (text_at t) lists) ∷ l) (member_more ts own lists)
+
+-- the members of a group before others
+pub group_more : (ts : List ℕ) (group lists : List (List (ℕ × List ℕ)))
+    → with_members ts group (tick_texts ts lists) ≡ tick_texts ts (group ++ lists)
+group_more ts [] lists = refl
+group_more ts (own ∷ group) lists = ap (with_ticks ts own) (group_more ts group lists) ∙ member_more ts own (group ++ lists)
+
+pub as_many_with : (ts : List ℕ) (group : List (List (ℕ × List ℕ))) (texts : List (List ℕ))
+    → length (with_members ts group texts) ≡ length texts
+as_many_with ts [] texts = refl
+as_many_with ts (own ∷ group) texts = as_many_texts ts own (with_members ts group texts) ∙ as_many_with ts group texts
 
 -- ---- the text of one tick
 
@@ -74,8 +78,7 @@ line_elsewhere ts time line [] h = refl
 line_elsewhere [] time line (text ∷ texts) h = refl
 line_elsewhere (t ∷ ts) time line (text ∷ texts) h =
     let no : (time == t) ≡ false = ne_eqb time t (λ e. h (0, omega arith, sym e)) in
-    let here : text ≡ text ++ (cond (time == t) line [] ++ []) =
-    sym (ap (λ b. text ++ (cond b line [] ++ [])) no ∙ append-nil text) in
+    let here : text ≡ (cond (time == t) line [] ++ []) ++ text = sym (ap (λ b. (cond b line [] ++ []) ++ text) no) in
     λ i. here i ∷ line_elsewhere ts time line texts (λ c. h (in_more t ts time c)) i
 
 not_after : (t : ℕ) (ts : List ℕ) → AllIn (λ u. t < u) ts → Contains ts t → ⊥
@@ -87,30 +90,18 @@ not_after t ts h c =
 -- it is the tick at place j
 pub line_here : (ts : List ℕ) (j time : ℕ) (line : List ℕ) (texts : List (List ℕ)) → AreRising ts → get_or ts j time ≡ time
     → j < length ts → length texts ≡ length ts
-    → set texts j (get_or texts j [] ++ line) ≡ with_ticks ts ((time, line) ∷ []) texts
+    → set texts j (line ++ get_or texts j []) ≡ with_ticks ts ((time, line) ∷ []) texts
 line_here [] j time line texts rise at lt long = absurd (omega arith)
 line_here (t ∷ ts) j time line [] rise at lt long = absurd (omega arith)
 line_here (t ∷ ts) zero time line (text ∷ texts) rise at lt long =
     let yes : (time == t) ≡ true = eq-eqb time t (sym at) in
-    let here : text ++ line ≡ text ++ (cond (time == t) line [] ++ []) =
-    ap (λ l. text ++ l) (sym (ap (λ b. cond b line [] ++ []) yes ∙ append-nil line)) in
+    let here : line ++ text ≡ (cond (time == t) line [] ++ []) ++ text =
+    ap (λ l. l ++ text) (sym (ap (λ b. cond b line [] ++ []) yes ∙ append-nil line)) in
     let later : Contains ts time → ⊥ = λ c. not_after t ts rise.0 (subst (Contains ts) (sym at) c) in
     λ i. here i ∷ line_elsewhere ts time line texts later i
 line_here (t ∷ ts) (suc j) time line (text ∷ texts) rise at lt long =
     let within : j < length ts = omega arith in
     let above : t < get_or ts j time = AllIn-places (λ u. t < u) ts rise.0 j time within in
     let no : (time == t) ≡ false = ne_eqb time t (λ e. absurd (omega arith)) in
-    let here : text ≡ text ++ (cond (time == t) line [] ++ []) =
-    sym (ap (λ b. text ++ (cond b line [] ++ [])) no ∙ append-nil text) in
+    let here : text ≡ (cond (time == t) line [] ++ []) ++ text = sym (ap (λ b. (cond b line [] ++ []) ++ text) no) in
     λ i. here i ∷ line_here ts j time line texts rise.1 at within (omega arith) i
-
--- a vector that holds the text too stands at its place
-pub line_put : (ts : List ℕ) (j time : ℕ) (line : List ℕ) (vs : List (Vec ℕ Global)) (v w : Vec ℕ Global) → AreRising ts
-    → get_or ts j time ≡ time → j < length ts → length vs ≡ length ts
-    → v.items ≡ (get_or vs j w).items ++ line → texts_in (set vs j v) ≡ with_ticks ts ((time, line) ∷ []) (texts_in vs)
-line_put ts j time line vs v w rise at lt long e =
-    let was : (get_or vs j w).items ≡ get_or (texts_in vs) j [] =
-    sym (get_or-map (λ (u : Vec ℕ Global). u.items) vs j w [] (omega arith)) in
-    map-set (λ (u : Vec ℕ Global). u.items) vs j v
-    ∙ ap (set (texts_in vs) j) (e ∙ ap (λ l. l ++ line) was)
-    ∙ line_here ts j time line (texts_in vs) rise at lt (length-map vs (λ (u : Vec ℕ Global). u.items) ∙ long)

@@ -1,5 +1,5 @@
 -- Lines of rows, kept member by member: those of one tick together.
-use Rattle.std.specs.Prelude.{ℕ, suc, zero, ◌+◌, List, [], ◌∷◌, ◌++◌, ◌≡◌, ◌≤◌, ◌-◌, take, drop}
+use Rattle.std.specs.Prelude.{ℕ, suc, zero, List, [], ◌∷◌, ◌++◌, ◌≡◌, ◌≤◌, ◌-◌, take, drop}
 use Rattle.std.specs.Prelude.{map, cond, ◌==◌, All, Contains}
 use Rattle.std.specs.List.{flat_map, fold, range_with_len}
 use Rattle.std.specs.List.Sorted.{IsStrictlyIncreasing}
@@ -8,8 +8,8 @@ use Rattle.srm_interfaces.specs.InTurn.{KeepInTurn}
 use Rattle.srm_report.specs.Listings.{Form}
 use Rattle.srm_report.specs.declared.lines.LineEnd.{LineEnd}
 use Rattle.srm_report.specs.declared.span.Span.{Span}
-use Rattle.srm_report.specs.declared.ticks.Ticks.{Ticks}
-use Rattle.srm_report.specs.declared.ticks.Ticks.TheVariants as ticks
+use Rattle.srm_report.specs.declared.ticks.Times.{Times}
+use Rattle.srm_report.specs.declared.ticks.Times.TheVariants as times
 
 -- the parts of a text which end there, from this place on, each with its tick
 unfoldable pub cut_from : ℕ → List ℕ → List LineEnd → List (ℕ × List ℕ)
@@ -44,18 +44,18 @@ AreLinesOf f rows lists = KeepInTurn (λ l own. l ≡ lines_of f own) lists rows
 -- ---- ticks
 
 -- the ticks, one after the other
-abbrev pub ticks_in : Ticks → List ℕ
-ticks_in (ticks.From first count) = range_with_len first count
-ticks_in (ticks.These times) = times.items
+abbrev pub ticks_in : Times → List ℕ
+ticks_in (times.From first count) = range_with_len first count
+ticks_in (times.These all) = all.items
 
 -- the ticks of all these lines
-abbrev pub times_of : List (List (ℕ × List ℕ)) → List ℕ
-times_of lists = flat_map (λ own. map (λ (x : ℕ × List ℕ). x.0) own) lists
+abbrev pub times_in : List (List (ℕ × List ℕ)) → List ℕ
+times_in lists = flat_map (λ own. map (λ (x : ℕ × List ℕ). x.0) own) lists
 
 -- these are ticks in order, each once, and those of all these lines are among them
 pub record AreTicksOf (lists : List (List (ℕ × List ℕ))) (all : List ℕ) : Type 0 where
   pub in_order : IsStrictlyIncreasing all
-  pub among : All (Contains all) (times_of lists)
+  pub among : All (Contains all) (times_in lists)
 
 -- the text of those of these lines that are of tick t
 abbrev pub text_at : ℕ → List (ℕ × List ℕ) → List ℕ
@@ -65,11 +65,16 @@ text_at t own = flat_map (λ (x : ℕ × List ℕ). cond (x.0 == t) x.1 []) own
 abbrev pub tick_texts : List ℕ → List (List (ℕ × List ℕ)) → List (List ℕ)
 tick_texts all lists = map (λ t. flat_map (text_at t) lists) all
 
--- the texts of these ticks, each with the text of these lines that are of its tick behind it
+-- the texts of these ticks, each with the text of these lines that are of its tick before it
 abbrev pub with_ticks : List ℕ → List (ℕ × List ℕ) → List (List ℕ) → List (List ℕ)
 with_ticks all own [] = []
 with_ticks [] own (text ∷ texts) = text ∷ texts
-with_ticks (t ∷ all) own (text ∷ texts) = (text ++ text_at t own) ∷ with_ticks all own texts
+with_ticks (t ∷ all) own (text ∷ texts) = (text_at t own ++ text) ∷ with_ticks all own texts
+
+-- the same with the text of the lines of each of these members, the last of them first
+abbrev pub with_members : List ℕ → List (List (ℕ × List ℕ)) → List (List ℕ) → List (List ℕ)
+with_members all [] texts = texts
+with_members all (own ∷ lists) texts = with_ticks all own (with_members all lists texts)
 
 -- ---- spans
 

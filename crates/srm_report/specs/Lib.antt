@@ -1,3 +1,4 @@
+pub mod Chains
 pub mod Counted
 pub mod Courses
 pub mod Devices
@@ -17,6 +18,7 @@ pub mod NoRows
 pub mod OperationLaws
 pub mod Operations
 pub mod OperationsSinks
+pub mod Pieces
 pub mod Rows
 pub mod Seeds
 pub mod Sendings

@@ -17,6 +17,10 @@ impl Watch<MemberCount> for CountRows {
         MemberCount::new()
     }
 
+    fn clear(&self, kept: &mut MemberCount) {
+        *kept = self.none();
+    }
+
     /// Counts more rows of the member.
     ///
     /// # Errors

@@ -20,6 +20,10 @@ impl Watch<LossesSink> for FindLosses {
         LossesSink::new(self.alloc)
     }
 
+    fn clear(&self, kept: &mut LossesSink) {
+        *kept = self.none();
+    }
+
     fn add(&self, kept: &mut LossesSink, rows: &[Row]) -> Result<(), AllocError> {
         kept.take(rows)
     }

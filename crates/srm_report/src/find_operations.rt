@@ -20,6 +20,10 @@ impl Watch<MemberOperations> for FindOperations {
         MemberOperations::new(self.alloc)
     }
 
+    fn clear(&self, kept: &mut MemberOperations) {
+        *kept = self.none();
+    }
+
     /// Takes in more rows of the member.
     ///
     /// # Errors

@@ -24,6 +24,10 @@ impl<L: Listing> Watch<Lines> for KeepLines<L> {
         Lines::new(self.alloc)
     }
 
+    fn clear(&self, kept: &mut Lines) {
+        kept.clear(self.alloc);
+    }
+
     fn add(&self, kept: &mut Lines, rows: &[Row]) -> Result<(), AllocError> {
         kept.reserve(rows.len())?;
         for row in rows {

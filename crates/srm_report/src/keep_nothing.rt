@@ -18,6 +18,8 @@ impl Watch<Nothing> for KeepNothing {
         Nothing
     }
 
+    fn clear(&self, _kept: &mut Nothing) {}
+
     fn add(&self, _kept: &mut Nothing, _rows: &[Row]) -> Result<(), AllocError> {
         Ok(())
     }

@@ -2,6 +2,7 @@
 #![tactic(auto)]
 
 mod by_loss;
+mod chains;
 pub mod count_rows;
 mod counts;
 mod course;
@@ -10,7 +11,7 @@ pub mod fault;
 mod fields;
 pub mod find_losses;
 pub mod find_operations;
-pub mod in_order;
+mod in_order;
 pub mod keep_lines;
 pub mod keep_nothing;
 pub mod laws_of_operations;
@@ -33,6 +34,8 @@ mod operation_lines;
 pub mod operations;
 pub mod operations_sink;
 pub mod outlet;
+mod piece;
+mod pieces;
 mod recovery;
 pub mod seeds;
 mod sending;

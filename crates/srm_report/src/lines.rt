@@ -9,7 +9,10 @@ use std::alloc::{AllocError, Global};
 use std::marker::Model;
 
 /// How many bytes most lines have at most, to make room for them at once.
-pub(crate) const USUAL_LINE: usize = 40;
+const USUAL_LINE: usize = 40;
+
+// How many bytes lines have at most whose room is kept as they are taken out.
+const KEPT_ROOM: usize = 8_192;
 
 /// A tick, and where its lines end.
 #[derive(Clone, Copy)]
@@ -55,6 +58,18 @@ impl Lines {
             ends: Vec::new(alloc),
             text: Vec::new(alloc),
         }
+    }
+
+    /// Takes all lines out. The room of a few is kept, and that of many is given back.
+    pub fn clear(&mut self, alloc: Global)
+        ensures { self.new ≡ [] }
+    {
+        if self.text.len() > KEPT_ROOM {
+            *self = Lines::new(alloc);
+            return;
+        }
+        self.ends.clear();
+        self.text.clear();
     }
 
     /// Makes room for so many lines more, if most have at most 40 bytes.

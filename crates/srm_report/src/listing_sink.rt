@@ -1,8 +1,9 @@
 //! A table that lists rows, written as they come.
-ghost use Rattle.std.specs.Prelude.{◌≡◌, ◌<◌, ◌+◌, ◌-◌, ◌^◌, ◌≤◌, ◌==◌, ◌||◌, List, [], false, is_ok, not, if◌then◌else◌, length, map, IfOk};
-ghost use Rattle.srm_cell.specs.Crossings.{joined};
+ghost use Rattle.std.specs.Prelude.{◌≡◌, ◌<◌, ◌+◌, ◌-◌, ◌^◌, ◌≤◌, ◌==◌, ◌||◌, List, [], false, is_ok, not, if◌then◌else◌, length, IfOk};
 ghost use Rattle.srm_member.specs.declared.row.Row.{Row as R};
+ghost use Rattle.srm_interfaces.specs.Grouped.{all_in};
 ghost use Rattle.srm_report.specs.KeptLines.{AreLinesOf};
+ghost use Rattle.srm_report.specs.Pieces.{whole_text};
 ghost use Rattle.srm_report.specs.Standings.{text_next, after_answer, TakesText};
 
 use crate::fault::ReportFault;
@@ -10,6 +11,7 @@ use crate::in_order::put_in_order;
 use crate::lines::Lines;
 use crate::listing::Listing;
 use crate::outlet::{OutFault, Outlet};
+use crate::piece::Piece;
 use crate::standing::Standing;
 use crate::writing::{WriteFault, write_out};
 use srm_interfaces::kept_sink::KeptSink;
@@ -52,19 +54,19 @@ fn text_of<L: Listing>(
 }
 
 // The same in pieces, of rows of which these are the lines of all members. A header is a piece of its own.
-fn pieces_of_lines<L: Listing>(
+fn pieces_of_lines<'a, L: Listing>(
     alloc: Global,
     standing: Standing,
-    kept: &[Lines],
-) -> Result<Vec<Vec<u8>>, ReportFault>
-    ensures { (rows : List R) → AreLinesOf L.form rows kept.now
-        → IfOk result (λ pieces. joined (map (λ p. p.items) pieces.items) ≡ text_next L.form standing rows) }
+    groups: &'a [Vec<Lines>],
+) -> Result<Vec<Piece<'a>>, ReportFault>
+    ensures { (rows : List R) → AreLinesOf L.form rows (all_in groups.now)
+        → IfOk result (λ pieces. whole_text pieces.items ≡ text_next L.form standing rows) }
 {
-    let mut pieces = put_in_order(alloc, kept)?;
+    let mut pieces = put_in_order(alloc, groups)?.into_pieces()?;
     match standing {
         Standing::Fresh => {
-            let header = L::text(alloc, &[])?;
-            match pieces.insert(0, header) {
+            let text = L::text(alloc, &[])?;
+            match pieces.insert(0, Piece::Own { text }) {
                 Ok(()) => Ok(pieces),
                 Err(_) => Err(ReportFault::NoMemory),
             }
@@ -209,48 +211,48 @@ impl<'a, L: Listing, O: Outlet> ListingSink<'a, L, O> {
     }
 
     // The same of rows of which these are the lines of all members.
-    fn put_lines(&mut self, alloc: Global, kept: &[Lines]) -> Result<(), SinkFault>
+    fn put_lines(&mut self, alloc: Global, groups: &[Vec<Lines>]) -> Result<(), SinkFault>
         requires failures { O.failures (outlet_under self.old) < 2 ^ 64 - 1 }
         ensures outlet { AreOverOne self.old self.new }
         ensures standing { StandsAsBefore self.old self.new }
         ensures failures { O.failures (outlet_under self.new) ≡ O.failures (outlet_under self.old) + stops_in result }
-        ensures text { (rows : List R) → AreLinesOf L.form rows kept.now
+        ensures text { (rows : List R) → AreLinesOf L.form rows (all_in groups.now)
             → PutsText O.taken self.old (text_next L.form (standing_of self.old) rows) result self.new }
         ensures told { stage_at (after_answer result) (written_by self.new) ≡ stage_after result }
         ensures left { LeavesOutlet self.old result self.new }
     {
-        match pieces_of_lines::<L>(alloc, self.standing, kept) {
+        match pieces_of_lines::<L>(alloc, self.standing, groups) {
             Ok(pieces) => self.put_pieces(pieces.as_slice()),
             Err(ReportFault::NoMemory) => Err(SinkFault::NoMemory),
         }
     }
 
     // Puts a text in pieces: gathers it where it is one, or writes the pieces after what is gathered.
-    fn put_pieces(&mut self, pieces: &[Vec<u8>]) -> Result<(), SinkFault>
+    fn put_pieces(&mut self, pieces: &[Piece]) -> Result<(), SinkFault>
         requires failures { O.failures (outlet_under self.old) < 2 ^ 64 - 1 }
         ensures outlet { AreOverOne self.old self.new }
         ensures standing { StandsAsBefore self.old self.new }
         ensures failures { O.failures (outlet_under self.new) ≡ O.failures (outlet_under self.old) + stops_in result }
-        ensures text { PutsText O.taken self.old (joined (map (λ p. p.items) pieces.now)) result self.new }
+        ensures text { PutsText O.taken self.old (whole_text pieces.now) result self.new }
         ensures left { LeavesOutlet self.old result self.new }
     {
         match pieces {
-            [text] => self.put(text.as_slice()),
+            [text] => self.put(text.bytes()),
             _ => self.write_each(pieces),
         }
     }
 
     // Writes what is gathered, and the pieces of a text after it. It does not allocate.
-    fn write_each(&mut self, pieces: &[Vec<u8>]) -> Result<(), SinkFault>
+    fn write_each(&mut self, pieces: &[Piece]) -> Result<(), SinkFault>
         requires failures { O.failures (outlet_under self.old) < 2 ^ 64 - 1 }
         ensures outlet { AreOverOne self.old self.new }
         ensures standing { StandsAsBefore self.old self.new }
         ensures failures { O.failures (outlet_under self.new) ≡ O.failures (outlet_under self.old) + stops_in result }
-        ensures text { PutsText O.taken self.old (joined (map (λ p. p.items) pieces.now)) result self.new }
+        ensures text { PutsText O.taken self.old (whole_text pieces.now) result self.new }
         ensures left { LeavesOutlet self.old result self.new }
     {
         for piece in pieces {
-            if let Err(OutFault) = self.write_through(piece.as_slice()) {
+            if let Err(OutFault) = self.write_through(piece.bytes()) {
                 let written = self.written;
                 return Err(SinkFault::Stopped { written });
             }
@@ -368,18 +370,18 @@ impl<'a, L: Listing, O: Outlet> KeptSink<Lines> for ListingSink<'a, L, O> {
     ghost keeps = { λ k rows. k ≡ lines_of L.form rows };
 
     /// Writes the lines of the rows that come next after those before, as `rows` does, of the lines of each member.
-    fn kept(&mut self, alloc: Global, kept: Vec<Lines>) -> Result<(), SinkFault>
+    fn kept(&mut self, alloc: Global, groups: &[Vec<Lines>]) -> Result<(), SinkFault>
         requires open { IsOpen (stage_of self.old) }
         requires failures { O.failures (outlet_under self.old) < 2 ^ 64 - 1 }
         ensures same { AreOverOne self.old self.new }
         ensures stage { stage_of self.new ≡ stage_after result }
         ensures failures { O.failures (outlet_under self.new) ≡ O.failures (outlet_under self.old) + stops_in result }
-        ensures rows { (rows : List R) → AreLinesOf L.form rows kept.items
+        ensures rows { (rows : List R) → AreLinesOf L.form rows (all_in groups.now)
             → MatchResult result (λ _. PutsRows O.taken L.form self.old rows self.new)
             (λ _. PutsPart O.taken L.form self.old rows self.new) }
         ensures left { LeavesOutlet self.old result self.new }
     {
-        let answer = self.put_lines(alloc, kept.as_slice());
+        let answer = self.put_lines(alloc, groups);
         self.has_begun = true;
         self.standing = standing_after(&answer);
         answer

@@ -1,6 +1,7 @@
 //! The span of the ticks of lines.
 ghost use Rattle.std.specs.Prelude.{◌≡◌, ◌+◌, All, IfSome};
-ghost use Rattle.srm_report.specs.KeptLines.{IsWithin, IsWider, times_of};
+ghost use Rattle.srm_interfaces.specs.Grouped.{all_in};
+ghost use Rattle.srm_report.specs.KeptLines.{IsWithin, IsWider, times_in};
 
 use crate::lines::Lines;
 
@@ -18,16 +19,16 @@ pub(crate) struct Span {
 
 impl Span {
     /// The ticks of the lines of all members.
-    pub(crate) fn of(lists: &[Lines]) -> Span
-        ensures { All (IsWithin result) (times_of lists.now) }
+    pub(crate) fn of(groups: &[Vec<Lines>]) -> Span
+        ensures { All (IsWithin result) (times_in (all_in groups.now)) }
     {
         let mut span = Span {
             first: u64::MAX,
             last: 0,
             parts: 0,
         };
-        for own in lists {
-            span = span.and(own);
+        for group in groups {
+            span = span.and_group(group.as_slice());
         }
         span
     }
@@ -52,6 +53,18 @@ impl Span {
         } else {
             None
         }
+    }
+
+    // The same with the lines of a group's members.
+    fn and_group(self, group: &[Lines]) -> Span
+        ensures wider { IsWider self result }
+        ensures within { All (IsWithin result) (times_in group.now) }
+    {
+        let mut span = self;
+        for own in group {
+            span = span.and(own);
+        }
+        span
     }
 
     // The same with a member's lines.

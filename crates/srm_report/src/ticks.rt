@@ -1,63 +1,84 @@
 //! The ticks of lines.
 ghost use Rattle.std.specs.Prelude.{◌≡◌, ◌<◌, ◌++◌, length, map, Contains, IfOk, OnOk, MatchOption, HoldsAt};
 ghost use Rattle.std.specs.List.Sorted.{IsStrictlyIncreasing};
-ghost use Rattle.srm_report.specs.KeptLines.{AreTicksOf, ticks_in};
+ghost use Rattle.srm_interfaces.specs.Grouped.{all_in};
+ghost use Rattle.srm_report.specs.KeptLines.{AreTicksOf, times_in};
 
 use crate::lines::Lines;
 use crate::span::Span;
 use std::alloc::{AllocError, Global};
+use std::marker::Model;
 
-/// Ticks in order, each once.
+// Ticks, one after the other.
 #[derive(Drop)]
-pub(crate) enum Ticks {
-    /// So many from a first one on.
+pub(crate) enum Times {
+    // So many from a first one on.
     From { first: u64, count: usize },
-    /// These.
+    // These.
     These { times: Vec<u64> },
+}
+
+/// Ticks in order, each once. Contracts see them as a list.
+#[derive(Drop)]
+pub(crate) struct Ticks {
+    times: Times,
+}
+
+impl Model for Ticks {
+    ghost use Rattle.std.specs.Prelude.{List, ℕ};
+    ghost use Rattle.std.specs.List.Sorted.{IsStrictlyIncreasing};
+    ghost use Rattle.srm_report.specs.KeptLines.{ticks_in};
+
+    ghost Value = { List ℕ };
+
+    ghost view = { λ t. ticks_in t.times };
+
+    ghost invariant = { λ t. IsStrictlyIncreasing (ticks_in t.times) };
 }
 
 impl Ticks {
     /// The ticks of the lines of all members; where lines are crowded, all ticks from the first to the last.
-    pub(crate) fn of(alloc: Global, lists: &[Lines]) -> Result<Ticks, AllocError>
-        ensures { IfOk result (λ ticks. AreTicksOf lists.now (ticks_in ticks)) }
+    pub(crate) fn of(alloc: Global, groups: &[Vec<Lines>]) -> Result<Ticks, AllocError>
+        ensures { IfOk result (λ ticks. AreTicksOf (all_in groups.now) ticks) }
     {
-        let span = Span::of(lists);
-        match span.crowded_ticks() {
-            Some(count) => Ok(Ticks::From {
+        let span = Span::of(groups);
+        let times = match span.crowded_ticks() {
+            Some(count) => Times::From {
                 first: span.first(),
                 count,
-            }),
-            None => Ok(Ticks::These {
-                times: times_of(alloc, lists)?,
-            }),
-        }
+            },
+            None => Times::These {
+                times: times_of(alloc, groups)?,
+            },
+        };
+        Ok(Ticks { times })
     }
 
     /// How many they are.
     pub(crate) fn len(&self) -> usize
-        ensures { result ≡ length (ticks_in self.now) }
+        ensures { result ≡ length self.now }
     {
-        match self {
-            Ticks::From { count, .. } => *count,
-            Ticks::These { times } => times.len(),
+        match &self.times {
+            Times::From { count, .. } => *count,
+            Times::These { times } => times.len(),
         }
     }
 
     /// At which place a tick stands among them, if it does.
     pub(crate) fn place(&self, time: u64) -> Option<usize>
-        requires { IsStrictlyIncreasing (ticks_in self.now) }
-        ensures { MatchOption result (Contains (ticks_in self.now) time → ⊥)
-            (λ place. (place < length (ticks_in self.now)) × HoldsAt (λ t. t ≡ time) (ticks_in self.now) place) }
+        ensures in_order { IsStrictlyIncreasing self.now }
+        ensures found { MatchOption result (Contains self.now time → ⊥)
+            (λ place. (place < length self.now) × HoldsAt (λ t. t ≡ time) self.now place) }
     {
-        match self {
-            Ticks::From { first, count } => {
+        match &self.times {
+            Times::From { first, count } => {
                 if time < *first || time - *first >= *count as u64 {
                     None
                 } else {
                     Some((time - *first) as usize)
                 }
             }
-            Ticks::These { times } => match times.binary_search(&time) {
+            Times::These { times } => match times.binary_search(&time) {
                 Ok(place) => Some(place),
                 Err(_) => None,
             },
@@ -66,16 +87,26 @@ impl Ticks {
 }
 
 // The ticks of all lines, in order, each once.
-fn times_of(alloc: Global, lists: &[Lines]) -> Result<Vec<u64>, AllocError>
-    ensures { IfOk result (λ times. AreTicksOf lists.now times.items) }
+fn times_of(alloc: Global, groups: &[Vec<Lines>]) -> Result<Vec<u64>, AllocError>
+    ensures { IfOk result (λ times. AreTicksOf (all_in groups.now) times.items) }
 {
     let mut times = Vec::new(alloc);
-    for own in lists {
-        add_times(&mut times, own)?;
+    for group in groups {
+        add_group(&mut times, group.as_slice())?;
     }
     times.sort_unstable();
     times.dedup();
     Ok(times)
+}
+
+// Adds the ticks of the lines of a group's members.
+fn add_group(times: &mut Vec<u64>, group: &[Lines]) -> Result<(), AllocError>
+    ensures { OnOk result (times.new.items ≡ times.old.items ++ times_in group.now) }
+{
+    for own in group {
+        add_times(times, own)?;
+    }
+    Ok(())
 }
 
 // Adds the ticks of a member's lines.

@@ -25,6 +25,10 @@ impl Watch<Vec<Seen>> for KeepSeen {
         Vec::new(self.alloc)
     }
 
+    fn clear(&self, kept: &mut Vec<Seen>) {
+        kept.clear();
+    }
+
     fn add(&self, kept: &mut Vec<Seen>, rows: &[Row]) -> Result<(), AllocError> {
         for row in rows {
             kept.push(row_seen(row))?;

@@ -3,7 +3,8 @@ use Rattle.std.proofs.Common.{length-append, append-nil}
 use Rattle.std.specs.Vec.Iter.{into_iter_items}
 use Rattle.srm_engine.specs.Groups.{all_in, sizes}
 use Rattle.std.proofs.lemmas.Bool.Decides.{nat_tests}
-use Rattle.srm_engine.proofs.CellLists.{closed, sizes_more, next_in, all_in_append, sizes_last, full_cuts, nothing_in}
+use Rattle.srm_interfaces.proofs.GroupedLemmas.{all_in_append}
+use Rattle.srm_engine.proofs.CellLists.{closed, sizes_more, next_in, sizes_last, full_cuts, nothing_in}
 use Rattle.srm_engine.proofs.SeenLemmas.{no_items}
 use Rattle.srm_engine.proofs.groups.group.Goals.{then-len-cut+in_ok-push, else-len-cut, then-not-is_empty+in_ok-push-3, else-not-is_empty}
 use Rattle.srm_engine.proofs.groups.group.Goals as goal

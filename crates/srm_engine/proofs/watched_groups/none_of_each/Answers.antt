@@ -4,7 +4,7 @@ use Rattle.std.proofs.lemmas.List.{take_all, map-append}
 use Rattle.std.proofs.lemmas.List.Elements.{All-append}
 use Rattle.std.specs.Global.{Vec}
 use Rattle.srm_engine.specs.Groups.{all_in, sizes}
-use Rattle.srm_engine.proofs.WatchedLemmas.{all_in_push}
+use Rattle.srm_interfaces.proofs.GroupedLemmas.{all_in_push}
 use Rattle.srm_engine.proofs.watched_groups.none_of_each.Goals as goal
 
 pub loop-group-preserved : goal.loop-group-preserved

@@ -1,36 +1,37 @@
-use Rattle.std.proofs.Common.{◌≡◌, ◌∙◌, ◌∷◌, ◌++◌, [], length, replicate, take, ap, sym, arith}
-use Rattle.std.specs.Vec.{with_items}
-use Rattle.std.proofs.lemmas.List.{take_more, take_all, with_items_is}
-use Rattle.srm_report.specs.KeptLines.{ticks_in, tick_texts, with_ticks}
-use Rattle.srm_report.proofs.TickTexts.{texts_in, as_many_texts, no_member, member_more}
+use Rattle.std.proofs.Common.{◌≡◌, ◌∙◌, ◌-◌, ◌+◌, ◌<◌, ◌++◌, [], length, replicate, drop, ap, sym, arith}
+use Rattle.std.proofs.lemmas.List.{drop_all, drop_more, length-map}
+use Rattle.std.specs.List.{flat_map}
+use Rattle.srm_interfaces.specs.Grouped.{all_in}
+use Rattle.srm_report.specs.KeptLines.{text_at, tick_texts, with_members}
+use Rattle.srm_report.proofs.TickTexts.{no_member, group_more}
 use Rattle.srm_report.proofs.in_order.texts_of.Goals as goal
 
-pub loop-own-init : goal.loop-own-init
-loop-own-init c =
-    c.in_ok-texts.ensures ∙ ap (λ n. replicate n []) c.len.ensures ∙ no_member (ticks_in c.args.ticks.now)
+pub loop-index-init : goal.loop-index-init
+loop-index-init c =
+    let ticks = c.args.ticks.now in
+    let groups = c.args.groups.now in
+    c.in_ok-texts.ensures ∙ ap (λ n. replicate n []) c.len.ensures ∙ no_member ticks
+    ∙ ap (λ gs. tick_texts ticks (all_in gs)) (sym (drop_all (length groups) groups (omega arith)))
 
-pub add_lines-requires-clause-long : goal.add_lines-requires-clause-long
-add_lines-requires-clause-long c =
-    ap length c.as_mut_slice.ensures.value
-    ∙ as_many_texts (ticks_in c.args.ticks.now) (take c.loop-own.own-index c.args.lists.now) c.loop-own.texts.items c.loop-own.invariant
+pub put_group-requires : goal.put_group-requires
+put_group-requires c =
+    ap length c.loop-index.invariant
+    ∙ length-map c.args.ticks.now (λ t. flat_map (text_at t) (all_in (drop c.loop-index.index c.args.groups.now)))
 
-pub loop-own-preserved : goal.loop-own-preserved
-loop-own-preserved c =
-    let lists = c.args.lists.now in
-    let ticks = ticks_in c.args.ticks.now in
-    let i = c.loop-own.own-index in
-    let own = c.own-item.result in
-    let long = c.as_mut_slice.ensures.len in
-    let still = c.add_lines.auto.texts in
-    let same : (with_items c.loop-own.texts c.add_lines.new.texts).items ≡ c.add_lines.new.texts =
-    with_items_is c.loop-own.texts c.add_lines.new.texts (omega arith) in
-    ap texts_in same ∙ c.in_ok-add_lines.ensures
-    ∙ ap (with_ticks ticks own) (ap texts_in c.as_mut_slice.ensures.value ∙ c.loop-own.invariant)
-    ∙ member_more ticks own (take i lists)
-    ∙ (λ k. tick_texts ticks (take i lists ++ c.own-item.is k ∷ []))
-    ∙ ap (tick_texts ticks) (sym (take_more lists i own c.loop-own-test.true))
-
-pub returns : goal.returns
-returns c =
-    c.loop-own.invariant
-    ∙ ap (tick_texts (ticks_in c.args.ticks.now)) (take_all c.loop-own.own-index c.args.lists.now c.loop-own-test.false)
+pub loop-index-preserved : goal.loop-index-preserved
+loop-index-preserved c =
+    let ticks = c.args.ticks.now in
+    let groups = c.args.groups.now in
+    let i = c.loop-index.index - 1 in
+    let group = c.index-groups-index.result in
+    let low = c.loop-index-test.true in
+    let high = c.loop-index.auto.index in
+    let lt : i < length groups = omega arith in
+    let next : i + 1 ≡ c.loop-index.index = omega arith in
+    let rest = all_in (drop (i + 1) groups) in
+    c.in_ok-put_group.ensures
+    ∙ (λ k. with_members ticks (c.as_slice.ensures.value k)
+    ((c.loop-index.invariant ∙ ap (λ n. tick_texts ticks (all_in (drop n groups))) (sym next)) k))
+    ∙ group_more ticks group.items rest
+    ∙ (λ k. tick_texts ticks ((c.index-groups-index.is k).items ++ rest))
+    ∙ ap (λ gs. tick_texts ticks (all_in gs)) (sym (drop_more groups i group lt))

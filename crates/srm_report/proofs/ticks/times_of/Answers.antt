@@ -1,20 +1,23 @@
-use Rattle.std.proofs.Common.{◌∙◌, ◌++◌, map, ap, sym}
+use Rattle.std.proofs.Common.{◌∙◌, ◌++◌, take, ap, sym}
 use Rattle.std.proofs.lemmas.List.{take_all}
 use Rattle.std.proofs.lemmas.List.Filters.{dedup_is}
-use Rattle.srm_report.specs.KeptLines.{times_of}
+use Rattle.srm_interfaces.specs.Grouped.{all_in}
+use Rattle.srm_report.specs.KeptLines.{times_in}
 use Rattle.srm_report.proofs.PlaceLemmas.{ticks_of_times}
-use Rattle.srm_report.proofs.SpanLemmas.{times_more}
+use Rattle.srm_report.proofs.SpanLemmas.{group_times}
 use Rattle.srm_report.proofs.ticks.times_of.Goals as goal
 
-pub loop-own-preserved : goal.loop-own-preserved
-loop-own-preserved c =
-    let own = c.own-item.result in
-    c.in_ok-add_times.ensures ∙ ap (λ l. l ++ map (λ x. x.0) own) c.loop-own.invariant
-    ∙ sym (times_more c.args.lists.now c.loop-own.own-index own c.loop-own-test.true c.own-item.is)
+pub loop-group-preserved : goal.loop-group-preserved
+loop-group-preserved c =
+    let groups = c.args.groups.now in
+    let i = c.loop-group.group-index in
+    c.in_ok-add_group.ensures ∙ ap (λ l. l ++ times_in c.as_slice.result.now) c.loop-group.invariant
+    ∙ ap (λ l. times_in (all_in (take i groups)) ++ times_in l) c.as_slice.ensures.value
+    ∙ sym (group_times groups i c.group-item.result c.loop-group-test.true c.group-item.is)
 
 pub returns : goal.returns
 returns c =
-    let all = take_all c.loop-own.own-index c.args.lists.now c.loop-own-test.false in
-    ticks_of_times c.loop-own.times.items c.sort_unstable.new.self.items c.dedup.new.self.items c.args.lists.now
-    (c.loop-own.invariant ∙ ap times_of all) c.sort_unstable.ensures.permutation c.sort_unstable.ensures.sorted
+    let all = take_all c.loop-group.group-index c.args.groups.now c.loop-group-test.false in
+    ticks_of_times c.loop-group.times.items c.sort_unstable.new.self.items c.dedup.new.self.items (all_in c.args.groups.now)
+    (c.loop-group.invariant ∙ ap (λ l. times_in (all_in l)) all) c.sort_unstable.ensures.permutation c.sort_unstable.ensures.sorted
     (dedup_is _ _ _ c.dedup.ensures.filtered)

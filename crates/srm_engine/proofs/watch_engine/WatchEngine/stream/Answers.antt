@@ -6,14 +6,15 @@ use Rattle.srm_model.specs.WindowChains.{window_jobs}
 use Rattle.srm_model.proofs.WindowChain.{calls_follow}
 use Rattle.srm_engine.specs.Starts.{setting_on}
 use Rattle.srm_engine.specs.declared.ends.Ends.{Ends}
+use Rattle.srm_engine.specs.declared.halt.Halt.TheVariants.{Sink}
 use Rattle.srm_engine.specs.Ends.{ends_rule}
 use Rattle.srm_engine.specs.Streams.{TellsHalt}
 use Rattle.srm_engine.specs.Windowed.{MayCome}
 use Rattle.srm_engine.specs.WatchEngines.{kept_by}
 use Rattle.srm_engine.specs.WindowEngines.{BeginsNext, ComesTo, frame_of, setting_by, rule_by}
-use Rattle.srm_engine.proofs.KeptTurns.{keep_as, kept_in_turn, kept_halted}
+use Rattle.srm_engine.proofs.KeptTurns.{keep_as, kept_in_turn, kept_stopped}
 use Rattle.srm_engine.proofs.Stepping.{opening_reached, opening_trace}
-use Rattle.srm_engine.proofs.WindowLemmas.{reached, next, is_last}
+use Rattle.srm_engine.proofs.WindowLemmas.{reached, is_last}
 use Rattle.srm_engine.proofs.watch_engine.WatchEngine.stream.Goals as goal
 
 pub returns-in-Err-clause-windows : goal.returns-in-Err-clause-windows
@@ -100,20 +101,14 @@ returns-in-Err-handed_on-clause-windows g c = λ seed h.
     let kept = told.2.3 [] v.none in
     let turn = kept_in_turn f g.S.KeptSink.keeps ended c.in-Ok.ensures.stands seed (i.0 ++ i.1 ∷ []) u told.1 i.1.trace rows
     told.2.1 told.2.2 (keep_as keeps g.S.KeptSink.keeps c.requires.keeps 0 (kept_by ended) rows kept) in
-    let same = ap (λ (k : Session × ℕ × Ends). k.0.scenario.now.until) v.frame in
-    let until = c.until-until.ensures.until in
-    let test : c.loop-begin.begin < c.until-until.result = c.loop-begin-test.true in
-    let pending = next f e v.stands.under_way seed i.0 i.1 i.2 c.loop-begin.begin v.next (omega (arith, same)) in
-    let x = c.in-Err-handed_on.halt in
     subst (λ (k : Session × ℕ × Ends). TellsHalt g.S.RowSink.took g.S.RowSink.part
     (MayCome (setting_on k.0 seed) (ends_rule (setting_on k.0 seed) k.2) k.1) (setting_on k.0 seed)
-    c.args.sink.now x c.handed_on.new.sink) v.frame
-    (kept_halted g.S.RowSink.took g.S.RowSink.part g.met.S.RowSink.part_more (setting_by e seed)
-    (MayCome (setting_by e seed) (rule_by e seed) e.groups.cut) rows c.args.sink.now c.loop-begin.sink c.handed_on.new.sink i.1 u
-    (reached f e v.stands.under_way seed i.0 i.1 i.2) (i.0, i.2.windows, pending) i.3
+    c.args.sink.now (Sink c.in-Err-handed_on.fault) c.handed_on.new.sink) v.frame
+    (kept_stopped g.S.RowSink.took g.S.RowSink.part g.met.S.RowSink.part_more (setting_by e seed)
+    (MayCome (setting_by e seed) (rule_by e seed) e.groups.cut) rows c.args.sink.now c.loop-begin.sink c.handed_on.new.sink i.1 u i.3
     (subst (λ (k : Session × ℕ × Ends). IsReached (setting_on k.0 seed) u) c.in-Ok.ensures.frame
     (reached f ended.engine c.in-Ok.ensures.stands.under_way seed (i.0 ++ i.1 ∷ []) u told.1))
-    told.2.1 x (c.in-Err-handed_on.ensures.rows rows turn))
+    told.2.1 c.in-Err-handed_on.fault (c.in-Err-handed_on.ensures.rows rows turn))
 
 pub loop-begin-smaller : goal.loop-begin-smaller
 loop-begin-smaller g c =

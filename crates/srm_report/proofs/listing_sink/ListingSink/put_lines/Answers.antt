@@ -1,13 +1,13 @@
 use Rattle.std.proofs.Common.{◌∙◌, List, ℕ, ap, subst}
 use Rattle.srm_report.specs.ListingSinks.{PutsText}
-use Rattle.srm_report.proofs.PieceLemmas.{text_in}
+use Rattle.srm_report.specs.Pieces.{whole_text}
 use Rattle.srm_report.proofs.SinkLemmas.{told_all}
 use Rattle.srm_report.proofs.listing_sink.ListingSink.put_lines.Goals as goal
 
 pub returns-in-Ok-clause-text : goal.returns-in-Ok-clause-text
 returns-in-Ok-clause-text g c rows are =
     subst (λ (l : List ℕ). PutsText g.O.Outlet.taken c.args.self.now l c.put_pieces.result c.put_pieces.new.self)
-    (ap text_in c.as_slice.ensures.value ∙ c.in-Ok.ensures rows are) c.put_pieces.ensures.text
+    (ap whole_text c.as_slice.ensures.value ∙ c.in-Ok.ensures rows are) c.put_pieces.ensures.text
 
 pub returns-in-Ok-clause-told : goal.returns-in-Ok-clause-told
 returns-in-Ok-clause-told g c =

@@ -1,8 +1,8 @@
 use Rattle.std.proofs.Common.{◌∙◌, List, ℕ, refl, subst}
 use Rattle.std.proofs.lemmas.List.{take_all}
 use Rattle.srm_report.specs.ListingSinks.{PutsAll, PutsFront}
+use Rattle.srm_report.specs.Pieces.{whole_text}
 use Rattle.srm_report.specs.SinkLaws.{over_one_more}
-use Rattle.srm_report.proofs.PieceLemmas.{text_in}
 use Rattle.srm_report.proofs.SinkLemmas.{piece_put, piece_front}
 use Rattle.srm_report.proofs.listing_sink.ListingSink.write_each.Goals as goal
 
@@ -18,7 +18,7 @@ loop-piece-preserved g c =
       standing = (e.standing.0 ∙ v.standing.0, e.standing.1 ∙ v.standing.1);
       failures = e.failures ∙ v.failures;
       put = piece_put taken c.args.self.now old new c.args.pieces.now c.loop-piece.piece-index c.piece-item.result c.loop-piece-test.true
-          c.piece-item.is v.put (subst (λ (l : List ℕ). PutsAll taken old l new) c.as_slice.ensures.value e.text.1);
+          c.piece-item.is v.put (subst (λ (l : List ℕ). PutsAll taken old l new) c.bytes.ensures e.text.1);
     }
 
 pub returns-in-Err-clause-text : goal.returns-in-Err-clause-text
@@ -28,11 +28,11 @@ returns-in-Err-clause-text g c =
     let new = c.write_through.new.self in (
       piece_front taken c.args.self.now old new c.args.pieces.now c.loop-piece.piece-index c.piece-item.result c.loop-piece-test.true
           c.piece-item.is c.loop-piece.invariant.put
-          (subst (λ (l : List ℕ). PutsFront taken old l new) c.as_slice.ensures.value c.in-Err.ensures.text),
+          (subst (λ (l : List ℕ). PutsFront taken old l new) c.bytes.ensures c.in-Err.ensures.text),
       refl,
     )
 
 pub returns-clause-text : goal.returns-clause-text
 returns-clause-text g c =
-    subst (λ ps. PutsAll g.O.Outlet.taken c.args.self.now (text_in ps) c.loop-piece.self)
+    subst (λ ps. PutsAll g.O.Outlet.taken c.args.self.now (whole_text ps) c.loop-piece.self)
     (take_all c.loop-piece.piece-index c.args.pieces.now c.loop-piece-test.false) c.loop-piece.invariant.put

@@ -1,6 +1,6 @@
 use Rattle.std.proofs.Common.{◌≡◌, take}
 use Rattle.srm_report.specs.ListingSinks.{outlet_under, AreOverOne, StandsAsBefore, PutsAll}
-use Rattle.srm_report.proofs.PieceLemmas.{text_in}
+use Rattle.srm_report.specs.Pieces.{whole_text}
 use Rattle.srm_report.proofs.listing_sink.ListingSink.write_each.Given as goal
 
 -- the pieces so far were put
@@ -9,5 +9,5 @@ invariant-loop-piece g l = record {
   outlet : AreOverOne l.fn.self l.self;
   standing : StandsAsBefore l.fn.self l.self;
   failures : g.O.Outlet.failures (outlet_under l.self) ≡ g.O.Outlet.failures (outlet_under l.fn.self);
-  put : PutsAll g.O.Outlet.taken l.fn.self (text_in (take l.piece-index l.pieces)) l.self;
+  put : PutsAll g.O.Outlet.taken l.fn.self (whole_text (take l.piece-index l.pieces)) l.self;
 }

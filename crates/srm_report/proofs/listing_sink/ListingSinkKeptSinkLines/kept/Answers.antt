@@ -1,5 +1,4 @@
-use Rattle.std.proofs.Common.{◌∙◌, ap, true, sym, subst}
-use Rattle.srm_report.specs.KeptLines.{AreLinesOf}
+use Rattle.std.proofs.Common.{◌∙◌, ap, true}
 use Rattle.srm_report.specs.ListingSinks.{stage_at, written_by}
 use Rattle.srm_report.proofs.SinkLemmas.{rows_put}
 use Rattle.srm_report.proofs.listing_sink.ListingSinkKeptSinkLines.kept.Goals as goal
@@ -12,5 +11,5 @@ pub returns-clause-rows : goal.returns-clause-rows
 returns-clause-rows g c rows are =
     rows_put g.O.Outlet.taken g.L.Listing.form c.args.self.now c.put_lines-answer.new.self rows c.put_lines-answer.result
     true c.standing_after-self.result _
-    (c.put_lines-answer.ensures.text rows (subst (AreLinesOf g.L.Listing.form rows) (sym c.as_slice.ensures.value) are))
+    (c.put_lines-answer.ensures.text rows are)
     c.standing_after-self.ensures

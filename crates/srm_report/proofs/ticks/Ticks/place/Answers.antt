@@ -1,4 +1,4 @@
-use Rattle.std.proofs.Common.{◌≡◌, ◌∙◌, ◌+◌, ◌-◌, ◌<◌, ◌≤◌, ◌⊎◌, inl, inr, Contains, HoldsAt, true≢false, length, sym, subst, Err}
+use Rattle.std.proofs.Common.{◌≡◌, ◌∙◌, ◌+◌, ◌-◌, ◌<◌, ◌≤◌, ◌⊎◌, inl, inr, Contains, HoldsAt, true≢false, length, ap, sym, subst, Err}
 use Rattle.std.proofs.Common.{leb-true, leb-false, lt-ltb, arith}
 use Rattle.std.specs.List.Sorted.{IsStrictlyIncreasing, IsBinarySearchResult}
 use Rattle.std.specs.Ordering.{nat_cmp}
@@ -7,8 +7,8 @@ use Rattle.srm_report.proofs.PlaceLemmas.{before_range, in_range, place_found}
 use Rattle.srm_report.proofs.ticks.Ticks.place.Goals.{then-time-first, else-time-first}
 use Rattle.srm_report.proofs.ticks.Ticks.place.Goals as goal
 
-pub returns-then-time-first-2 : goal.returns-then-time-first-2
-returns-then-time-first-2 c =
+pub returns-then-time-first-2-clause-found : goal.returns-then-time-first-2-clause-found
+returns-then-time-first-2-clause-found c =
     let time = c.args.time in
     let out : (time < c.in-From.first) ⊎ (c.in-From.first + c.in-From.count ≤ time) = elim c.if-time-first.branch [
       | then-time-first w ↦ inl w.if-time-first.true
@@ -17,10 +17,11 @@ returns-then-time-first-2 c =
           let past = leb-true c.in-From.count (time - c.in-From.first) (sym w.value-is ∙ c.if-time-first-2.true) in
           inr (omega arith)
     ] in
-    subst (λ t. Contains (ticks_in t) time → ⊥) (sym c.in-From.is) (before_range c.in-From.first c.in-From.count time out)
+    subst (λ l. Contains l time → ⊥) (ap ticks_in (sym c.in-From.is) ∙ c.self.view_is)
+    (before_range c.in-From.first c.in-From.count time out)
 
-pub returns-else-time-first-2 : goal.returns-else-time-first-2
-returns-else-time-first-2 c =
+pub returns-else-time-first-2-clause-found : goal.returns-else-time-first-2-clause-found
+returns-else-time-first-2-clause-found c =
     let time = c.args.time in
     let first = c.in-From.first in
     let within : (first ≤ time) × (time < first + c.in-From.count) = elim c.if-time-first.branch [
@@ -31,14 +32,15 @@ returns-else-time-first-2 c =
           let early = leb-false c.in-From.count (time - first) (sym w.value-is ∙ c.if-time-first-2.false) in
           (low, omega arith)
     ] in
-    subst (λ t. (time - first < length (ticks_in t)) × HoldsAt (λ u. u ≡ time) (ticks_in t) (time - first)) (sym c.in-From.is)
+    subst (λ l. (time - first < length l) × HoldsAt (λ u. u ≡ time) l (time - first)) (ap ticks_in (sym c.in-From.is) ∙ c.self.view_is)
     (in_range first c.in-From.count time within.0 within.1)
 
-pub returns-in-Err : goal.returns-in-Err
-returns-in-Err c =
+pub returns-in-Err-clause-found : goal.returns-in-Err-clause-found
+returns-in-Err-clause-found c =
     let time = c.args.time in
     let times = c.in-These.times.items in
-    let rise : IsStrictlyIncreasing times = subst (λ t. IsStrictlyIncreasing (ticks_in t)) c.in-These.is c.requires in
+    let rise : IsStrictlyIncreasing times = subst (λ t. IsStrictlyIncreasing (ticks_in t)) c.in-These.is c.self.invariant in
     let position : IsBinarySearchResult (λ y. nat_cmp y time) times (Err c.in-Err.field-0) =
     subst (λ l. IsBinarySearchResult (λ y. nat_cmp y time) l (Err c.in-Err.field-0)) c.deref.ensures.value c.in-Err.ensures.position in
-    subst (λ t. Contains (ticks_in t) time → ⊥) (sym c.in-These.is) (place_found times time (Err c.in-Err.field-0) rise position)
+    subst (λ l. Contains l time → ⊥) (ap ticks_in (sym c.in-These.is) ∙ c.self.view_is)
+    (place_found times time (Err c.in-Err.field-0) rise position)
