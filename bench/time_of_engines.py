@@ -42,6 +42,7 @@ class Case(NamedTuple):
     delay: int
     draws: int
     tables: tuple[str, ...]
+    team_cut: int = 0  # how many members a team's job has, or 0 for sixteen jobs for each worker
 
 
 LINKS, BOTH = ("links",), ("links", "trace")
@@ -49,7 +50,7 @@ CASES = [
     Case("tree of 1,024, 1,024 draws", "tree", 1024, 1000, 1024, BOTH),
     Case("star of 1,024, 100 draws", "star", 1024, 1000, 100, BOTH),
     Case("tree of 1,024, 4,096 draws", "tree", 1024, 1000, 4096, BOTH),
-    Case("chain of 1,024, 1,024 draws", "chain", 1024, 1000, 1024, LINKS),
+    Case("chain of 1,024, 1,024 draws", "chain", 1024, 1000, 1024, BOTH, team_cut=4),
     Case("tree of 10,000, 100 draws", "tree", 10000, 1000, 100, LINKS),
     Case("tree of 1,024, links of one tick", "tree", 1024, 1, 1024, LINKS),
 ]
@@ -62,11 +63,12 @@ def scenario(shape: str, nodes: int, delay: int, draws: int) -> bytes:
     return measuring.scenario(shape, nodes, delay=delay, until=until, draws=draws, spacing=SPACING, drops=drops)
 
 
-def engines(nodes: int, workers: int) -> dict[str, list[str]]:
+def engines(nodes: int, workers: int, team_cut: int) -> dict[str, list[str]]:
     """The options of each engine, by its name."""
     window = ["--engine", "window", "--width", "least", "--workers", str(workers)]
     jobs = {"plain": 4, "pool": 4, "bag": 4, "team": 16}
     cuts = {crew: min(MOST_CUT, max(1, nodes // (each * workers))) for crew, each in jobs.items()}
+    cuts["team"] = team_cut or cuts["team"]
     return {"step": [], **{f"window, {crew}": [*window, "--crew", crew, "--cut", str(cut)] for crew, cut in cuts.items()}}
 
 
@@ -103,7 +105,8 @@ def main() -> None:
     for case in asked(options):
         text = scenario(case.shape, case.nodes, case.delay, case.draws)
         for table in case.tables if is_read(options.program, case.name, text) else ():
-            ways = {name: ["--show", table, *words] for name, words in engines(case.nodes, options.workers).items()}
+            engine_words = engines(case.nodes, options.workers, case.team_cut)
+            ways = {name: ["--show", table, *words] for name, words in engine_words.items()}
             times, _ = measuring.least_times(options.program, text, ways, options.repeat)
             for name, spent in times.items():
                 print(f"{case.name:32} {table:5} {name:14} {spent:8.3f} {spent / times['step']:9.2f}", flush=True)
