@@ -12,8 +12,9 @@ many members as go evenly to four jobs for each worker, and with a team to sixte
 All engines must write the same bytes; where one does not, nothing more is timed, and the status is 1. Prints the least wall
 time of N runs, and that time over the sequential engine's. It asserts nothing about speed.
 
---cases  in place of these the cases of CASES, larger ones, each with the table of links and with the trace. One that PROGRAM does
-         not read is left out, and told: more than 1,024 nodes need version 3 of the format (docs/FORMATS.md).
+--cases  in place of these the cases of CASES, larger ones, each with the table of links and with the trace; on the chain a team's
+         job has 4 members. One that PROGRAM does not read is left out, and told: more than 1,024 nodes need version 3 of the
+         format (docs/FORMATS.md).
 """
 import argparse
 import sys

@@ -8,7 +8,7 @@ use srm_member::row::Row;
 use std::alloc::{AllocError, Global};
 use std::marker::Model;
 
-/// How many bytes most lines have at most, to make room for them at once.
+// How many bytes most lines have at most, to make room for them at once.
 const USUAL_LINE: usize = 40;
 
 // How many bytes lines have at most whose room is kept as they are taken out.

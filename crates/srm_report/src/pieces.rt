@@ -10,7 +10,7 @@ use std::mem;
 // A part that is this long is not copied.
 const LONG_PART: usize = 4_096;
 
-// How many bytes a piece of short parts has at most.
+// A piece of short parts that is longer takes no more of them.
 const USUAL_PIECE: usize = 65_536;
 
 /// A text in pieces. Contracts see the text.
