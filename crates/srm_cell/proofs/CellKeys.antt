@@ -14,9 +14,8 @@ use Rattle.srm_scenario.specs.Plain.{mark_cmp}
 use Rattle.srm_member.specs.declared.due.Due.{Due}
 use Rattle.srm_member.specs.declared.entries.Missing.{Missing}
 use Rattle.srm_member.specs.declared.entries.Repairing.{Repairing}
-use Rattle.srm_member.specs.Record.{MemberState, Record, Active, Gone, timers}
+use Rattle.srm_member.specs.Record.{MemberState}
 use Rattle.srm_member.proofs.AllIn.{AllIn, AllIn-each, AllIn-map}
-use Rattle.srm_member.proofs.FewerTimers.{SoundRecord}
 use Rattle.srm_cell.specs.declared.flight.Flight.{Flight}
 use Rattle.srm_cell.specs.Flights.{flight_cmp}
 use Rattle.srm_cell.specs.Setting.{HasOwnRanks}
@@ -24,6 +23,9 @@ use Rattle.srm_cell.specs.Cells.{PlainCell, arrival_key, mark_key, timer_key, pe
 use Rattle.srm_cell.proofs.Clear.{Differs, differ_rank, timer_differs, IsDistinct, flights_differ, marks_differ, marks_apart}
 use Rattle.srm_cell.proofs.Clear.{not_of_mark, due_ranks}
 use Rattle.srm_cell.proofs.Clear.{dues_apart}
+use Rattle.srm_cell.specs.Cells.{timers_in}
+use Rattle.srm_cell.proofs.Rising.{SoundHeld}
+use Rattle.std.proofs.Common.{Option, Some, None}
 
 key_self : (k : Key) → key_cmp k k ≡ Equal
 key_self k = grind arith
@@ -79,7 +81,7 @@ map_both t f g [] (y ∷ ys) = ap (λ l. t (g y) ∷ l) (map_both t f g [] ys)
 map_both t f g (x ∷ xs) ys = ap (λ l. t (f x) ∷ l) (map_both t f g xs ys)
 
 memory_differs : (m : ℕ) (state : MemberState) → T (is_sorted name_cmp state.missing) → T (is_sorted name_cmp state.repairs)
-    → AllDiffer (map (timer_key m) (timers (Active state)))
+    → AllDiffer (map (timer_key m) (timers_in (Some state)))
 memory_differs m state h g =
     rw (map_both (timer_key m) (due (λ (v : Missing). v.expiry) m Request) (due (λ (v : Repairing). v.expiry) m Repair)
     state.missing state.repairs)
@@ -91,30 +93,30 @@ memory_differs m state h g =
     (timer_key m (due (λ (v : Repairing). v.expiry) m Repair x)) (λ q. cc)) state.repairs))
     state.missing)))
 
-timers_differ : (m : ℕ) (r : Record) → SoundRecord r → AllDiffer (map (timer_key m) (timers r))
-timers_differ m (Active state) s = memory_differs m state s.asks s.answers
-timers_differ m (Gone f) s = tt
+timers_differ : (m : ℕ) (r : Option MemberState) → SoundHeld r → AllDiffer (map (timer_key m) (timers_in r))
+timers_differ m (Some state) s = memory_differs m state s.asks s.answers
+timers_differ m None s = tt
 
-marks_and_timers : (m : ℕ) (r : Record) (ks : List Mark) → HasOwnRanks ks
-    → AllIn (λ k. DiffersFrom (mark_key m k) (map (timer_key m) (timers r))) ks
+marks_and_timers : (m : ℕ) (r : Option MemberState) (ks : List Mark) → HasOwnRanks ks
+    → AllIn (λ k. DiffersFrom (mark_key m k) (map (timer_key m) (timers_in r))) ks
 marks_and_timers m r [] h = tt
 marks_and_timers m r (k ∷ ks) h =
     let own = h.0 in (
-      from_all (mark_key m k) (timer_key m) (timers r) (dues_apart m (mark_key m k) (timers r)
+      from_all (mark_key m k) (timer_key m) (timers_in r) (dues_apart m (mark_key m k) (timers_in r)
           (not_of_mark k.rank Request own refl) (not_of_mark k.rank Repair own refl) (due_ranks r)),
       marks_and_timers m r ks h.1,
     )
 
-pub cell_keys_differ : (m : ℕ) (c : PlainCell) → IsDistinct c → SoundRecord c.holds → AllDiffer (pending_keys m c)
+pub cell_keys_differ : (m : ℕ) (c : PlainCell) → IsDistinct c → SoundHeld c.holds → AllDiffer (pending_keys m c)
 cell_keys_differ m c d s =
     let marks = map (mark_key m) c.script in
-    let dues = map (timer_key m) (timers c.holds) in
+    let dues = map (timer_key m) (timers_in c.holds) in
     all_differ_append (map (arrival_key m) c.inbox) (marks ++ dues) (arrivals_differ m c.inbox d.flights)
     (all_differ_append marks dues (all_marks_differ m c.script d.marks) (timers_differ m c.holds s)
-    (AllIn-map (λ x. DiffersFrom x (map (timer_key m) (timers c.holds)))
+    (AllIn-map (λ x. DiffersFrom x (map (timer_key m) (timers_in c.holds)))
     (mark_key m) c.script (marks_and_timers m c.holds c.script d.ranks)))
-    (AllIn-map (λ x. DiffersFrom x (map (mark_key m) c.script ++ map (timer_key m) (timers c.holds))) (arrival_key m) c.inbox
-    (AllIn-each _ (λ f. differs_append (arrival_key m f) (map (mark_key m) c.script) (map (timer_key m) (timers c.holds))
+    (AllIn-map (λ x. DiffersFrom x (map (mark_key m) c.script ++ map (timer_key m) (timers_in c.holds))) (arrival_key m) c.inbox
+    (AllIn-each _ (λ f. differs_append (arrival_key m f) (map (mark_key m) c.script) (map (timer_key m) (timers_in c.holds))
     (from_all (arrival_key m f) (mark_key m) c.script (marks_apart m (arrival_key m f) c.script d.ranks refl))
-    (from_all (arrival_key m f) (timer_key m) (timers c.holds)
-    (dues_apart m (arrival_key m f) (timers c.holds) (λ e. cc) (λ e. cc) (due_ranks c.holds)))) c.inbox))
+    (from_all (arrival_key m f) (timer_key m) (timers_in c.holds)
+    (dues_apart m (arrival_key m f) (timers_in c.holds) (λ e. cc) (λ e. cc) (due_ranks c.holds)))) c.inbox))

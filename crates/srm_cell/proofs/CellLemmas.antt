@@ -7,7 +7,7 @@ use Rattle.srm_cell.specs.Cells.{first_arrival, first_mark, handle, hear_at, nex
 use Rattle.srm_cell.specs.Flights.{flight_cmp}
 use Rattle.srm_cell.specs.declared.flight.Flight.{Flight}
 use Rattle.srm_member.proofs.OrderLemmas.{head_le}
-use Rattle.srm_member.specs.Record.{Record, due_cmp, earliest, earlier_timer, timers}
+use Rattle.srm_member.specs.Record.{due_cmp, earliest, earlier_timer}
 use Rattle.srm_member.specs.declared.cause.Cause.{Cause}
 use Rattle.srm_member.specs.declared.due.Due.{Due}
 use Rattle.srm_net.specs.Keys.{key_cmp}
@@ -17,6 +17,8 @@ use Rattle.srm_net.specs.declared.packet.Packet.{Packet}
 use Rattle.srm_scenario.specs.declared.mark.Mark.{Mark}
 use Rattle.srm_net.proofs.Basics.{nat_cmp_self}
 use Rattle.srm_net.proofs.TotalOrders.{key_total}
+use Rattle.srm_member.specs.Record.{MemberState}
+use Rattle.srm_cell.specs.Cells.{timers_in}
 
 -- ---- the earliest event before an end
 
@@ -102,10 +104,10 @@ first_timer_is m c (d ∷ ds) = sooner_timer m c d (earliest ds) ∙ ap (earlier
 
 -- the next event is the first of the first arrival, the first mark and all timers
 pub next_event_is : (m : ℕ) (c : PlainCell) → next_event m c ≡ earlier (first_arrival m c c.inbox)
-    (earlier (first_mark m c c.script) (first_timer m c (timers c.holds)))
+    (earlier (first_mark m c c.script) (first_timer m c (timers_in c.holds)))
 unfolding next_event
 next_event_is m c = ap (λ o. earlier (first_arrival m c c.inbox) (earlier (first_mark m c c.script) o))
-    (first_timer_is m c (timers c.holds))
+    (first_timer_is m c (timers_in c.holds))
 
 -- ---- a change of the rest of the cell that no event before the end sees
 
@@ -157,16 +159,16 @@ module _ (till : ℕ) (p : Packet) (at : ℕ) (late : till ≤ at) where
 
   -- the least own event before the end is the same, and what is left of the cell hears the packet
   all_alike : (m : ℕ) (c : PlainCell) → before till (earlier (first_arrival m (late_hear c) (place flight_cmp flight c.inbox))
-      (earlier (first_mark m (late_hear c) c.script) (first_timer m (late_hear c) (timers c.holds))))
+      (earlier (first_mark m (late_hear c) c.script) (first_timer m (late_hear c) (timers_in c.holds))))
       ≡ option_map (event_map late_hear)
-      (before till (earlier (first_arrival m c c.inbox) (earlier (first_mark m c c.script) (first_timer m c (timers c.holds)))))
+      (before till (earlier (first_arrival m c c.inbox) (earlier (first_mark m c c.script) (first_timer m c (timers_in c.holds)))))
   all_alike m c = grind (arith, before-earlier, marks_alike, timers_alike, earlier-map, before-map, arrivals_alike)
 
   next_event_alike : (m : ℕ) (c : PlainCell) → before till (next_event m (late_hear c))
       ≡ option_map (event_map late_hear) (before till (next_event m c))
   next_event_alike m c = grind (arith, next_event_is, all_alike)
 
-  handle_alike : (e : Event) (holds : Record) (cause : Option Cause) → handle (event_map late_hear e) holds cause
+  handle_alike : (e : Event) (holds : Option MemberState) (cause : Option Cause) → handle (event_map late_hear e) holds cause
       ≡ outcome_map (stepped_map late_hear) (handle e holds cause)
   unfolding handle
   handle_alike e holds cause = grind arith

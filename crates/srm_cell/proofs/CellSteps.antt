@@ -12,11 +12,12 @@ use Rattle.srm_cell.specs.OwnRuns.{told_to}
 use Rattle.srm_cell.specs.Setting.{Traffic, arrival_of}
 use Rattle.srm_cell.specs.declared.flight.Flight.{Flight}
 use Rattle.srm_member.proofs.OrderLemmas.{place-comm}
-use Rattle.srm_member.specs.Record.{Record, timers}
 use Rattle.srm_member.specs.declared.cause.Cause.{Cause}
 use Rattle.srm_member.specs.declared.due.Due.{Due}
 use Rattle.srm_net.specs.declared.packet.Packet.{Packet}
 use Rattle.srm_scenario.specs.declared.mark.Mark.{Mark}
+use Rattle.srm_member.specs.Record.{MemberState}
+use Rattle.srm_cell.specs.Cells.{timers_in}
 
 -- ---- whose events a cell's are
 
@@ -49,7 +50,7 @@ timer_is_of m c (d ∷ ds) = earlier_of m (Some _) (first_timer m c ds) refl (ti
 
 pub next_event_of : (m : ℕ) (c : PlainCell) → IsOf m (next_event m c)
 next_event_of m c = subst (IsOf m) (sym (next_event_is m c))
-    (earlier_of m _ _ (arrival_is_of m c c.inbox) (earlier_of m _ _ (mark_is_of m c c.script) (timer_is_of m c (timers c.holds))))
+    (earlier_of m _ _ (arrival_is_of m c c.inbox) (earlier_of m _ _ (mark_is_of m c c.script) (timer_is_of m c (timers_in c.holds))))
 
 -- a packet of this sender, if any
 abbrev pub SentBy : ℕ → Option Packet → Type 0
@@ -62,7 +63,8 @@ IsStepOf m Full = Unit {0}
 IsStepOf m Spent = Unit {0}
 IsStepOf m (Done d) = (d.row.key.member ≡ m) × SentBy m d.row.sent
 
-pub handle_of : (m : ℕ) (e : Event) (holds : Record) (cause : Option Cause) → e.key.member ≡ m → IsStepOf m (handle e holds cause)
+pub handle_of : (m : ℕ) (e : Event) (holds : Option MemberState) (cause : Option Cause) → e.key.member ≡ m
+    → IsStepOf m (handle e holds cause)
 unfolding handle
 handle_of m e holds cause h = grind arith
 
@@ -121,7 +123,7 @@ before_more till until le x e h = grind arith
 
 -- ---- steps that are neither the last nor refused
 
-handle_not_idle : (e : Event) (holds : Record) (cause : Option Cause) → handle e holds cause ≢ Idle
+handle_not_idle : (e : Event) (holds : Option MemberState) (cause : Option Cause) → handle e holds cause ≢ Idle
 unfolding handle
 handle_not_idle e holds cause h = grind arith
 

@@ -14,7 +14,7 @@ use Rattle.srm_cell.specs.Setting.{HasOwnRanks}
 use Rattle.srm_cell.specs.declared.flight.Flight.{Flight}
 use Rattle.srm_member.proofs.AllIn.{AllIn, AllIn-append, AllIn-each, AllIn-map, AllIn-weaker}
 use Rattle.srm_member.proofs.Bounds.{request_length_pos}
-use Rattle.srm_member.proofs.FewerTimers.{In, IsSound, SoundRecord, found, in_append, in_map}
+use Rattle.srm_member.proofs.FewerTimers.{In, IsSound, found, in_append, in_map}
 use Rattle.srm_member.proofs.FewerTimers.{no_table}
 use Rattle.srm_member.proofs.LawProofs.{as_active}
 use Rattle.srm_net.specs.Roles.{is_listener}
@@ -23,7 +23,7 @@ use Rattle.srm_member.specs.React.{react, request_length, with_request_delay, wi
 use Rattle.srm_member.specs.React.{with_rest, without}
 use Rattle.srm_member.specs.declared.entries.Missing.{Missing}
 use Rattle.srm_member.specs.declared.entries.Repairing.{Repairing}
-use Rattle.srm_member.specs.Record.{Active, Gone, MemberState, Record, timers, timers_of}
+use Rattle.srm_member.specs.Record.{MemberState, timers_of}
 use Rattle.srm_member.specs.declared.cause.Cause.{Cause}
 use Rattle.srm_member.specs.declared.cause.Cause.TheVariants.{Answer, Ask}
 use Rattle.srm_member.specs.declared.due.Due.{Due}
@@ -42,6 +42,8 @@ use Rattle.srm_scenario.specs.declared.mark.Mark.{Mark}
 use Rattle.srm_net.specs.Limits.{most_sent}
 use Rattle.srm_net.proofs.Basics.{same_numbers, T_first, T_second, T_less, nth_number}
 use Rattle.srm_net.proofs.TotalOrders.{key_total, name_total, one_rank}
+use Rattle.srm_cell.specs.Cells.{timers_in}
+use Rattle.srm_cell.proofs.Rising.{SoundHeld}
 
 -- ---- keys that differ
 
@@ -189,7 +191,7 @@ abbrev pub Besides : ℕ → PlainCell → Event → Type 0
 Besides m c e =
     (Above (Differs e.key) m e.rest)
     ⊎ ((e.rest ≡ c) × (AllIn (λ f. Differs e.key (arrival_key m f)) c.inbox) × (AllIn (λ k. Differs e.key (mark_key m k)) c.script)
-    × ((d : Due) × In d (timers c.holds) × (e.key ≡ timer_key m d) × (e.cause ≡ Some (cause_of_timer d.rank d.name))))
+    × ((d : Due) × In d (timers_in c.holds) × (e.key ≡ timer_key m d) × (e.cause ≡ Some (cause_of_timer d.rank d.name))))
 
 pub flights_differ : (m : ℕ) (f : Flight) (fs : List Flight) → AllAfter flight_cmp f fs
     → AllIn (λ g. Differs (arrival_key m f) (arrival_key m g)) fs
@@ -216,11 +218,11 @@ marks_apart m k (l ∷ ls) h other = (
 abbrev pub IsOfTimer : Due → Type 0
 IsOfTimer d = (d.rank ≡ Request) ⊎ (d.rank ≡ Repair)
 
-pub due_ranks : (holds : Record) → AllIn IsOfTimer (timers holds)
-due_ranks (Active m) = AllIn-append IsOfTimer _ _
+pub due_ranks : (holds : Option MemberState) → AllIn IsOfTimer (timers_in holds)
+due_ranks (Some m) = AllIn-append IsOfTimer _ _
     (AllIn-map IsOfTimer _ m.missing (AllIn-each _ (λ e. inl refl) m.missing))
     (AllIn-map IsOfTimer _ m.repairs (AllIn-each _ (λ e. inr refl) m.repairs))
-due_ranks (Gone f) = tt
+due_ranks None = tt
 
 pub dues_apart : (m : ℕ) (k : Key) (ds : List Due) → k.rank ≢ Request → k.rank ≢ Repair → AllIn IsOfTimer ds
     → AllIn (λ d. Differs k (timer_key m d)) ds
@@ -238,7 +240,7 @@ arrival_besides m c [] t a = tt
 arrival_besides m c (f ∷ fs) t a = inl (record {
   flights = flights_differ m f fs a.0;
   marks = marks_apart m (arrival_key m f) c.script t.ranks refl;
-  dues = dues_apart m (arrival_key m f) (timers c.holds) (λ e. cc) (λ e. cc)
+  dues = dues_apart m (arrival_key m f) (timers_in c.holds) (λ e. cc) (λ e. cc)
       (due_ranks c.holds);
 })
 
@@ -251,15 +253,15 @@ mark_besides m c (k ∷ ks) t a r =
       flights = AllIn-each (λ f. Differs (mark_key m k) (arrival_key m f))
           (λ f. differ_rank (mark_key m k) (arrival_key m f) (not_of_mark k.rank Arrival own refl)) c.inbox;
       marks = marks_differ m k ks a.0;
-      dues = dues_apart m (mark_key m k) (timers c.holds)
+      dues = dues_apart m (mark_key m k) (timers_in c.holds)
           (not_of_mark k.rank Request own refl) (not_of_mark k.rank Repair own refl) (due_ranks c.holds);
     })
 
-timer_besides : (m : ℕ) (c : PlainCell) (ds : List Due) → IsDistinct c → ((d : Due) → In d ds → In d (timers c.holds))
+timer_besides : (m : ℕ) (c : PlainCell) (ds : List Due) → IsDistinct c → ((d : Due) → In d ds → In d (timers_in c.holds))
     → OnEvent (Besides m c) (first_timer m c ds)
 timer_besides m c [] t h = tt
 timer_besides m c (d ∷ ds) t h =
-    let rank = rank_in d (timers c.holds) (due_ranks c.holds) (h d (inl refl)) in
+    let rank = rank_in d (timers_in c.holds) (due_ranks c.holds) (h d (inl refl)) in
     earlier_on (Besides m c) (Some _) (first_timer m c ds)
     (inr (
       refl,
@@ -277,8 +279,8 @@ timer_besides m c (d ∷ ds) t h =
 pub next_besides : (m : ℕ) (c : PlainCell) → IsDistinct c → OnEvent (Besides m c) (next_event m c)
 next_besides m c t = subst (OnEvent (Besides m c)) (sym (next_event_is m c))
     (earlier_on (Besides m c) (first_arrival m c c.inbox) _ (arrival_besides m c c.inbox t t.flights)
-    (earlier_on (Besides m c) (first_mark m c c.script) (first_timer m c (timers c.holds)) (mark_besides m c c.script t t.marks t.ranks)
-    (timer_besides m c (timers c.holds) t (λ d h. h))))
+    (earlier_on (Besides m c) (first_mark m c c.script) (first_timer m c (timers_in c.holds)) (mark_besides m c c.script t t.marks t.ranks)
+    (timer_besides m c (timers_in c.holds) t (λ d h. h))))
 
 -- ---- after a step its key is pending no more
 
@@ -319,29 +321,30 @@ clear_cause m e state sound d h q =
           (answers_clear m e.key.time state sound r.0.0 r.0.1 r.1))
     ]
 
-clear_handle : (m : ℕ) (e : Event) (holds : Record) (cause : Option Cause) → AllIn (λ f. Differs e.key (arrival_key m f)) e.rest.inbox
+clear_handle : (m : ℕ) (e : Event) (holds : Option MemberState) (cause : Option Cause)
+    → AllIn (λ f. Differs e.key (arrival_key m f)) e.rest.inbox
     → AllIn (λ l. Differs e.key (mark_key m l)) e.rest.script
-    → SoundRecord holds → (d : Due) → In d (timers holds) → e.key ≡ timer_key m d → cause ≡ Some (cause_of_timer d.rank d.name)
+    → SoundHeld holds → (d : Due) → In d (timers_in holds) → e.key ≡ timer_key m d → cause ≡ Some (cause_of_timer d.rank d.name)
     → OnStep (ClearIn m e.key) (handle e holds cause)
 unfolding handle
-clear_handle m e (Gone f) cause fs ks s d h q c = absurd h
-clear_handle m e (Active state) None fs ks s d h q c = cc
-clear_handle m e (Active state) (Some cause) fs ks s d h q c =
+clear_handle m e None cause fs ks s d h q c = absurd h
+clear_handle m e (Some state) None fs ks s d h q c = cc
+clear_handle m e (Some state) (Some cause) fs ks s d h q c =
     let same : cause ≡ cause_of_timer d.rank d.name = cc in
     let r = react state e.key.time cause in
     clear_sending m e.key e r r.answer.body fs ks
     (subst (λ k. AllIn (λ x. Differs e.key (timer_key m x)) (timers_of (react state e.key.time k).state)) (sym same)
     (clear_cause m e state s d h q))
 
-pub clear_step : (m : ℕ) (c : PlainCell) (e : Event) → SoundRecord c.holds → Besides m c e → OnStep (ClearIn m e.key) (step_at (Some e))
+pub clear_step : (m : ℕ) (c : PlainCell) (e : Event) → SoundHeld c.holds → Besides m c e → OnStep (ClearIn m e.key) (step_at (Some e))
 clear_step m c e sound (inl a) = step_above (Differs e.key) m e.key.time (later_differs e.key) e refl a
 clear_step m c e sound (inr h) =
     let d = h.3 in
     clear_handle m e e.rest.holds e.cause
     (subst (λ (b : PlainCell). AllIn (λ f. Differs e.key (arrival_key m f)) b.inbox) (sym h.0) h.1)
     (subst (λ (b : PlainCell). AllIn (λ l. Differs e.key (mark_key m l)) b.script) (sym h.0) h.2)
-    (subst (λ (b : PlainCell). SoundRecord b.holds) (sym h.0) sound) d.0
-    (subst (λ (b : PlainCell). In d.0 (timers b.holds)) (sym h.0) d.1) d.2 d.3
+    (subst (λ (b : PlainCell). SoundHeld b.holds) (sym h.0) sound) d.0
+    (subst (λ (b : PlainCell). In d.0 (timers_in b.holds)) (sym h.0) d.1) d.2 d.3
 
 -- ---- what a step does to the inbox, the script and the packet count
 
@@ -377,8 +380,8 @@ timer_rest m c (d ∷ ds) = earlier_on (RestOf c) (Some _) (first_timer m c ds) 
 pub next_rest : (m : ℕ) (c : PlainCell) → OnEvent (RestOf c) (next_event m c)
 next_rest m c = subst (OnEvent (RestOf c)) (sym (next_event_is m c))
     (earlier_on (RestOf c) (first_arrival m c c.inbox) _ (arrival_rest m c c.inbox refl)
-    (earlier_on (RestOf c) (first_mark m c c.script) (first_timer m c (timers c.holds)) (mark_rest m c c.script refl)
-    (timer_rest m c (timers c.holds))))
+    (earlier_on (RestOf c) (first_mark m c c.script) (first_timer m c (timers_in c.holds)) (mark_rest m c c.script refl)
+    (timer_rest m c (timers_in c.holds))))
 
 -- the count after a step, by what it sent
 abbrev pub CountAfter : ℕ → Option Packet → ℕ → Type 0
@@ -390,7 +393,7 @@ pub record StepOf (e : Event) (d : Stepped) : Type 0 where
   pub script : d.cell.script ≡ e.rest.script
   pub count : CountAfter e.rest.sent d.row.sent d.cell.sent
 
-step_of_handle : (e : Event) (holds : Record) (cause : Option Cause) → OnStep (StepOf e) (handle e holds cause)
+step_of_handle : (e : Event) (holds : Option MemberState) (cause : Option Cause) → OnStep (StepOf e) (handle e holds cause)
 unfolding handle
 step_of_handle e holds cause = grind arith
 

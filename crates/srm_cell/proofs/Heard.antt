@@ -11,7 +11,6 @@ use Rattle.srm_net.proofs.TotalOrders.{key_total}
 use Rattle.srm_scenario.specs.declared.mark.Mark.{Mark}
 use Rattle.srm_member.specs.declared.cause.Cause.TheVariants.{Arrival}
 use Rattle.srm_member.specs.declared.due.Due.{Due}
-use Rattle.srm_member.specs.Record.{due_of}
 use Rattle.srm_member.proofs.OrderLemmas.{from_refl, from_trans, from_not_greater, not_greater}
 use Rattle.srm_cell.specs.declared.flight.Flight.{Flight}
 use Rattle.srm_cell.specs.declared.pending.Source.{Source}
@@ -22,6 +21,7 @@ use Rattle.srm_cell.specs.Cells.{PlainCell, Event, arrival_key, earlier, first_a
 use Rattle.srm_cell.specs.Pending.{Stands, arriving, first_of, sooner_pending}
 use Rattle.srm_cell.proofs.CellLemmas.{earlier-map, event_map}
 use Rattle.srm_cell.proofs.Tidy.{Least, flight_keys, least_earlier}
+use Rattle.srm_cell.specs.Cells.{due_in}
 
 -- ---- of three events the least is found in either order
 
@@ -110,12 +110,12 @@ module _ (m : ℕ) (p : Packet) (at : ℕ) where
   next_heard c =
       let a = first_arrival m c c.inbox in
       let k = first_mark m c c.script in
-      let t = next_timer m c (due_of c.holds) in
-      ap (λ o. earlier o (earlier (first_mark m (heard c) c.script) (next_timer m (heard c) (due_of c.holds)))) (first_heard c c.inbox)
+      let t = next_timer m c (due_in c.holds) in
+      ap (λ o. earlier o (earlier (first_mark m (heard c) c.script) (next_timer m (heard c) (due_in c.holds)))) (first_heard c c.inbox)
       ∙ ap (λ o. earlier (earlier (Some (coming flight c)) (option_map (event_map heard) a))
-      (earlier o (next_timer m (heard c) (due_of c.holds)))) (marks_alike c c.script)
+      (earlier o (next_timer m (heard c) (due_in c.holds)))) (marks_alike c c.script)
       ∙ ap (λ o. earlier (earlier (Some (coming flight c)) (option_map (event_map heard) a)) (earlier (option_map (event_map heard) k) o))
-      (timers_alike c (due_of c.holds))
+      (timers_alike c (due_in c.holds))
       ∙ ap (earlier (earlier (Some (coming flight c)) (option_map (event_map heard) a))) (earlier-map heard k t)
       ∙ earlier_of_three (Some (coming flight c)) (option_map (event_map heard) a) (option_map (event_map heard) (earlier k t))
       ∙ ap (earlier (Some (coming flight c))) (earlier-map heard a (earlier k t))

@@ -7,7 +7,7 @@ use Rattle.srm_cell.specs.declared.fault.CellFault.{CellFault}
 use Rattle.srm_cell.specs.declared.fault.CellFault.TheVariants as fault
 use Rattle.srm_cell.specs.Cells.{PlainCell, StepOutcome, Idle, Full, Spent, Done, Stepped, own_step}
 use Rattle.srm_cell.specs.OwnRuns.{own_rows, own_end, own_after, IsOwnRun}
-use Rattle.srm_cell.specs.Views.{TellsStep, HasWork}
+use Rattle.srm_cell.specs.Views.{Refuses, HasWork, plain_cell}
 use Rattle.srm_cell.specs.Jobs.{TellsRun}
 use Rattle.srm_cell.proofs.OwnRunLemmas.{end_now, end_done, idle_ends, spent_ends, rows_none, rows_done, after_none, after_done}
 
@@ -58,9 +58,9 @@ module _ (till m : ℕ) where
       by Spent e = subst HasWork (sym (leads_to p q rows (own_step till m q) l refl) ∙ spent_ends till m (l.steps + 0) p e) h
       by (Done d) e = tt
 
-  module _ {M : Type 0} where
-    pub leads_fault : (f : M → Record) (p q : PlainCell) (rows : List Row) (x : CellFault) (after : Cell M)
-        → Leads till m p rows q → TellsStep f m q (own_step till m q) (Err x) after → TellsRun f till m p (Err x) after
-    leads_fault f p q rows fault.NoMemory after l h = leads_work p q rows l h
-    leads_fault f p q rows fault.Spent after l h = (l.steps + 0, leads_to p q rows Spent l h)
-    leads_fault f p q rows fault.CountFull after l h = (l.steps + 0, leads_to p q rows Full l h)
+module _ {M : Type 0} (till : ℕ) (f : M → Record) (c : Cell M) where
+  pub leads_fault : (q : PlainCell) (rows : List Row) (x : CellFault) (after : Cell M)
+      → Leads till c.number (plain_cell f c) rows q → Refuses (own_step till c.number q) x → TellsRun f till c (Err x) after
+  leads_fault q rows fault.NoMemory after l h = leads_work till c.number (plain_cell f c) q rows l h
+  leads_fault q rows fault.Spent after l h = (l.steps + 0, leads_to till c.number (plain_cell f c) q rows Spent l h)
+  leads_fault q rows fault.CountFull after l h = (l.steps + 0, leads_to till c.number (plain_cell f c) q rows Full l h)

@@ -6,7 +6,6 @@ use Rattle.srm_net.specs.Orders.{NoneBelow}
 use Rattle.srm_net.proofs.TotalOrders.{key_total}
 use Rattle.srm_scenario.specs.declared.mark.Mark.{Mark}
 use Rattle.srm_member.specs.declared.due.Due.{Due}
-use Rattle.srm_member.specs.Record.{timers}
 use Rattle.srm_member.proofs.AllIn.{AllIn}
 use Rattle.srm_member.proofs.OrderLemmas.{from_refl}
 use Rattle.srm_cell.specs.declared.flight.Flight.{Flight}
@@ -15,6 +14,7 @@ use Rattle.srm_cell.specs.Laws.{NextEventsAreLeast}
 use Rattle.srm_cell.proofs.CellLemmas.{first_timer, next_event_is}
 use Rattle.srm_cell.proofs.Tidy.{NotBefore, Least, above_least}
 use Rattle.srm_cell.proofs.Heard.{some_first}
+use Rattle.srm_cell.specs.Cells.{timers_in}
 
 none_of : {A : Type 0} (k : Key) (f : A → Key) (xs : List A) → AllIn (λ x. NotBefore k (f x)) xs → NoneBelow key_cmp k (map f xs)
 none_of k f [] h = tt
@@ -39,6 +39,6 @@ next_events_are_least m c flights marks = (
       (subst (Least e.key) (sym h) (from_refl key_cmp key_total e.key)) in
       none_in_both e.key (map (arrival_key m) c.inbox) _ (none_of e.key (arrival_key m) c.inbox a.flights)
       (none_in_both e.key (map (mark_key m) c.script) _ (none_of e.key (mark_key m) c.script a.marks)
-      (none_of e.key (timer_key m) (timers c.holds) a.dues)),
-  λ h. nothing m c c.inbox c.script (timers c.holds) (sym (next_event_is m c) ∙ h),
+      (none_of e.key (timer_key m) (timers_in c.holds) a.dues)),
+  λ h. nothing m c c.inbox c.script (timers_in c.holds) (sym (next_event_is m c) ∙ h),
 )

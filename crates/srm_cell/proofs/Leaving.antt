@@ -9,7 +9,6 @@ use Rattle.srm_net.specs.declared.rank.Rank.TheVariants.{Leave}
 use Rattle.srm_scenario.specs.declared.mark.Mark.{Mark}
 use Rattle.srm_member.specs.declared.cause.Cause.{Cause}
 use Rattle.srm_member.specs.declared.due.Due.{Due}
-use Rattle.srm_member.specs.Record.{Record, Active, Gone}
 use Rattle.srm_member.specs.React.{Reaction, react}
 use Rattle.srm_member.proofs.AllIn.{AllIn, AllIn-place}
 use Rattle.srm_member.proofs.OrderLemmas.{from_refl}
@@ -26,15 +25,16 @@ use Rattle.srm_cell.proofs.Counts.{Taken, next_taken}
 use Rattle.srm_cell.proofs.Clear.{IsTail, RestOf, next_rest, StepOf, step_is_of, all_tail, ranks_tail}
 use Rattle.srm_cell.proofs.OwnRunLemmas.{end_by, end_first, end_now}
 use Rattle.srm_net.proofs.TotalOrders.{key_total}
+use Rattle.srm_member.specs.Record.{MemberState}
 
-abbrev pub IsActive : Record → Type 0
-IsActive (Active m) = Unit {0}
-IsActive (Gone f) = ⊥
+abbrev pub IsActive : Option MemberState → Type 0
+IsActive (Some m) = Unit {0}
+IsActive None = ⊥
 
 -- where the record is gone, nothing else is left
-abbrev pub IsOver : Record → PlainCell → Type 0
-IsOver (Active m) c = Unit {0}
-IsOver (Gone f) c = (c.inbox ≡ []) × (c.script ≡ [])
+abbrev pub IsOver : Option MemberState → PlainCell → Type 0
+IsOver (Some m) c = Unit {0}
+IsOver None c = (c.inbox ≡ []) × (c.script ≡ [])
 
 -- what the cell of a member has that leaves at this time, if it does
 pub record Stays (leave : Option ℕ) (c : PlainCell) : Type 0 where
@@ -45,7 +45,8 @@ pub record Stays (leave : Option ℕ) (c : PlainCell) : Type 0 where
 
 -- ---- an event is pending at active records alone
 
-nothing_left : (m : ℕ) (c : PlainCell) (r : Record) → c.holds ≡ r → IsOver r c → (e : Event) → next_event m c ≡ Some e → IsActive r
+nothing_left : (m : ℕ) (c : PlainCell) (r : Option MemberState) → c.holds ≡ r → IsOver r c → (e : Event) → next_event m c ≡ Some e
+    → IsActive r
 nothing_left m c r h over e q = grind (arith, next_event_is)
 
 abbrev SameHolds : PlainCell → Event → Type 0
@@ -67,11 +68,11 @@ sending_not_spent : (e : Event) (r : Reaction) (body : Option Body) → sending_
 sending_not_spent e r None h = cc
 sending_not_spent e r (Some body) h = sending_has _ _ h
 
-handle_not_spent : (e : Event) (holds : Record) (cause : Option Cause) → IsActive holds → handle e holds cause ≢ Spent
+handle_not_spent : (e : Event) (holds : Option MemberState) (cause : Option Cause) → IsActive holds → handle e holds cause ≢ Spent
 unfolding handle
-handle_not_spent e (Active m) (Some cause) a h = let r = react m e.key.time cause in sending_not_spent e r r.answer.body h
-handle_not_spent e (Active m) None a h = cc
-handle_not_spent e (Gone f) cause a h = absurd a
+handle_not_spent e (Some m) (Some cause) a h = let r = react m e.key.time cause in sending_not_spent e r r.answer.body h
+handle_not_spent e (Some m) None a h = cc
+handle_not_spent e None cause a h = absurd a
 
 pub not_spent : (e : Event) → IsActive e.rest.holds → step_at (Some e) ≢ Spent
 not_spent e a h = handle_not_spent e e.rest.holds e.cause a h
@@ -119,17 +120,18 @@ no_flight leave m k (f ∷ fs) is e up from = absurd (arrival_first m k f is (le
 abbrev ActiveOrLeft : Event → Stepped → Type 0
 ActiveOrLeft e d = IsActive d.cell.holds ⊎ (e.cause ≡ None)
 
-active_handle : (e : Event) (holds : Record) (cause : Option Cause) → e.cause ≡ cause → OnStep (ActiveOrLeft e) (handle e holds cause)
+active_handle : (e : Event) (holds : Option MemberState) (cause : Option Cause) → e.cause ≡ cause
+    → OnStep (ActiveOrLeft e) (handle e holds cause)
 unfolding handle
 active_handle e holds cause q = grind arith
 
-active_over : (r : Record) (c : PlainCell) → IsActive r → IsOver r c
-active_over (Active m) c h = tt
-active_over (Gone f) c h = absurd h
+active_over : (r : Option MemberState) (c : PlainCell) → IsActive r → IsOver r c
+active_over (Some m) c h = tt
+active_over None c h = absurd h
 
-over_by : (r : Record) (c : PlainCell) → (c.inbox ≡ []) × (c.script ≡ []) → IsOver r c
-over_by (Active m) c h = tt
-over_by (Gone f) c h = h
+over_by : (r : Option MemberState) (c : PlainCell) → (c.inbox ≡ []) × (c.script ≡ []) → IsOver r c
+over_by (Some m) c h = tt
+over_by None c h = h
 
 marks_tail : (leave : Option ℕ) (ys xs : List Mark) → IsTail ys xs → EndsAtLeave leave xs → EndsAtLeave leave ys
 marks_tail leave ys xs (inl e) h = subst (EndsAtLeave leave) (sym e) h

@@ -1,7 +1,6 @@
 pub mod Entries
 pub mod InboxLines
 pub mod Nexts
-pub mod Telling
 pub mod Saying
 pub mod OwnRunLemmas
 pub mod Pushes
@@ -26,4 +25,4 @@ pub mod SentRows
 pub mod LeastEvents
 pub mod Heard
 pub mod Hearings
-pub mod Parts
+pub mod Fronts

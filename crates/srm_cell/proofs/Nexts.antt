@@ -1,7 +1,7 @@
 -- Where a cell has its next event.
 use Rattle.std.proofs.Common.{arith}
 use Rattle.std.proofs.Common.{◌≡◌, ◌<◌, ◌≤◌, cond, ℕ, List, [], ◌∷◌, Option, Some, None, option_map}
-use Rattle.std.proofs.Common.{slice_get, refl, sym, ap, ◌∙◌, subst, le-ltb, Ordering}
+use Rattle.std.proofs.Common.{slice_get, refl, sym, ap, subst, le-ltb, Ordering}
 use Rattle.std.specs.Ordering.{is_gt}
 use Rattle.srm_net.specs.Keys.{key_cmp}
 use Rattle.srm_net.specs.declared.key.Key.{Key}
@@ -9,58 +9,38 @@ use Rattle.srm_net.specs.declared.packet.PacketId.{PacketId}
 use Rattle.srm_net.specs.declared.rank.Rank.TheVariants.{Arrival}
 use Rattle.srm_scenario.specs.declared.mark.Mark.{Mark}
 use Rattle.srm_member.specs.declared.due.Due.{Due}
-use Rattle.srm_member.specs.Record.{Record, due_of}
 use Rattle.srm_cell.specs.declared.flight.Flight.{Flight}
 use Rattle.srm_cell.specs.Cells.{PlainCell, Event, first_arrival, first_mark, next_timer, next_event, earlier, before}
 use Rattle.srm_cell.specs.Cells.{step_at, own_step, handle, time_of, Idle}
 use Rattle.srm_cell.specs.declared.pending.Pending.{Pending}
 use Rattle.srm_cell.specs.Pending.{Stands, sooner_pending}
-use Rattle.srm_cell.specs.Views.{HoldsRecord, due_in}
 
 -- an event with this key, which is what is pending
 abbrev pub Known : Key → Option Event → Option Event → Type 0
 Known k o q = (e : Event) × (o ≡ Some e) × (k ≡ e.key) × (q ≡ Some e)
 
-pub arrival_known : (m n : ℕ) (p : PlainCell) (fs : List Flight) (t : ℕ) (id : PacketId) → n ≡ m → p.inbox ≡ fs
+pub arrival_known : (m : ℕ) (p : PlainCell) (fs : List Flight) (t : ℕ) (id : PacketId)
     → ◌≡◌ {A = Option (ℕ × PacketId)} (Some (t, id)) (option_map (λ (f : Flight). (f.arrival, f.packet.id)) (slice_get fs 0))
-    → Known (record { time = t; member = n; rank = Arrival; a = id.sender; b = 0; c = id.count }) (first_arrival m p p.inbox)
-    (first_arrival m p p.inbox)
-arrival_known m n p fs t id number inbox h = subst
-    (λ xs. Known (record { time = t; member = n; rank = Arrival; a = id.sender; b = 0; c = id.count }) (first_arrival m p xs)
-    (first_arrival m p xs)) (sym inbox) (by fs h)
-  where
-    by : (fs : List Flight) → ◌≡◌ {A = Option (ℕ × PacketId)} (Some (t, id))
-        (option_map (λ (f : Flight). (f.arrival, f.packet.id)) (slice_get fs 0))
-        → Known (record { time = t; member = n; rank = Arrival; a = id.sender; b = 0; c = id.count }) (first_arrival m p fs)
-        (first_arrival m p fs)
-    by [] h = cc
-    by (f ∷ fs) h =
-        let pair : ◌≡◌ {A = ℕ × PacketId} (t, id) (f.arrival, f.packet.id) = cc in
-        let time : t ≡ f.arrival = ap (λ (x : ℕ × PacketId). x.0) pair in
-        let same : id ≡ f.packet.id = ap (λ (x : ℕ × PacketId). x.1) pair in
-        (_, refl, (λ i. record { time = time i; member = number i; rank = Arrival; a = (same i).sender; b = 0; c = (same i).count }), refl)
+    → Known (record { time = t; member = m; rank = Arrival; a = id.sender; b = 0; c = id.count }) (first_arrival m p fs)
+    (first_arrival m p fs)
+arrival_known m p [] t id h = cc
+arrival_known m p (f ∷ fs) t id h =
+    let pair : ◌≡◌ {A = ℕ × PacketId} (t, id) (f.arrival, f.packet.id) = cc in
+    let time : t ≡ f.arrival = ap (λ (x : ℕ × PacketId). x.0) pair in
+    let same : id ≡ f.packet.id = ap (λ (x : ℕ × PacketId). x.1) pair in
+    (_, refl, (λ i. record { time = time i; member = m; rank = Arrival; a = (same i).sender; b = 0; c = (same i).count }), refl)
 
-pub mark_known : (m n : ℕ) (p : PlainCell) (ks rest : List Mark) (k : Mark) → n ≡ m → p.script ≡ ks → ks ≡ k ∷ rest
-    → Known (record { time = k.at; member = n; rank = k.rank; a = 0; b = 0; c = k.place }) (first_mark m p p.script)
-    (first_mark m p p.script)
-mark_known m n p ks rest k number script h = subst
-    (λ xs. Known (record { time = k.at; member = n; rank = k.rank; a = 0; b = 0; c = k.place }) (first_mark m p xs) (first_mark m p xs))
-    (sym (script ∙ h))
-    (_, refl, (λ i. record { time = k.at; member = number i; rank = k.rank; a = 0; b = 0; c = k.place }), refl)
+pub mark_known : (m : ℕ) (p : PlainCell) (ks rest : List Mark) (k : Mark) → ks ≡ k ∷ rest
+    → Known (record { time = k.at; member = m; rank = k.rank; a = 0; b = 0; c = k.place }) (first_mark m p ks)
+    (first_mark m p ks)
+mark_known m p ks rest k h = subst
+    (λ xs. Known (record { time = k.at; member = m; rank = k.rank; a = 0; b = 0; c = k.place }) (first_mark m p xs) (first_mark m p xs))
+    (sym h) (_, refl, refl, refl)
 
-pub held_due : (o : Option Record) (h : Record) → HoldsRecord o h → due_of h ≡ due_in o
-held_due o h g = grind arith
-
-pub timer_known : (m n : ℕ) (p : PlainCell) (o : Option Record) (d : Due) → n ≡ m → HoldsRecord o p.holds → Some d ≡ due_in o
-    → Known (record { time = d.time; member = n; rank = d.rank; a = d.name.source; b = d.name.page; c = d.name.number })
-    (next_timer m p (due_of p.holds)) (next_timer m p (due_of p.holds))
-timer_known m n p o d number holds h =
-    let due : due_of p.holds ≡ Some d = held_due o p.holds holds ∙ sym h in (
-      _,
-      ap (next_timer m p) due,
-      (λ i. record { time = d.time; member = number i; rank = d.rank; a = d.name.source; b = d.name.page; c = d.name.number }),
-      ap (next_timer m p) due,
-    )
+pub timer_known : (m : ℕ) (p : PlainCell) (o : Option Due) (d : Due) → Some d ≡ o
+    → Known (record { time = d.time; member = m; rank = d.rank; a = d.name.source; b = d.name.page; c = d.name.number })
+    (next_timer m p o) (next_timer m p o)
+timer_known m p o d h = (_, ap (next_timer m p) (sym h), refl, ap (next_timer m p) (sym h))
 
 -- ---- the sooner of two
 

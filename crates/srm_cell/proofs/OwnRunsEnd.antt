@@ -12,14 +12,14 @@ use Rattle.srm_cell.proofs.Tidy.{IsTidy, Least, NotBefore, RestTidy, above_least
 use Rattle.srm_cell.specs.Cells.{Done, Event, Full, Idle, PlainCell, Silent, Spent, Stepped, before, handle, next_event, own_step}
 use Rattle.srm_cell.specs.Cells.{pending_at, step_at}
 use Rattle.srm_cell.specs.OwnRuns.{own_end}
-use Rattle.srm_member.proofs.FewerTimers.{SoundRecord}
 use Rattle.srm_member.proofs.LawProofs.{as_listener}
 use Rattle.srm_member.proofs.OrderLemmas.{from_refl}
-use Rattle.srm_member.specs.Record.{Record}
 use Rattle.srm_member.specs.declared.cause.Cause.{Cause}
 use Rattle.srm_net.specs.Keys.{key_cmp}
 use Rattle.srm_net.specs.declared.key.Key.{Key}
 use Rattle.srm_net.proofs.TotalOrders.{key_total}
+use Rattle.srm_member.specs.Record.{MemberState}
+use Rattle.srm_cell.proofs.Rising.{SoundHeld}
 
 -- ---- an own run ends
 
@@ -49,9 +49,9 @@ module _ (leave : Option ℕ) (till m : ℕ) where
       weak None h = tt
       weak (Some e) h = h.0
 
-  one_tick : (t : ℕ) → t < till → (c : PlainCell) → IsTidy c → SoundRecord c.holds → Stays leave c → Above (FromTick t) m c
-      → ((b : PlainCell) → IsTidy b → SoundRecord b.holds → Stays leave b → Above (FromTick (suc t)) m b → Ended b)
-      → ((b : PlainCell) → pending_at t b < pending_at t c → IsTidy b → SoundRecord b.holds → Stays leave b → Above (FromTick t) m b
+  one_tick : (t : ℕ) → t < till → (c : PlainCell) → IsTidy c → SoundHeld c.holds → Stays leave c → Above (FromTick t) m c
+      → ((b : PlainCell) → IsTidy b → SoundHeld b.holds → Stays leave b → Above (FromTick (suc t)) m b → Ended b)
+      → ((b : PlainCell) → pending_at t b < pending_at t c → IsTidy b → SoundHeld b.holds → Stays leave b → Above (FromTick t) m b
       → Ended b)
       → (o : Option Event) → next_event m c ≡ o → Ended c
   unfolding own_step
@@ -72,7 +72,7 @@ module _ (leave : Option ℕ) (till m : ℕ) where
               | Done d ↦ λ x. ended_next c d (own ∙ x) (again d.cell
                   (subst (λ u. pending_at u d.cell < pending_at u c) now (fewer_pending c e d sound taken x))
                   (subst (OnStep (λ d. IsTidy d.cell)) x (tidy_step e rest_tidy))
-                  (subst (OnStep (λ d. SoundRecord d.cell.holds)) x (sound_step e (rest_sound c e taken sound)))
+                  (subst (OnStep (λ d. SoundHeld d.cell.holds)) x (sound_step e (rest_sound c e taken sound)))
                   (stays_step leave m c e d tidy stays h x)
                   (subst (OnStep (λ d. Above (FromTick t) m d.cell)) x
                   (step_above (FromTick t) m e.key.time (λ k l. omega arith) e refl facts.1)))
@@ -85,21 +85,21 @@ module _ (leave : Option ℕ) (till m : ℕ) where
             (λ k n. let le = not_before_time e.key k n in omega arith) m c (above_least e.key m c tidy least))
       ] refl
 
-  at_tick : (t : ℕ) → t < till → ((b : PlainCell) → IsTidy b → SoundRecord b.holds → Stays leave b → Above (FromTick (suc t)) m b → Ended b)
-      → (j : ℕ) (c : PlainCell) → pending_at t c ≤ j → IsTidy c → SoundRecord c.holds → Stays leave c → Above (FromTick t) m c → Ended c
+  at_tick : (t : ℕ) → t < till → ((b : PlainCell) → IsTidy b → SoundHeld b.holds → Stays leave b → Above (FromTick (suc t)) m b → Ended b)
+      → (j : ℕ) (c : PlainCell) → pending_at t c ≤ j → IsTidy c → SoundHeld c.holds → Stays leave c → Above (FromTick t) m c → Ended c
   at_tick t lt later zero c le tidy sound stays above = one_tick t lt c tidy sound stays above later
       (λ b less bt bs bl ba. absurd (omega arith)) (next_event m c) refl
   at_tick t lt later (suc j) c le tidy sound stays above = one_tick t lt c tidy sound stays above later
       (λ b less bt bs bl ba. at_tick t lt later j b (omega arith) bt bs bl ba) (next_event m c) refl
 
-  ended_from : (k t : ℕ) → t + k ≡ till → (c : PlainCell) → IsTidy c → SoundRecord c.holds → Stays leave c
+  ended_from : (k t : ℕ) → t + k ≡ till → (c : PlainCell) → IsTidy c → SoundHeld c.holds → Stays leave c
       → Above (FromTick t) m c → Ended c
   ended_from zero t e c tidy sound stays above = ended_now c
       (inl (past_end c (above_weaker (FromTick t) (FromTick till) (λ k h. omega arith) m c above)))
   ended_from (suc k) t e c tidy sound stays above = at_tick t (omega arith)
       (λ b bt bs bl ba. ended_from k (suc t) (omega arith) b bt bs bl ba) (pending_at t c) c (le_refl _) tidy sound stays above
 
-  pub own_run_ends : (c : PlainCell) → IsTidy c → SoundRecord c.holds → Stays leave c → Ended c
+  pub own_run_ends : (c : PlainCell) → IsTidy c → SoundHeld c.holds → Stays leave c → Ended c
   own_run_ends c tidy sound stays = ended_from till 0 (omega arith) c tidy sound stays (from_zero m c)
 
 -- ---- a listener sends nothing
@@ -107,7 +107,7 @@ module _ (leave : Option ℕ) (till m : ℕ) where
 abbrev pub SentNothing : Stepped → Type 0
 SentNothing d = (d.row.sent ≡ None) × Silent d.cell.holds
 
-silent_handle : (e : Event) (holds : Record) (cause : Option Cause) → e.rest.holds ≡ holds → Silent holds
+silent_handle : (e : Event) (holds : Option MemberState) (cause : Option Cause) → e.rest.holds ≡ holds → Silent holds
     → OnStep SentNothing (handle e holds cause)
 unfolding handle
 silent_handle e holds cause q h = grind (arith, as_listener)

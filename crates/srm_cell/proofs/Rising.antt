@@ -9,13 +9,21 @@ use Rattle.srm_cell.specs.declared.flight.Flight.{Flight}
 use Rattle.srm_member.proofs.AllIn.{AllIn, AllIn-place}
 use Rattle.srm_member.proofs.Bounds.{kept_react}
 use Rattle.srm_member.specs.React.{Reaction, react}
-use Rattle.srm_member.specs.Record.{Active, Gone, Record, timers, timers_of}
+use Rattle.srm_member.specs.Record.{timers_of}
 use Rattle.srm_member.specs.declared.cause.Cause.{Cause}
 use Rattle.srm_member.specs.declared.due.Due.{Due}
 use Rattle.srm_net.specs.declared.key.Key.{Key}
 use Rattle.srm_net.specs.declared.packet.Body.{Body}
 use Rattle.srm_net.specs.declared.packet.Packet.{Packet}
 use Rattle.srm_scenario.specs.declared.mark.Mark.{Mark}
+use Rattle.srm_member.specs.Record.{MemberState}
+use Rattle.srm_cell.specs.Cells.{timers_in}
+use Rattle.srm_member.proofs.FewerTimers.{IsSound}
+
+-- what a member knows is sound, unless it is gone
+abbrev pub SoundHeld : Option MemberState → Type 0
+SoundHeld (Some m) = IsSound m
+SoundHeld None = Unit {0}
 
 abbrev pub OnEvent : (Event → Type 0) → Option Event → Type 0
 OnEvent Q None = Unit {0}
@@ -45,7 +53,7 @@ module _ (P : Key → Type 0) (m : ℕ) where
   pub record Above (c : PlainCell) : Type 0 where
     pub flights : AllIn (λ f. P (arrival_key m f)) c.inbox
     pub marks : AllIn (λ k. P (mark_key m k)) c.script
-    pub dues : AllIn (λ d. P (timer_key m d)) (timers c.holds)
+    pub dues : AllIn (λ d. P (timer_key m d)) (timers_in c.holds)
 
   abbrev pub IsAbove : Event → Type 0
   IsAbove e = P e.key × Above e.rest
@@ -66,8 +74,8 @@ module _ (P : Key → Type 0) (m : ℕ) where
   pub next_above : (c : PlainCell) → Above c → OnEvent IsAbove (next_event m c)
   next_above c a = subst (OnEvent IsAbove) (sym (next_event_is m c))
       (earlier_on IsAbove (first_arrival m c c.inbox) _ (arrivals_above c c.inbox a.flights a)
-      (earlier_on IsAbove (first_mark m c c.script) (first_timer m c (timers c.holds)) (marks_above c c.script a.marks a)
-      (timers_above c (timers c.holds) a.dues a)))
+      (earlier_on IsAbove (first_mark m c c.script) (first_timer m c (timers_in c.holds)) (marks_above c c.script a.marks a)
+      (timers_above c (timers_in c.holds) a.dues a)))
 
   pub hear_at_above : (p : Packet) (o : Option ℕ) (c : PlainCell) →
       ((at : ℕ) → o ≡ Some at → P (arrival_key m (record { arrival = at; packet = p }))) → Above c → Above (hear_at p o c)
@@ -79,15 +87,15 @@ module _ (P : Key → Type 0) (m : ℕ) where
         → OnStep (λ d. Above d.cell) (sending_step e r body)
     sending_above e r body a h = grind arith
 
-    handle_above : (e : Event) (holds : Record) (cause : Option Cause) → e.key.time ≡ t → Above e.rest
-        → AllIn (λ d. P (timer_key m d)) (timers holds) → OnStep (λ d. Above d.cell) (handle e holds cause)
+    handle_above : (e : Event) (holds : Option MemberState) (cause : Option Cause) → e.key.time ≡ t → Above e.rest
+        → AllIn (λ d. P (timer_key m d)) (timers_in holds) → OnStep (λ d. Above d.cell) (handle e holds cause)
     unfolding handle
-    handle_above e (Active k) (Some cause) et a h =
+    handle_above e (Some k) (Some cause) et a h =
         let r = react k e.key.time cause in
         sending_above e r r.answer.body a (kept_react (λ d. P (timer_key m d)) e.key.time
         (λ d lt. later (timer_key m d) (subst (λ x. x < d.time) et lt)) k cause h)
-    handle_above e (Active k) None et a h = record { flights = a.flights; marks = a.marks; dues = tt }
-    handle_above e (Gone f) cause et a h = tt
+    handle_above e (Some k) None et a h = record { flights = a.flights; marks = a.marks; dues = tt }
+    handle_above e None cause et a h = tt
 
     pub step_above : (e : Event) → e.key.time ≡ t → Above e.rest → OnStep (λ d. Above d.cell) (step_at (Some e))
     step_above e et a = handle_above e e.rest.holds e.cause et a a.dues
@@ -101,7 +109,7 @@ SentAt t (Some p) = p.sent ≡ t
 abbrev pub RowOf : Key → Stepped → Type 0
 RowOf k d = (d.row.key ≡ k) × SentAt k.time d.row.sent
 
-row_handle : (e : Event) (holds : Record) (cause : Option Cause) → OnStep (RowOf e.key) (handle e holds cause)
+row_handle : (e : Event) (holds : Option MemberState) (cause : Option Cause) → OnStep (RowOf e.key) (handle e holds cause)
 unfolding handle
 row_handle e holds cause = grind arith
 

@@ -11,114 +11,134 @@ use Rattle.srm_member.specs.declared.fault.MemberFault.TheVariants as member
 use Rattle.srm_member.specs.Record.{Record, Active, Gone}
 use Rattle.srm_member.specs.React.{Reaction}
 use Rattle.srm_member.specs.Reacts.{Reacts, Finishes}
-use Rattle.srm_cell.specs.Cells.{Event, Full, Spent, Done, handle, sending_step, row_of, packet_of, parting}
-use Rattle.srm_cell.specs.Views.{IsGone, HasWork, HoldsRecord, record_in}
+use Rattle.srm_cell.specs.Cells.{PlainCell, Event, Full, Spent, Done, handle, sending_step, row_of, packet_of, parting, known_of}
+use Rattle.srm_cell.specs.Views.{HasWork, known_in}
 use Rattle.srm_net.specs.Limits.{most_sent}
 
 -- a member that is gone has no answer
-pub gone_has_none : (e : Event) (h : Record) (c : Option Cause) → IsGone h → handle e h c ≡ Spent
+gone_has_none : (e : Event) (c : Option Cause) → handle e None c ≡ Spent
 unfolding handle
-gone_has_none e (Active m) c g = absurd g
-gone_has_none e (Gone f) c g = refl
+gone_has_none e c = refl
 
-pub spent_is_gone : (r s : Record) (at : ℕ) (cause : Cause) → Reacts r at cause (Err member.Spent) s → IsGone r
-spent_is_gone (Active m) s at cause h = h
-spent_is_gone (Gone f) s at cause h = tt
+spent_is_gone : (r s : Record) (at : ℕ) (cause : Cause) → Reacts r at cause (Err member.Spent) s → known_of r ≡ None
+spent_is_gone (Active m) s at cause h = absurd h
+spent_is_gone (Gone f) s at cause h = refl
 
-pub ended_is_gone : (r s : Record) → Finishes r (Err member.Spent) s → IsGone r
-ended_is_gone (Active m) s h = h
-ended_is_gone (Gone f) s h = tt
+ended_is_gone : (r s : Record) → Finishes r (Err member.Spent) s → known_of r ≡ None
+ended_is_gone (Active m) s h = absurd h
+ended_is_gone (Gone f) s h = refl
 
--- what is known where a member answered
-module _ (e : Event) (key : Key) (cause : Cause) (same : key ≡ e.key) (caused : e.cause ≡ Some cause) where
-  answered : (r s : Record) (a : React) → Reacts r key.time cause (Ok a) s
-      → (o : Option Body) → a.body ≡ o → (x : Reaction) × (x.answer ≡ a) × (s ≡ Active x.state) × (handle e r e.cause ≡ sending_step e x o)
-  unfolding handle
-  answered r s a h o b = grind arith
+-- what is known where a box was asked, or none is there
+module _ {B : Type 0} (f : B → Record) (o : Option B) where
+  pub no_box : (e : Event) (c : Option Cause) → None ≡ o → handle e (known_in f o) c ≡ Spent
+  no_box e c q = ap (λ x. handle e (known_in f x) c) (sym q) ∙ gone_has_none e c
 
-  -- and sends nothing
-  pub said_nothing : (r s : Record) (a : React) → e.rest.holds ≡ r → Reacts r key.time cause (Ok a) s → a.body ≡ None
-      → handle e e.rest.holds e.cause ≡ Done (record { cell = record e.rest { holds = s }; row = row_of e a None })
-  said_nothing r s a holds h b =
-      let k = answered r s a h None b in
-      ap (λ q. handle e q e.cause) holds ∙ k.3 ∙
-      (λ i. Done (record { cell = record e.rest { holds = sym k.2 i }; row = row_of e (k.1 i) None }))
+  module _ (b : B) (q : Some b ≡ o) where
+    pub box : known_in f o ≡ known_of (f b)
+    box = ap (known_in f) (sym q)
 
-  -- and sends a packet
-  pub said : (r s : Record) (a : React) (body : Body) → e.rest.holds ≡ r → Reacts r key.time cause (Ok a) s → a.body ≡ Some body
-      → e.rest.sent < most_sent
-      → handle e e.rest.holds e.cause ≡ Done
-      (record { cell = record e.rest { holds = s; sent = e.rest.sent + 1 }; row = row_of e a (Some (packet_of e body)) })
-  said r s a body holds h b lt =
-      let k = answered r s a h (Some body) b in
-      let yes : nat_lt e.rest.sent most_sent ≡ true = lt-ltb _ _ lt in
-      ap (λ q. handle e q e.cause) holds ∙ k.3
-      ∙ ap (λ t. cond t (Done (record {
-        cell = record e.rest { holds = Active k.0.state; sent = e.rest.sent + 1 };
-        row =
-            row_of e k.0.answer (Some (packet_of e body));
-      })) Full) yes
-      ∙ (λ i. Done (record {
-        cell = record e.rest { holds = sym k.2 i; sent = e.rest.sent + 1 };
-        row =
-            row_of e (k.1 i) (Some (packet_of e body));
-      }))
+    -- where there is a box the member has not left
+    pub has_box : o ≡ None → ⊥
+    has_box none = let z : Some b ≡ None = q ∙ none in cc
 
-  -- where the count is used up there is no packet
-  pub not_said : (r s : Record) (a : React) (body : Body) → e.rest.holds ≡ r → Reacts r key.time cause (Ok a) s → a.body ≡ Some body
-      → most_sent ≤ e.rest.sent
-      → handle e e.rest.holds e.cause ≡ Full
-  not_said r s a body holds h b le =
-      let k = answered r s a h (Some body) b in
-      let no : nat_lt e.rest.sent most_sent ≡ false = le-ltb _ _ le in
-      ap (λ q. handle e q e.cause) holds ∙ k.3
-      ∙ ap (λ t. cond t (Done (record {
-        cell = record e.rest { holds = Active k.0.state; sent = e.rest.sent + 1 };
-        row =
-            row_of e k.0.answer (Some (packet_of e body));
-      })) Full) no
+    no_answer : (e : Event) (c : Option Cause) → known_of (f b) ≡ None → handle e (known_in f o) c ≡ Spent
+    no_answer e c none = ap (λ x. handle e x c) (box ∙ none) ∙ gone_has_none e c
 
--- ---- where memory was refused there was something to do
+    -- the member leaves
+    module _ (key : Key) (rest : PlainCell) where
+      abbrev leave : Event
+      leave = record { key = key; cause = None; rest = rest }
 
-pub wanting : (e : Event) (cause : Cause) (at : ℕ) (r s : Record) → e.rest.holds ≡ r → e.cause ≡ Some cause
-    → Reacts r at cause (Err member.NoMemory) s → HasWork (handle e e.rest.holds e.cause)
-unfolding handle
-wanting e cause at r s holds caused h = grind arith
+      pub cannot_leave : (s : Record) → Finishes (f b) (Err member.Spent) s → handle leave (known_in f o) None ≡ Spent
+      cannot_leave s h = no_answer leave None (ended_is_gone (f b) s h)
 
-pub working : (e : Event) (cause : Cause) (at : ℕ) (r s : Record) (a : React) → e.rest.holds ≡ r → e.cause ≡ Some cause
-    → Reacts r at cause (Ok a) s → HasWork (handle e e.rest.holds e.cause)
-unfolding handle
-working e cause at r s a holds caused h = grind arith
+      leaves_so : (r s : Record) (x : Exit) → Finishes r (Ok x) s → handle leave (known_of r) None
+          ≡ Done (record { cell = record rest { holds = None; exit = Some x }; row = row_of leave parting None })
+      unfolding handle
+      leaves_so (Active m) s x h =
+          ap (λ y. Done (record { cell = record rest { holds = None; exit = Some y }; row = row_of leave parting None })) (sym h.0)
+      leaves_so (Gone g) s x h = absurd h
 
-pub wanting_end : (e : Event) (r s : Record) → e.rest.holds ≡ r → e.cause ≡ None → Finishes r (Err member.NoMemory) s
-    → HasWork (handle e e.rest.holds e.cause)
-unfolding handle
-wanting_end e (Gone f) s holds caused h = absurd h
-wanting_end e (Active m) s holds caused h = subst HasWork (sym (ap (λ q. handle e q e.cause) holds ∙ ap (handle e (Active m)) caused)) tt
+      pub left : (s : Record) (x : Exit) → Finishes (f b) (Ok x) s → handle leave (known_in f o) None
+          ≡ Done (record { cell = record rest { holds = None; exit = Some x }; row = row_of leave parting None })
+      left s x h = ap (λ k. handle leave k None) box ∙ leaves_so (f b) s x h
 
--- at a leave
-pub left : (e : Event) (r s : Record) (x : Exit) → e.rest.holds ≡ r → e.cause ≡ None → Finishes r (Ok x) s
-    → IsGone s × (handle e e.rest.holds e.cause ≡ Done
-    (record { cell = record e.rest { holds = s; exit = Some x }; row = row_of e parting None }))
-unfolding handle
-left e r s x holds caused h = grind arith
+      wants_so : (r s : Record) → Finishes r (Err member.NoMemory) s → HasWork (handle leave (known_of r) None)
+      unfolding handle
+      wants_so (Active m) s h = tt
+      wants_so (Gone g) s h = absurd h
 
--- ---- the box
+      pub wanting_end : (s : Record) → Finishes (f b) (Err member.NoMemory) s → HasWork (handle leave (known_in f o) None)
+      wanting_end s h = subst (λ k. HasWork (handle leave k None)) (sym box) (wants_so (f b) s h)
 
-module _ {B : Type 0} (f : B → Record) (o : Option B) (h : Record) (g : HoldsRecord (record_in f o) h) where
-  pub held : (b : B) → Some b ≡ o → h ≡ f b
-  held b e = subst (λ q. HoldsRecord (record_in f q) h) (sym e) g
+    -- the member answers
+    module _ (key : Key) (cause : Cause) (rest : PlainCell) where
+      abbrev asked : Event
+      asked = record { key = key; cause = Some cause; rest = rest }
 
-  pub empty : None ≡ o → IsGone h
-  empty e = subst (λ q. HoldsRecord (record_in f q) h) (sym e) g
+      pub cannot_say : (s : Record) → Reacts (f b) key.time cause (Err member.Spent) s
+          → handle asked (known_in f o) (Some cause) ≡ Spent
+      cannot_say s h = no_answer asked (Some cause) (spent_is_gone (f b) s key.time cause h)
 
-pub now_empty : {B : Type 0} (f : B → Record) (o : Option B) (h : Record) → o ≡ None → IsGone h → HoldsRecord (record_in f o) h
-now_empty f o h e g = subst (λ q. HoldsRecord (record_in f q) h) (sym e) g
+      wants_to : (r s : Record) → Reacts r key.time cause (Err member.NoMemory) s → HasWork (handle asked (known_of r) (Some cause))
+      unfolding handle
+      wants_to r s h = grind arith
 
--- where there is a box there is a record
-pub holds_one : {B : Type 0} (f : B → Record) (o : Option B) (b : B) → Some b ≡ o → record_in f o ≡ None → ⊥
-holds_one f o b e none = let q : Some (f b) ≡ None = ap (record_in f) e ∙ none in cc
+      pub wanting : (s : Record) → Reacts (f b) key.time cause (Err member.NoMemory) s
+          → HasWork (handle asked (known_in f o) (Some cause))
+      wanting s h = subst (λ k. HasWork (handle asked k (Some cause))) (sym box) (wants_to (f b) s h)
 
--- a cell without a box holds no record
-pub no_record : {B : Type 0} (f : B → Record) (o : Option B) → o ≡ None → record_in f o ≡ None
-no_record f o e = ap (record_in f) e
+      works : (r s : Record) (a : React) → Reacts r key.time cause (Ok a) s → HasWork (handle asked (known_of r) (Some cause))
+      unfolding handle
+      works r s a h = grind arith
+
+      pub working : (s : Record) (a : React) → Reacts (f b) key.time cause (Ok a) s
+          → HasWork (handle asked (known_in f o) (Some cause))
+      working s a h = subst (λ k. HasWork (handle asked k (Some cause))) (sym box) (works (f b) s a h)
+
+      answered : (r s : Record) (a : React) → Reacts r key.time cause (Ok a) s → (y : Option Body) → a.body ≡ y
+          → (x : Reaction) × (x.answer ≡ a) × (known_of s ≡ Some x.state)
+          × (handle asked (known_of r) (Some cause) ≡ sending_step asked x y)
+      unfolding handle
+      answered r s a h y q = grind arith
+
+      -- and sends nothing
+      pub said_nothing : (s : Record) (a : React) → Reacts (f b) key.time cause (Ok a) s → a.body ≡ None
+          → handle asked (known_in f o) (Some cause)
+          ≡ Done (record { cell = record rest { holds = known_of s }; row = row_of asked a None })
+      said_nothing s a h none =
+          let k = answered (f b) s a h None none in
+          ap (λ x. handle asked x (Some cause)) box ∙ k.3
+          ∙ (λ i. Done (record { cell = record rest { holds = sym k.2 i }; row = row_of asked (k.1 i) None }))
+
+      -- and sends a packet
+      pub said : (s : Record) (a : React) (body : Body) → Reacts (f b) key.time cause (Ok a) s → a.body ≡ Some body
+          → rest.sent < most_sent → handle asked (known_in f o) (Some cause)
+          ≡ Done (record {
+            cell = record rest { holds = known_of s; sent = rest.sent + 1 };
+            row = row_of asked a (Some (packet_of asked body));
+          })
+      said s a body h some lt =
+          let k = answered (f b) s a h (Some body) some in
+          let yes : nat_lt rest.sent most_sent ≡ true = lt-ltb _ _ lt in
+          ap (λ x. handle asked x (Some cause)) box ∙ k.3
+          ∙ ap (λ t. cond t (Done (record {
+            cell = record rest { holds = Some k.0.state; sent = rest.sent + 1 };
+            row = row_of asked k.0.answer (Some (packet_of asked body));
+          })) Full) yes
+          ∙ (λ i. Done (record {
+            cell = record rest { holds = sym k.2 i; sent = rest.sent + 1 };
+            row = row_of asked (k.1 i) (Some (packet_of asked body));
+          }))
+
+      -- where the count is used up there is no packet
+      pub not_said : (s : Record) (a : React) (body : Body) → Reacts (f b) key.time cause (Ok a) s → a.body ≡ Some body
+          → most_sent ≤ rest.sent → handle asked (known_in f o) (Some cause) ≡ Full
+      not_said s a body h some le =
+          let k = answered (f b) s a h (Some body) some in
+          let no : nat_lt rest.sent most_sent ≡ false = le-ltb _ _ le in
+          ap (λ x. handle asked x (Some cause)) box ∙ k.3
+          ∙ ap (λ t. cond t (Done (record {
+            cell = record rest { holds = Some k.0.state; sent = rest.sent + 1 };
+            row = row_of asked k.0.answer (Some (packet_of asked body));
+          })) Full) no

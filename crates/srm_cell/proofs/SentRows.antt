@@ -12,13 +12,15 @@ use Rattle.srm_cell.specs.Cells.{step_at}
 use Rattle.srm_cell.specs.OwnRuns.{own_rows}
 use Rattle.srm_cell.specs.Crossings.{packets_of, joined}
 use Rattle.srm_cell.specs.Totalled.{IsSentBelow}
-use Rattle.srm_cell.specs.Jobs.{OwnCell, AreMembers, AreCells, RanEach}
+use Rattle.srm_cell.specs.Jobs.{AreMembers, RanEach, own_cells}
+use Rattle.srm_cell.specs.Views.{plain_cell}
 use Rattle.srm_cell.proofs.Clear.{RestOf, next_rest}
 use Rattle.srm_cell.proofs.CellSteps.{SentBy, own_step_is}
 use Rattle.srm_cell.proofs.OwnRunLemmas.{rows_by, rows_first, rows_none}
 use Rattle.srm_cell.proofs.RowPackets.{packets_joined}
 use Rattle.srm_cell.proofs.Rising.{OnEvent, OnStep, before_on, SentAt, RowOf, row_step}
 use Rattle.srm_net.specs.Limits.{end_of_time, most_sent}
+use Rattle.srm_member.specs.Record.{MemberState}
 
 -- ---- how many
 
@@ -30,7 +32,7 @@ Counts before (Some p) after = (before < most_sent) × (after ≡ suc before)
 abbrev CountsFrom : ℕ → StepOutcome Stepped → Type 0
 CountsFrom n = OnStep (λ d. Counts n d.row.sent d.cell.sent)
 
-counts_handle : (e : Event) (holds : Record) (cause : Option Cause) → CountsFrom e.rest.sent (handle e holds cause)
+counts_handle : (e : Event) (holds : Option MemberState) (cause : Option Cause) → CountsFrom e.rest.sent (handle e holds cause)
 unfolding handle
 counts_handle e holds cause = grind arith
 
@@ -92,46 +94,31 @@ module _ (till m : ℕ) where
 
 -- ---- of several cells
 
-module _ {M : Type 0} where
-  pub rows_few : (f : M → Record) (till : ℕ) (qs : List OwnCell) (rows : List (List Row)) (cs : List (Cell M))
-      → RanEach f till qs rows cs → length (packets_of (joined rows)) ≤ length cs * most_sent
-  rows_few f till [] [] [] h = omega arith
-  rows_few f till [] [] (c ∷ cs) h = absurd h
-  rows_few f till [] (r ∷ rs) cs h = absurd h
-  rows_few f till (q ∷ qs) [] cs h = absurd h
-  rows_few f till (q ∷ qs) (r ∷ rs) [] h = absurd h
-  rows_few f till (q ∷ qs) (r ∷ rs) (c ∷ cs) h =
-      let run = h.0.1 in
-      let one : length (packets_of r) ≤ most_sent - q.cell.sent = subst (λ xs. length (packets_of xs) ≤ most_sent - q.cell.sent)
-      (sym run.rows_are) (few_left till q.member run.steps q.cell) in
-      let more = rows_few f till qs rs cs h.1 in
+module _ {M : Type 0} (f : M → Record) (till : ℕ) where
+  pub rows_few : (cs : List (Cell M)) (rows : List (List Row)) (ds : List (Cell M))
+      → RanEach f till cs rows ds → length (packets_of (joined rows)) ≤ length cs * most_sent
+  rows_few [] [] [] h = omega arith
+  rows_few [] [] (d ∷ ds) h = absurd h
+  rows_few [] (r ∷ rs) ds h = absurd h
+  rows_few (c ∷ cs) [] ds h = absurd h
+  rows_few (c ∷ cs) (r ∷ rs) [] h = absurd h
+  rows_few (c ∷ cs) (r ∷ rs) (d ∷ ds) h =
+      let run = h.0.run in
+      let one : length (packets_of r) ≤ most_sent - c.sent = subst (λ xs. length (packets_of xs) ≤ most_sent - c.sent)
+      (sym run.rows_are) (few_left till c.number run.steps (plain_cell f c)) in
+      let more = rows_few cs rs ds h.1 in
       let e = ap length (packets_joined r rs) ∙ length-append (packets_of r) (packets_of (joined rs)) in
       omega (arith, one, more, e)
 
-  pub rows_below : (f : M → Record) (till k : ℕ) (qs : List OwnCell) (rows : List (List Row)) (cs : List (Cell M))
-      → till ≤ end_of_time → AreMembers k qs → RanEach f till qs rows cs → All (λ rs. All (λ r. IsSentBelow k r.sent) rs) rows
-  rows_below f till k [] [] [] le a h = All-nil (λ (rs : List Row). All (λ r. IsSentBelow k r.sent) rs)
-  rows_below f till k [] [] (c ∷ cs) le a h = absurd h
-  rows_below f till k [] (r ∷ rs) cs le a h = absurd h
-  rows_below f till k (q ∷ qs) [] cs le a h = absurd h
-  rows_below f till k (q ∷ qs) (r ∷ rs) [] le a h = absurd h
-  rows_below f till k (q ∷ qs) (r ∷ rs) (c ∷ cs) le a h =
-      let run = h.0.1 in
+  pub rows_below : (k : ℕ) (cs : List (Cell M)) (rows : List (List Row)) (ds : List (Cell M))
+      → till ≤ end_of_time → AreMembers k (own_cells f cs) → RanEach f till cs rows ds → All (λ rs. All (λ r. IsSentBelow k r.sent) rs) rows
+  rows_below k [] [] [] le a h = All-nil (λ (rs : List Row). All (λ r. IsSentBelow k r.sent) rs)
+  rows_below k [] [] (d ∷ ds) le a h = absurd h
+  rows_below k [] (r ∷ rs) ds le a h = absurd h
+  rows_below k (c ∷ cs) [] ds le a h = absurd h
+  rows_below k (c ∷ cs) (r ∷ rs) [] le a h = absurd h
+  rows_below k (c ∷ cs) (r ∷ rs) (d ∷ ds) le a h =
+      let run = h.0.run in
       All-cons (λ (rs : List Row). All (λ r. IsSentBelow k r.sent) rs) r rs
-      (subst (All (λ r. IsSentBelow k r.sent)) (sym run.rows_are) (own_below till q.member k run.steps q.cell a.0 le))
-      (rows_below f till k qs rs cs le a.1 h.1)
-
-  pub as_many : (f : M → Record) (till : ℕ) (qs : List OwnCell) (rows : List (List Row)) (cs : List (Cell M))
-      → RanEach f till qs rows cs → length cs ≡ length qs
-  as_many f till [] [] [] h = refl
-  as_many f till [] [] (c ∷ cs) h = absurd h
-  as_many f till [] (r ∷ rs) cs h = absurd h
-  as_many f till (q ∷ qs) [] cs h = absurd h
-  as_many f till (q ∷ qs) (r ∷ rs) [] h = absurd h
-  as_many f till (q ∷ qs) (r ∷ rs) (c ∷ cs) h = ap suc (as_many f till qs rs cs h.1)
-
-  pub as_many_seen : (f : M → Record) (cs : List (Cell M)) (qs : List OwnCell) → AreCells f cs qs → length cs ≡ length qs
-  as_many_seen f [] [] h = refl
-  as_many_seen f [] (q ∷ qs) h = absurd h
-  as_many_seen f (c ∷ cs) [] h = absurd h
-  as_many_seen f (c ∷ cs) (q ∷ qs) h = ap suc (as_many_seen f cs qs h.1)
+      (subst (All (λ r. IsSentBelow k r.sent)) (sym run.rows_are) (own_below till c.number k run.steps (plain_cell f c) a.0 le))
+      (rows_below k cs rs ds le a.1 h.1)

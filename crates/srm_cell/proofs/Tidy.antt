@@ -15,7 +15,6 @@ use Rattle.srm_cell.specs.declared.flight.Flight.{Flight}
 use Rattle.srm_member.proofs.AllIn.{AllIn}
 use Rattle.srm_member.proofs.OrderLemmas.{From, from_greater, from_not_greater, from_trans, not_greater}
 use Rattle.srm_member.proofs.OrderLemmas.{rises_place}
-use Rattle.srm_member.specs.Record.{Record, timers}
 use Rattle.srm_member.specs.declared.cause.Cause.{Cause}
 use Rattle.srm_member.specs.declared.due.Due.{Due}
 use Rattle.srm_net.specs.Keys.{rank_number, key_cmp}
@@ -27,6 +26,8 @@ use Rattle.srm_scenario.specs.Plain.{mark_cmp}
 use Rattle.srm_scenario.specs.declared.mark.Mark.{Mark}
 use Rattle.srm_net.proofs.Basics.{nat_cmp_self}
 use Rattle.srm_net.proofs.TotalOrders.{key_total}
+use Rattle.srm_member.specs.Record.{MemberState}
+use Rattle.srm_cell.specs.Cells.{timers_in}
 
 -- ---- keys of flights and marks of one member
 
@@ -102,15 +103,15 @@ all_timers k m c (d ∷ ds) h = let p = least_earlier k (Some _) (first_timer m 
 -- where a cell's least event is not before k, nothing that it has pending is
 pub above_least : (k : Key) (m : ℕ) (c : PlainCell) → IsTidy c → Least k (next_event m c) → Above (NotBefore k) m c
 above_least k m c t least =
-    let h : Least k (earlier (first_arrival m c c.inbox) (earlier (first_mark m c c.script) (first_timer m c (timers c.holds)))) =
+    let h : Least k (earlier (first_arrival m c c.inbox) (earlier (first_mark m c c.script) (first_timer m c (timers_in c.holds)))) =
     subst (Least k) (next_event_is m c) least in
     let p = least_earlier k (first_arrival m c c.inbox) _ h in
-    let q = least_earlier k (first_mark m c c.script) (first_timer m c (timers c.holds)) p.1 in
+    let q = least_earlier k (first_mark m c c.script) (first_timer m c (timers_in c.holds)) p.1 in
     record {
       flights = all_flights k m c c.inbox p.0 t.flights;
       marks = all_marks k m c c.script q.0 t.marks;
       dues =
-          all_timers k m c (timers c.holds) q.1;
+          all_timers k m c (timers_in c.holds) q.1;
     }
 
 -- ---- cells stay tidy
@@ -133,10 +134,11 @@ timer_tidy m c (d ∷ ds) t = earlier_on RestTidy (Some _) (first_timer m c ds) 
 pub next_tidy : (m : ℕ) (c : PlainCell) → IsTidy c → OnEvent RestTidy (next_event m c)
 next_tidy m c t = subst (OnEvent RestTidy) (sym (next_event_is m c))
     (earlier_on RestTidy (first_arrival m c c.inbox) _ (arrival_tidy m c c.inbox t t.flights)
-    (earlier_on RestTidy (first_mark m c c.script) (first_timer m c (timers c.holds)) (mark_tidy m c c.script t t.marks)
-    (timer_tidy m c (timers c.holds) t)))
+    (earlier_on RestTidy (first_mark m c c.script) (first_timer m c (timers_in c.holds)) (mark_tidy m c c.script t t.marks)
+    (timer_tidy m c (timers_in c.holds) t)))
 
-tidy_handle : (e : Event) (holds : Record) (cause : Option Cause) → IsTidy e.rest → OnStep (λ d. IsTidy d.cell) (handle e holds cause)
+tidy_handle : (e : Event) (holds : Option MemberState) (cause : Option Cause) → IsTidy e.rest
+    → OnStep (λ d. IsTidy d.cell) (handle e holds cause)
 unfolding handle
 tidy_handle e holds cause t = grind arith
 

@@ -23,7 +23,8 @@ use Rattle.srm_member.specs.declared.row.Row.{Row}
 use Rattle.srm_member.specs.declared.due.Due.{Due}
 use Rattle.srm_member.specs.declared.exit.Exit.{Exit}
 use Rattle.srm_member.specs.declared.react.React.{React}
-use Rattle.srm_member.specs.Record.{Record, Active, Gone, opening_record, timers, due_of, exit_of, count_if, timers_at}
+use Rattle.srm_member.specs.Record.{Record, Active, Gone, MemberState, opening_record, timers_of, earliest, exit_of}
+use Rattle.srm_member.specs.Record.{count_if}
 use Rattle.srm_net.specs.Roles.{is_listener}
 use Rattle.srm_member.specs.React.{Reaction, react}
 use Rattle.srm_cell.specs.declared.flight.Flight.{Flight}
@@ -31,20 +32,45 @@ use Rattle.srm_cell.specs.Setting.{Traffic, Setting, arrival_of, cause_of_mark}
 use Rattle.srm_cell.specs.Flights.{flight_cmp}
 use Rattle.srm_net.specs.Limits.{most_sent}
 
+-- ---- what a member knows
+
+-- what the member of a record knows: nothing once it is gone
+abbrev pub known_of : Record → Option MemberState
+known_of (Active m) = Some m
+known_of (Gone f) = None
+
+-- its timers: none once it is gone
+abbrev pub timers_in : Option MemberState → List Due
+timers_in None = []
+timers_in (Some m) = timers_of m
+
+-- its next timer
+abbrev pub due_in : Option MemberState → Option Due
+due_in o = earliest (timers_in o)
+
+-- how many of its timers expire at a tick
+abbrev pub expiring_at : ℕ → Option MemberState → ℕ
+expiring_at t o = count_if (λ d. d.time == t) (timers_in o)
+
 -- ---- cells
 
--- a member's record, how many packets it sent, the flights to it in order, the rest of its script, and its exit once it
--- left
+-- what a member knows, or nothing once it is gone; how many packets it sent; the flights to it, in order; the rest of
+-- its script; and its exit once it left. The part of a member that never changes is the setting's
 pub record PlainCell : Type 0 where
-  pub holds : Record
+  pub holds : Option MemberState
   pub sent : ℕ
   pub inbox : List Flight
   pub script : List Mark
   pub exit : Option Exit
 
+-- a cell, and whose it is
+pub record OwnCell : Type 0 where
+  pub member : ℕ
+  pub cell : PlainCell
+
 -- a cell at the beginning, with a record, a script and a packet count
 abbrev pub new_cell : Record → List Mark → ℕ → PlainCell
-new_cell r script sent = record { holds = r; sent = sent; inbox = []; script = script; exit = None }
+new_cell r script sent = record { holds = known_of r; sent = sent; inbox = []; script = script; exit = None }
 
 -- member m's cell at the beginning of a run
 abbrev pub opening_cell : Setting → ℕ → PlainCell
@@ -89,7 +115,7 @@ timer_key m d =
 
 -- the keys of all that member m's cell has pending
 abbrev pub pending_keys : ℕ → PlainCell → List Key
-pending_keys m c = map (arrival_key m) c.inbox ++ (map (mark_key m) c.script ++ map (timer_key m) (timers c.holds))
+pending_keys m c = map (arrival_key m) c.inbox ++ (map (mark_key m) c.script ++ map (timer_key m) (timers_in c.holds))
 
 -- the key is none of the list
 abbrev pub DiffersFrom : Key → List Key → Type 0
@@ -136,7 +162,7 @@ next_timer m c (Some d) = Some (record {
 -- a cell's least own pending event
 unfoldable pub next_event : ℕ → PlainCell → Option Event
 next_event m c =
-    earlier (first_arrival m c c.inbox) (earlier (first_mark m c c.script) (next_timer m c (due_of c.holds)))
+    earlier (first_arrival m c c.inbox) (earlier (first_mark m c c.script) (next_timer m c (due_in c.holds)))
 
 -- the time of an event, if there is one
 abbrev pub time_of : Option Event → Option ℕ
@@ -216,13 +242,13 @@ packet_of e body = record { id = record { sender = e.key.member; count = e.rest.
 -- an answer's body becomes a packet, for which the count must not be used up
 abbrev pub sending_step : Event → Reaction → Option Body → StepOutcome Stepped
 sending_step e r None = Done (record {
-  cell = record e.rest { holds = Active r.state };
+  cell = record e.rest { holds = Some r.state };
   row = row_of e r.answer None;
 })
 sending_step e r (Some body) =
     if nat_lt e.rest.sent most_sent
     then Done (record {
-      cell = record e.rest { holds = Active r.state; sent = e.rest.sent + 1 };
+      cell = record e.rest { holds = Some r.state; sent = e.rest.sent + 1 };
       row = row_of e r.answer (Some (packet_of e body));
     })
     else Full
@@ -232,13 +258,13 @@ abbrev pub parting : React
 parting = record { told = Parted; lost = []; body = None; adapted = None }
 
 -- the member handles the event. At its leave it ends; once it is gone it has no answer
-unfoldable pub handle : Event → Record → Option Cause → StepOutcome Stepped
-handle e (Active m) (Some cause) = let r = react m e.key.time cause in sending_step e r r.answer.body
-handle e (Active m) None = Done (record {
-  cell = record e.rest { holds = Gone m.fixed; exit = Some (exit_of m) };
+unfoldable pub handle : Event → Option MemberState → Option Cause → StepOutcome Stepped
+handle e (Some m) (Some cause) = let r = react m e.key.time cause in sending_step e r r.answer.body
+handle e (Some m) None = Done (record {
+  cell = record e.rest { holds = None; exit = Some (exit_of m) };
   row = row_of e parting None;
 })
-handle e (Gone f) cause = Spent
+handle e None cause = Spent
 
 -- what the cell makes of the event, if there is one
 abbrev pub step_at : Option Event → StepOutcome Stepped
@@ -249,10 +275,10 @@ step_at (Some e) = handle e e.rest.holds e.cause
 unfoldable pub own_step : ℕ → ℕ → PlainCell → StepOutcome Stepped
 own_step till m c = step_at (before till (next_event m c))
 
--- a record that sends nothing: a listener's, or that of a member that left
-abbrev pub Silent : Record → Type 0
-Silent (Active m) = is_listener m.fixed.role ≡ true
-Silent (Gone f) = Unit {0}
+-- what a member knows that sends nothing: a listener, or a member that left
+abbrev pub Silent : Option MemberState → Type 0
+Silent (Some m) = is_listener m.fixed.role ≡ true
+Silent None = Unit {0}
 
 -- ---- what is pending at a tick
 
@@ -262,4 +288,4 @@ untimed_at t c = count_if (λ f. f.arrival == t) c.inbox + count_if (λ k. k.at 
 
 -- how many events a cell has pending at a tick
 abbrev pub pending_at : ℕ → PlainCell → ℕ
-pending_at t c = untimed_at t c + timers_at t c.holds
+pending_at t c = untimed_at t c + expiring_at t c.holds

@@ -12,7 +12,7 @@ use Rattle.srm_cell.specs.declared.sent.Sent.{Sent}
 use Rattle.srm_cell.specs.Setting.{Traffic}
 use Rattle.srm_cell.specs.Flights.{BringsNone}
 use Rattle.srm_cell.specs.Cells.{PlainCell, hear}
-use Rattle.srm_cell.specs.Views.{IsCell}
+use Rattle.srm_cell.specs.Views.{IsSoundCell, Becomes, plain_cell}
 
 -- ---- what was sent
 
@@ -40,14 +40,14 @@ AreNewTo t m (p ∷ ps) c = BringsNone p.id c.inbox × AreNewTo t m ps (hear t p
 
 module _ {M : Type 0} where
   -- the cell may hear these packets: it is that of a member to which they are new, where f is what is seen of its box
-  abbrev pub MayHearAll : (M → Record) → Traffic → List Packet → Cell M → Type 0
-  MayHearAll f t ps c =
-      (m : ℕ) × (p : PlainCell) × IsCell f m c p × (m < t.members) × AreNewTo t m ps p
+  pub record MayHearAll (f : M → Record) (t : Traffic) (ps : List Packet) (c : Cell M) : Type 0 where
+    pub sound : IsSoundCell f c
+    pub member : c.number < t.members
+    pub new : AreNewTo t c.number ps (plain_cell f c)
 
-  -- the second is the first after it heard these packets, one after the other, of each member and plain cell that the
-  -- first is seen as
+  -- the second is the first after it heard these packets, one after the other
   abbrev pub HearsAll : (M → Record) → Traffic → List Packet → Cell M → Cell M → Type 0
-  HearsAll f t ps old new = (m : ℕ) (p : PlainCell) → IsCell f m old p → IsCell f m new (hear_all t m ps p)
+  HearsAll f t ps old new = Becomes f (λ p. hear_all t old.number ps p) old new
 
   -- so each of the cells
   abbrev pub AllMayHear : (M → Record) → Traffic → List Packet → List (Cell M) → Type 0

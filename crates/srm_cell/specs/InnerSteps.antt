@@ -1,5 +1,5 @@
--- What the parts of a step tell: of a cell that has a plain cell's parts, whatever it keeps as its next event.
-use Rattle.std.specs.Prelude.{◌≡◌, ℕ, Option, Some, Result}
+-- What the parts of a step tell, whatever the cell keeps as its next event.
+use Rattle.std.specs.Prelude.{◌≡◌, ℕ, Option, Some, Result, Ok, Err}
 use Rattle.srm_net.specs.declared.key.Key.{Key}
 use Rattle.srm_member.specs.declared.cause.Cause.{Cause}
 use Rattle.srm_member.specs.declared.row.Row.{Row}
@@ -8,25 +8,38 @@ use Rattle.srm_cell.specs.declared.cell.Cell.{Cell}
 use Rattle.srm_cell.specs.declared.fault.CellFault.{CellFault}
 use Rattle.srm_cell.specs.declared.pending.Source.{Source}
 use Rattle.srm_cell.specs.declared.pending.Pending.{Pending}
-use Rattle.srm_cell.specs.Cells.{PlainCell, Event, handle}
+use Rattle.srm_cell.specs.Cells.{PlainCell, Event, StepOutcome, Done, Stepped, handle}
 use Rattle.srm_cell.specs.Pending.{Stands, first_of}
-use Rattle.srm_cell.specs.Views.{HasParts, TellsOf}
+use Rattle.srm_cell.specs.Views.{plain_cell, known_in, NoneOnceLeft, Refuses}
 
 module _ {M : Type 0} where
-  -- of each plain cell whose parts the cell has, this stands for the event that is meant
+  -- this stands for the event that is meant
   abbrev pub StandsFor : (M → Record) → (ℕ → PlainCell → Option Event)
       → Cell M → Option Pending → Type 0
-  StandsFor f event c o = (m : ℕ) (p : PlainCell) → HasParts f m c p → Stands m p o (event m p)
+  StandsFor f event c o = Stands c.number (plain_cell f c) o (event c.number (plain_cell f c))
+
+  -- the member of the second is that of the first, and has no box once it has left, if so before
+  pub record StaysOne (old new : Cell M) : Type 0 where
+    pub number : new.number ≡ old.number
+    pub left : NoneOnceLeft old → NoneOnceLeft new
 
   -- the first event of a source is taken out of the cell, and this is its cause
-  abbrev pub TakesFirst : (M → Record) → Source → Cell M → Option Cause → Cell M → Type 0
-  TakesFirst f source old cause new =
-      (m : ℕ) (p : PlainCell) (e : Event) → HasParts f m old p → first_of source m p ≡ Some e
-      → HasParts f m new e.rest × (cause ≡ e.cause)
+  pub record TakesFirst (f : M → Record) (source : Source) (old : Cell M) (cause : Option Cause) (new : Cell M)
+      : Type 0 where
+    pub one : StaysOne old new
+    pub event : (e : Event) → first_of source old.number (plain_cell f old) ≡ Some e
+        → (plain_cell f new ≡ e.rest) × (cause ≡ e.cause)
 
-  -- what the member's answer tells, to an event with this key and cause that was taken out of the cell
+  -- the event with this key and cause, without which this is the cell
+  abbrev pub taken_event : (M → Record) → Key → Option Cause → Cell M → Event
+  taken_event f key cause c = record { key = key; cause = cause; rest = plain_cell f c }
+
+  -- what the member's answer to it tells
+  abbrev pub AnswersBy : (M → Record) → StepOutcome Stepped → Cell M → Result Row CellFault → Cell M → Type 0
+  AnswersBy f o old (Ok row) new = (o ≡ Done (record { cell = plain_cell f new; row = row })) × StaysOne old new
+  AnswersBy f o old (Err e) new = Refuses o e
+
   abbrev pub AnswersEvent : (M → Record) → Key → Option Cause
       → Cell M → Result Row CellFault → Cell M → Type 0
   AnswersEvent f key cause old result new =
-      (m : ℕ) (e : Event) → HasParts f m old e.rest → key ≡ e.key → e.cause ≡ cause
-      → TellsOf (λ p. HasParts f m new p) (handle e e.rest.holds e.cause) result
+      AnswersBy f (handle (taken_event f key cause old) (known_in f old.member) cause) old result new

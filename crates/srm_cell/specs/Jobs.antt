@@ -1,6 +1,5 @@
 -- Jobs: own runs of some cells, and what they tell.
-use Rattle.std.specs.Prelude.{◌≡◌, ◌≢◌, ◌⊎◌, ◌<◌, ◌≤◌, ℕ, length, List, [], ◌∷◌, Result, Ok, Err}
-use Rattle.std.specs.List.{AllZip}
+use Rattle.std.specs.Prelude.{◌≡◌, ◌≢◌, ◌⊎◌, ◌<◌, ◌≤◌, ℕ, length, map, All, List, [], ◌∷◌, Result, Ok, Err}
 use Rattle.std.specs.Global.{Vec}
 use Rattle.srm_net.specs.Network.{Network}
 use Rattle.srm_scenario.specs.Plain.{PlainScenario}
@@ -12,16 +11,11 @@ use Rattle.srm_cell.specs.declared.job.Done as job
 use Rattle.srm_cell.specs.declared.fault.CellFault.{CellFault}
 use Rattle.srm_cell.specs.declared.fault.CellFault.TheVariants as fault
 use Rattle.srm_cell.specs.Setting.{Traffic, traffic_of}
-use Rattle.srm_cell.specs.Cells.{PlainCell, StepOutcome, Idle, Full, Spent, Stepped, own_step}
+use Rattle.srm_cell.specs.Cells.{OwnCell, StepOutcome, Idle, Full, Spent, Stepped, own_step}
 use Rattle.srm_cell.specs.OwnRuns.{own_end, IsOwnRun, MeetsFull, MeetsSpent}
 use Rattle.srm_cell.specs.Crossings.{joined, crossings}
-use Rattle.srm_cell.specs.Views.{IsCell, HasWork}
+use Rattle.srm_cell.specs.Views.{IsSoundCell, GoesOn, HasWork, plain_cell, own_cell, step_of}
 use Rattle.srm_net.specs.Limits.{end_of_time}
-
--- a cell, and whose it is
-pub record OwnCell : Type 0 where
-  pub member : ℕ
-  pub cell : PlainCell
 
 -- a job as it is seen
 pub record PlainJob : Type 0 where
@@ -55,65 +49,66 @@ TellsFault till qs fault.Spent = FirstEnds Spent till qs
 TellsFault till qs fault.CountFull = FirstEnds Full till qs
 
 module _ {M : Type 0} where
-  -- the cells are seen as these, where f is what is seen of a box
-  abbrev pub AreCells : (M → Record) → List (Cell M) → List OwnCell → Type 0
-  AreCells f cs qs = AllZip (λ c q. IsCell f q.member c q.cell) cs qs
+  -- the cells are sound, where f is what is seen of a box
+  abbrev pub AreSound : (M → Record) → List (Cell M) → Type 0
+  AreSound f cs = All (IsSoundCell f) cs
 
-  -- the job is seen as this one
-  pub record IsJob (f : M → Record) (j : Job M) (p : PlainJob) : Type 0 where
-    pub place : j.place ≡ p.place
-    pub till : j.till ≡ p.till
-    pub cells : AreCells f j.cells.items p.cells
+  -- the cells as they are seen
+  abbrev pub own_cells : (M → Record) → List (Cell M) → List OwnCell
+  own_cells f cs = map (own_cell f) cs
 
-  -- what the calls that advance a job ask of it: it is seen as some job with few cells, each that of a member
+  -- the job as it is seen
+  abbrev pub plain_job : (M → Record) → Job M → PlainJob
+  plain_job f j = record { place = j.place; till = j.till; cells = own_cells f j.cells.items }
+
+  -- what the calls that advance a job ask of it: its cells are sound and few, and each is that of a member
   pub record MayAdvance (f : M → Record) (members : ℕ) (j : Job M) : Type 0 where
-    pub plain_job : PlainJob
-    pub is : IsJob f j plain_job
-    pub till : plain_job.till ≤ end_of_time
-    pub few : length plain_job.cells ≤ 1024
-    pub of_members : AreMembers members plain_job.cells
+    pub sound : AreSound f j.cells.items
+    pub till : j.till ≤ end_of_time
+    pub few : length j.cells.items ≤ 1024
+    pub of_members : AreMembers members (own_cells f j.cells.items)
 
-  -- the cell of member m, seen as p, has these rows in its own run to an end, and is then this cell
-  abbrev pub RanAlone : (M → Record) → ℕ → ℕ → PlainCell → List Row → Cell M → Type 0
-  RanAlone f till m p rows after = (d : PlainCell) × IsOwnRun till m p rows d × IsCell f m after d
+  -- the cell has these rows in its own run to an end, and is then this one
+  pub record RanAlone (f : M → Record) (till : ℕ) (old : Cell M) (rows : List Row) (new : Cell M) : Type 0 where
+    pub run : IsOwnRun till old.number (plain_cell f old) rows (plain_cell f new)
+    pub on : GoesOn f old new
 
   -- so each of the cells
-  abbrev pub RanEach : (M → Record) → ℕ → List OwnCell → List (List Row) → List (Cell M) → Type 0
+  abbrev pub RanEach : (M → Record) → ℕ → List (Cell M) → List (List Row) → List (Cell M) → Type 0
   RanEach f till [] [] [] = Unit {0}
-  RanEach f till (q ∷ qs) (rows ∷ more) (c ∷ cs) = RanAlone f till q.member q.cell rows c × RanEach f till qs more cs
-  RanEach f till qs more cs = ⊥
+  RanEach f till (c ∷ cs) (rows ∷ more) (d ∷ ds) = RanAlone f till c rows d × RanEach f till cs more ds
+  RanEach f till cs more ds = ⊥
 
   -- what an own run tells. Memory is asked for only where its first step has work. After a refusal nothing is known of
   -- the cell
-  abbrev pub TellsRun : (M → Record) → ℕ → ℕ → PlainCell
+  abbrev pub TellsRun : (M → Record) → ℕ → Cell M
       → Result (List Row) CellFault → Cell M → Type 0
-  TellsRun f till m p (Ok rows) after = RanAlone f till m p rows after
-  TellsRun f till m p (Err fault.NoMemory) after = HasWork (own_step till m p)
-  TellsRun f till m p (Err fault.Spent) after = MeetsSpent till m p
-  TellsRun f till m p (Err fault.CountFull) after = MeetsFull till m p
+  TellsRun f till old (Ok rows) new = RanAlone f till old rows new
+  TellsRun f till old (Err fault.NoMemory) new = HasWork (step_of f till old)
+  TellsRun f till old (Err fault.Spent) new = MeetsSpent till old.number (plain_cell f old)
+  TellsRun f till old (Err fault.CountFull) new = MeetsFull till old.number (plain_cell f old)
 
-  -- what an own run to an end tells, of each plain cell that the cell is seen as
+  -- what an own run to an end tells of a sound cell
   abbrev pub Runs : (M → Record) → ℕ → Cell M → Result (List Row) CellFault → Cell M → Type 0
-  Runs f till old result new = (m : ℕ) (p : PlainCell) → IsCell f m old p → TellsRun f till m p result new
+  Runs f till old result new = IsSoundCell f old → TellsRun f till old result new
 
-  -- what own runs tell, one after the other, after which these are the cells
-  abbrev pub TellsRuns : (M → Record) → ℕ → List OwnCell
+  -- what own runs of sound cells tell, one after the other, after which these are the cells
+  abbrev pub TellsRuns : (M → Record) → ℕ → List (Cell M)
       → Result (Vec (List Row)) CellFault → List (Cell M) → Type 0
-  TellsRuns f till qs (Ok rows) after = RanEach f till qs rows.items after
-  TellsRuns f till qs (Err e) after = TellsFault till qs e
+  TellsRuns f till old (Ok rows) new = RanEach f till old rows.items new
+  TellsRuns f till old (Err e) new = TellsFault till (own_cells f old) e
+
+  abbrev pub RunEach : (M → Record) → ℕ → List (Cell M)
+      → Result (Vec (List Row)) CellFault → List (Cell M) → Type 0
+  RunEach f till old result new = AreSound f old → TellsRuns f till old result new
 
   -- this is done of a job: its cells' own runs, and the crossings of their rows
-  pub record IsDone (f : M → Record) (t : Traffic) (p : PlainJob) (d : job.Done M) : Type 0 where
-    pub place : d.place ≡ p.place
-    pub runs : RanEach f p.till p.cells d.rows.items d.cells.items
+  pub record IsDone (f : M → Record) (t : Traffic) (j : Job M) (d : job.Done M) : Type 0 where
+    pub place : d.place ≡ j.place
+    pub runs : RanEach f j.till j.cells.items d.rows.items d.cells.items
     pub crossings_are : d.crossings ≡ crossings t (joined d.rows.items)
 
   -- what advancing a job tells
-  abbrev pub TellsDone : (M → Record) → Traffic → PlainJob → Result (job.Done M) CellFault → Type 0
-  TellsDone f t p (Ok d) = IsDone f t p d
-  TellsDone f t p (Err e) = TellsFault p.till p.cells e
-
-  -- what advancing a job tells, of every job that it may be seen as
-  pub record Advances (f : M → Record) (k : PlainScenario) (net : Network) (j : Job M)
-      (r : Result (job.Done M) CellFault) : Type 0 where
-    pub tells : (p : PlainJob) → IsJob f j p → TellsDone f (traffic_of k net) p r
+  abbrev pub Advances : (M → Record) → PlainScenario → Network → Job M → Result (job.Done M) CellFault → Type 0
+  Advances f k net j (Ok d) = IsDone f (traffic_of k net) j d
+  Advances f k net j (Err e) = TellsFault j.till (own_cells f j.cells.items) e

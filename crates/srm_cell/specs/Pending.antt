@@ -4,17 +4,16 @@ use Rattle.std.specs.Ordering.{is_gt}
 use Rattle.srm_net.specs.declared.packet.PacketId.{PacketId}
 use Rattle.srm_net.specs.declared.rank.Rank.TheVariants as rank
 use Rattle.srm_net.specs.Keys.{key_cmp}
-use Rattle.srm_member.specs.Record.{due_of}
 use Rattle.srm_cell.specs.declared.pending.Source.{Source}
 use Rattle.srm_cell.specs.declared.pending.Source.TheVariants.{Inbox, Script, Timer}
 use Rattle.srm_cell.specs.declared.pending.Pending.{Pending}
-use Rattle.srm_cell.specs.Cells.{PlainCell, Event, first_arrival, first_mark, next_timer}
+use Rattle.srm_cell.specs.Cells.{PlainCell, Event, due_in, first_arrival, first_mark, next_timer}
 
 -- the first event of a source
 abbrev pub first_of : Source → ℕ → PlainCell → Option Event
 first_of Inbox m c = first_arrival m c c.inbox
 first_of Script m c = first_mark m c c.script
-first_of Timer m c = next_timer m c (due_of c.holds)
+first_of Timer m c = next_timer m c (due_in c.holds)
 
 -- what is pending stands for this event, if for any: it has the event's key, and its source has that event first
 abbrev pub Stands : ℕ → PlainCell → Option Pending → Option Event → Type 0

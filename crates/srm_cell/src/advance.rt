@@ -1,10 +1,10 @@
 //! Own runs of a job's cells.
-ghost use Rattle.std.specs.Prelude.{◌≡◌, ◌<◌, ◌≤◌, ◌+◌, ◌^◌, ℕ, List, length, All, IfOk, IfErr};
+ghost use Rattle.std.specs.Prelude.{◌≡◌, ◌<◌, ◌≤◌, ◌+◌, ◌^◌, length, All, IfOk, IfErr};
 ghost use Rattle.srm_net.specs.Limits.{end_of_time};
 ghost use Rattle.srm_cell.specs.Setting.{traffic_of};
 ghost use Rattle.srm_cell.specs.Crossings.{packets_of, joined, crossings};
 ghost use Rattle.srm_cell.specs.Totalled.{IsSentBelow};
-ghost use Rattle.srm_cell.specs.Jobs.{OwnCell, AreCells, MayAdvance, Advances, TellsRuns};
+ghost use Rattle.srm_cell.specs.Jobs.{MayAdvance, Advances, RunEach};
 
 use crate::cell::Cell;
 use crate::crossings::Crossings;
@@ -61,8 +61,7 @@ pub fn run_each<M: Participant>(
 ) -> Result<Vec<Sequence<Row>>, CellFault>
     requires { till ≤ end_of_time }
     ensures many { length cells.new ≡ length cells.old }
-    ensures runs { (qs : List OwnCell) → AreCells M.plain cells.old qs
-        → TellsRuns M.plain till qs result cells.new }
+    ensures runs { RunEach M.plain till cells.old result cells.new }
 {
     let mut rows = Vec::new(alloc);
     for cell in cells.iter_mut() {

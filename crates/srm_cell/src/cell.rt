@@ -3,10 +3,9 @@ ghost use Rattle.std.specs.Prelude.{◌≡◌, ◌≤◌, ◌<◌, ◌∷◌, �
 ghost use Rattle.srm_net.specs.Limits.{end_of_time, most_sent};
 ghost use Rattle.srm_net.specs.Orders.{Rises};
 ghost use Rattle.srm_scenario.specs.Plain.{mark_cmp, network_of};
-ghost use Rattle.srm_member.specs.Record.{due_of};
 ghost use Rattle.srm_cell.specs.Flights.{BringsNone};
-ghost use Rattle.srm_cell.specs.Cells.{PlainCell, hear_at, next_event, first_arrival, first_mark, next_timer};
-ghost use Rattle.srm_cell.specs.Views.{AreWaiting, IsNew, Becomes, Steps, Ends, IsNextTime, HoldsRecord, TellsExit, record_in, due_in};
+ghost use Rattle.srm_cell.specs.Cells.{hear_at, next_event, first_arrival, first_mark, next_timer, due_in};
+ghost use Rattle.srm_cell.specs.Views.{AreWaiting, IsNew, Becomes, Steps, Ends, IsNextTime, TellsMember, known_in};
 ghost use Rattle.srm_cell.specs.InnerSteps.{StandsFor, TakesFirst, AnswersEvent};
 ghost use Rattle.srm_cell.specs.PutRows.{PutsRow, PutsStep};
 ghost use Rattle.srm_cell.specs.Jobs.{Runs};
@@ -386,7 +385,7 @@ impl<M: Participant> Cell<M> {
     }
 
     fn timer(&self) -> Option<Pending>
-        ensures { StandsFor M.plain (λ m p. next_timer m p (due_of p.holds)) self.now result }
+        ensures { StandsFor M.plain (λ m p. next_timer m p (due_in p.holds)) self.now result }
     {
         let due = self.due()?;
         Some(Pending {
@@ -403,7 +402,7 @@ impl<M: Participant> Cell<M> {
     }
 
     fn due(&self) -> Option<Due>
-        ensures { result ≡ due_in (record_in M.plain self.now.member) }
+        ensures { result ≡ due_in (known_in M.plain self.now.member) }
     {
         match &self.member {
             None => None,
@@ -414,7 +413,7 @@ impl<M: Participant> Cell<M> {
 
 // What a member ends with, if it is there.
 fn ended<M: Participant>(alloc: Global, member: Option<M>) -> Result<Exit, CellFault>
-    ensures { (p : PlainCell) → p.exit ≡ None → HoldsRecord (record_in M.plain member) p.holds → TellsExit p result }
+    ensures { TellsMember (known_in M.plain member) result }
 {
     let Some(mut member) = member else {
         return Err(CellFault::Spent);

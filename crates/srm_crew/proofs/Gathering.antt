@@ -10,9 +10,9 @@ use Rattle.srm_cell.specs.declared.job.Job.{Job}
 use Rattle.srm_cell.specs.declared.job.Done as job
 use Rattle.srm_cell.specs.declared.fault.CellFault.{CellFault}
 use Rattle.srm_cell.specs.declared.fault.CellFault.TheVariants as cell
-use Rattle.srm_cell.specs.Setting.{traffic_of}
-use Rattle.srm_cell.specs.Jobs.{PlainJob, IsDone, TellsDone, TellsFault, Advances}
-use Rattle.srm_interfaces.specs.Crews.{AreJobs, AnyEnds, GathersEach, AdvanceEach}
+use Rattle.srm_cell.specs.Jobs.{Advances, FirstEnds, TellsFault, own_cells}
+use Rattle.srm_interfaces.specs.Crews.{AnyEnds, GathersEach, AdvanceEach, plain_jobs}
+use Rattle.srm_cell.specs.Cells.{StepOutcome, Stepped, Spent, Full}
 
 module _ {J D : Type 0} (R : J → Result D CellFault → Type 0) where
   all_gave : (js : List J) (ds : List D) → AllZip R js (map Ok ds) → AllZip (λ j d. R j (Ok d)) js ds
@@ -25,39 +25,20 @@ module _ {J D : Type 0} (R : J → Result D CellFault → Type 0) where
       → MatchResult r (λ v. (ys : List D) × (rs ≡ map Ok ys) × (v.items ≡ ys)) (λ e. Contains rs (Err e)) → GathersEach R js r
   gathered js rs r z m = grind (arith, all_gave)
 
-module _ {M : Type 0} where
-  pub all_done : (f : M → Record) (k : PlainScenario) (net : Network) (js : List (Job M)) (ps : List PlainJob)
-      (ds : List (job.Done M))
-      → AllZip (λ j d. Advances f k net j (Ok d)) js ds → AreJobs f js ps → AllZip (λ p d. IsDone f (traffic_of k net) p d) ps ds
-  all_done f k net [] [] [] z h = tt
-  all_done f k net [] (p ∷ ps) ds z h = absurd h
-  all_done f k net [] [] (d ∷ ds) z h = absurd z
-  all_done f k net (j ∷ js) [] ds z h = absurd h
-  all_done f k net (j ∷ js) (p ∷ ps) [] z h = absurd z
-  all_done f k net (j ∷ js) (p ∷ ps) (d ∷ ds) z h = (z.0.tells p h.0, all_done f k net js ps ds z.1 h.1)
+module _ {M : Type 0} (f : M → Record) (k : PlainScenario) (net : Network) where
+  any_told : (js : List (Job M)) (rs : List (Result (job.Done M) CellFault)) (e : CellFault) (o : StepOutcome Stepped)
+      → ((j : Job M) → TellsFault j.till (own_cells f j.cells.items) e → FirstEnds o j.till (own_cells f j.cells.items))
+      → AllZip (λ j r. Advances f k net j r) js rs → (i : ℕ) → i < length rs → get_or rs i (Err e) ≡ Err e
+      → AnyEnds o (plain_jobs f js)
+  any_told [] [] e o so z i lt g = absurd (omega arith)
+  any_told [] (r ∷ rs) e o so z i lt g = absurd z
+  any_told (j ∷ js) [] e o so z i lt g = absurd z
+  any_told (j ∷ js) (r ∷ rs) e o so z zero lt g = inl (so j (subst (Advances f k net j) g z.0))
+  any_told (j ∷ js) (r ∷ rs) e o so z (suc i) lt g = inr (any_told js rs e o so z.1 i (omega arith) g)
 
-  any_told : (f : M → Record) (k : PlainScenario) (net : Network) (js : List (Job M)) (ps : List PlainJob)
-      (rs : List (Result (job.Done M) CellFault)) (e : CellFault) (Any : List PlainJob → Type 0)
-      → ((p : PlainJob) (qs : List PlainJob) → TellsFault p.till p.cells e → Any (p ∷ qs))
-      → ((p : PlainJob) (qs : List PlainJob) → Any qs → Any (p ∷ qs))
-      → AllZip (λ j r. Advances f k net j r) js rs → AreJobs f js ps → (i : ℕ) → i < length rs → get_or rs i (Err e) ≡ Err e → Any ps
-  any_told f k net [] ps [] e Any here there z h i lt g = absurd (omega arith)
-  any_told f k net [] ps (r ∷ rs) e Any here there z h i lt g = absurd z
-  any_told f k net (j ∷ js) [] rs e Any here there z h i lt g = absurd h
-  any_told f k net (j ∷ js) (p ∷ ps) [] e Any here there z h i lt g = absurd z
-  any_told f k net (j ∷ js) (p ∷ ps) (r ∷ rs) e Any here there z h zero lt g =
-      here p ps (subst (TellsDone f (traffic_of k net) p) g (z.0.tells p h.0))
-  any_told f k net (j ∷ js) (p ∷ ps) (r ∷ rs) e Any here there z h (suc i) lt g =
-      there p ps (any_told f k net js ps rs e Any here there z.1 h.1 i (omega arith) g)
-
-  pub each_advanced : (f : M → Record) (k : PlainScenario)
-      (net : Network) (js : List (Job M)) (r : Result (Vec (job.Done M)) CellFault) → GathersEach (λ j r. Advances f k net j r) js r
+  pub each_advanced : (js : List (Job M)) (r : Result (Vec (job.Done M)) CellFault) → GathersEach (λ j r. Advances f k net j r) js r
       → AdvanceEach f k net js r
-  each_advanced f k net js (Ok v) g = record { tells = λ ps h. all_done f k net js ps v.items g h }
-  each_advanced f k net js (Err cell.NoMemory) g = record { tells = λ ps h. tt }
-  each_advanced f k net js (Err cell.Spent) g = record {
-    tells = λ ps h. any_told f k net js ps g.0 cell.Spent (AnyEnds _) (λ p qs t. inl t)
-        (λ p qs a. inr a) g.1 h g.2.0 g.2.1 g.2.2;
-  }
-  each_advanced f k net js (Err cell.CountFull) g = record
-      { tells = λ ps h. any_told f k net js ps g.0 cell.CountFull (AnyEnds _) (λ p qs t. inl t) (λ p qs a. inr a) g.1 h g.2.0 g.2.1 g.2.2 }
+  each_advanced js (Ok v) g = g
+  each_advanced js (Err cell.NoMemory) g = tt
+  each_advanced js (Err cell.Spent) g = any_told js g.0 cell.Spent Spent (λ j t. t) g.1 g.2.0 g.2.1 g.2.2
+  each_advanced js (Err cell.CountFull) g = any_told js g.0 cell.CountFull Full (λ j t. t) g.1 g.2.0 g.2.1 g.2.2

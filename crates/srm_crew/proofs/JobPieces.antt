@@ -1,5 +1,5 @@
 -- Jobs that were advanced in pieces.
-use Rattle.std.proofs.Common.{◌≡◌, ◌<◌, ◌≤◌, ◌⊎◌, ◌+◌, ◌-◌, ◌*◌, ◌/◌, ℕ, zero, suc, List, [], ◌∷◌, ◌++◌, map, length, get_or}
+use Rattle.std.proofs.Common.{◌≡◌, ◌<◌, ◌≤◌, ◌⊎◌, ◌+◌, ◌-◌, ◌*◌, ◌/◌, ℕ, suc, List, [], ◌∷◌, ◌++◌, map, length}
 use Rattle.std.proofs.Common.{Result, Ok, Err, refl, sym, ap, ◌∙◌, subst, inl, inr, ⊎_elim, append_assoc, append-nil}
 use Rattle.std.proofs.Common.{length-append, lt_of_not-le, arith}
 use Rattle.std.proofs.Math.Nat.{suc-mul, mul-le-mul_right, lt-mul-div-succ}
@@ -9,13 +9,11 @@ use Rattle.std.proofs.lemmas.List.{map-append}
 use Rattle.std.proofs.lemmas.List.Elements.{Contains-append_right, Contains-get_or}
 use Rattle.std.specs.List.{Contains}
 use Rattle.std.specs.Global.{Vec}
-use Rattle.srm_member.specs.Record.{Record}
-use Rattle.srm_cell.specs.declared.job.Job.{Job}
 use Rattle.srm_cell.specs.declared.fault.CellFault.{CellFault}
 use Rattle.srm_cell.specs.declared.fault.CellFault.TheVariants as cell
 use Rattle.srm_cell.specs.Cells.{StepOutcome, Stepped}
 use Rattle.srm_cell.specs.Jobs.{PlainJob}
-use Rattle.srm_interfaces.specs.Crews.{AreJobs, AnyEnds}
+use Rattle.srm_interfaces.specs.Crews.{AnyEnds}
 use Rattle.srm_crew.specs.Pieces.{PutTogether}
 use Rattle.srm_interfaces.proofs.InPieces.{all_in}
 
@@ -27,22 +25,6 @@ any_first o (p ∷ ps) qs (inr a) = inr (any_first o ps qs a)
 pub any_last : (o : StepOutcome Stepped) (ps qs : List PlainJob) → AnyEnds o qs → AnyEnds o (ps ++ qs)
 any_last o [] qs h = h
 any_last o (p ∷ ps) qs h = inr (any_last o ps qs h)
-
-module _ {M : Type 0} (f : M → Record) where
-  -- where jobs are seen as these, the first of them are seen as the first of these, and the others as the others
-  pub record Parted (xs ys : List (Job M)) (ps : List PlainJob) : Type 0 where
-    pub first : List PlainJob
-    pub others : List PlainJob
-    pub whole : ps ≡ first ++ others
-    pub one : AreJobs f xs first
-    pub more : AreJobs f ys others
-
-  pub parted : (xs ys : List (Job M)) (ps : List PlainJob) → AreJobs f (xs ++ ys) ps → Parted xs ys ps
-  parted [] ys ps h = record { first = []; others = ps; whole = refl; one = tt; more = h }
-  parted (x ∷ xs) ys [] h = absurd h
-  parted (x ∷ xs) ys (p ∷ ps) h =
-      let r = parted xs ys ps h.1 in
-      record { first = p ∷ r.first; others = r.others; whole = ap (λ l. p ∷ l) r.whole; one = (h.0, r.one); more = r.more }
 
 module _ {D : Type 0} where
   -- what was put together of these pieces, and what is left of them

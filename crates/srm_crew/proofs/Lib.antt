@@ -1,5 +1,4 @@
 pub mod JobsSoFar
-pub mod JobsSeen
 pub mod Gathering
 pub mod NoteLemmas
 pub mod Keeps

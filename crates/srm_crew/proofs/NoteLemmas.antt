@@ -1,13 +1,12 @@
 -- What a recording crew has noted after several calls.
 use Rattle.std.specs.Prelude.{IfOk}
 use Rattle.std.proofs.Common.{Result, Ok, Err, ◌≡◌, ◌<◌, ◌+◌, ℕ, List, [], ◌∷◌, ◌++◌, length, take, get_or, map, refl, sym, ap, ◌∙◌}
-use Rattle.std.proofs.lemmas.List.{take_more, map-append}
+use Rattle.std.proofs.lemmas.List.{take_more, map-append, length-map}
 use Rattle.srm_member.specs.Record.{Record}
 use Rattle.srm_cell.specs.declared.job.Job.{Job}
-use Rattle.srm_cell.specs.Jobs.{PlainJob}
-use Rattle.srm_cell.proofs.SentRows.{as_many_seen}
+use Rattle.srm_cell.specs.Views.{own_cell}
 use Rattle.srm_crew.specs.declared.recording.Note.{Note}
-use Rattle.srm_interfaces.specs.Crews.{AreJobs}
+use Rattle.srm_interfaces.specs.Crews.{plain_jobs}
 use Rattle.srm_crew.specs.Notes.{notes_of}
 
 module _ {M : Type 0} where
@@ -20,15 +19,10 @@ module _ {M : Type 0} where
   notes_more js i j lt e = sym (ap (map own_note) (take_more js i j lt) ∙ map-append own_note (take i js) (get_or js i j ∷ [])
       ∙ ap (λ (k : Job M). map own_note (take i js) ++ own_note k ∷ []) (sym e))
 
-  pub notes_seen : (f : M → Record) (js : List (Job M)) (ps : List PlainJob) → AreJobs f js ps → map own_note js
-      ≡ notes_of ps
-  notes_seen f [] [] h = refl
-  notes_seen f [] (p ∷ ps) h = absurd h
-  notes_seen f (j ∷ js) [] h = absurd h
-  notes_seen f (j ∷ js) (p ∷ ps) h =
-      let many = as_many_seen f j.cells.items p.cells h.0.cells in
-      let more = notes_seen f js ps h.1 in
-      λ i. record { place = h.0.place i; till = h.0.till i; cells = many i } ∷ more i
+  pub notes_seen : (f : M → Record) (js : List (Job M)) → map own_note js ≡ notes_of (plain_jobs f js)
+  notes_seen f [] = refl
+  notes_seen f (j ∷ js) = λ i. record { place = j.place; till = j.till; cells = sym (length-map j.cells.items (own_cell f)) i }
+      ∷ notes_seen f js i
 
 pub always_ok : {A E : Type 0} (r : Result A E) (Q : Type 0) → Q → IfOk r (λ x. Q)
 always_ok (Ok x) Q q = q

@@ -1,12 +1,12 @@
 -- The cells of a watched job, run one after the other: what is so after the first of them.
 use Rattle.std.proofs.Common.{◌≡◌, ◌∙◌, ◌<◌, ◌≤◌, ◌+◌, ◌^◌, ℕ, List, [], ◌∷◌, ◌++◌, All, length, take, drop, refl, sym, ap, subst}
-use Rattle.std.proofs.Common.{◌≢◌, arith, append-nil, length-append, Option, Some, None, Result, Ok, Err, false, true≢false}
+use Rattle.std.proofs.Common.{◌≢◌, arith, append-nil, append_assoc, length-append, Option, Some, None, Result, Ok, Err, false, true≢false}
 use Rattle.std.specs.Option.{is_some}
 use Rattle.std.specs.Result.{is_err, IfOk}
 use Rattle.std.proofs.Math.Seq.{take-length}
 use Rattle.std.proofs.Math.ListN.{drop_of_length-le}
 use Rattle.std.proofs.lemmas.List.{length-map, with_items_is}
-use Rattle.std.proofs.lemmas.List.Elements.{All-nil, All-cons, All-head, filter_map-append}
+use Rattle.std.proofs.lemmas.List.Elements.{All-nil, All-cons, All-head, All-tail, filter_map-append}
 use Rattle.std.specs.Global.{Vec}
 use Rattle.std.specs.Vec.{with_items}
 use Rattle.std.specs.Vec.Covariant.{in_vec}
@@ -19,18 +19,18 @@ use Rattle.srm_cell.specs.declared.cell.Cell.{Cell}
 use Rattle.srm_cell.specs.declared.sent.Sent.{Sent}
 use Rattle.srm_cell.specs.declared.fault.CellFault.{CellFault}
 use Rattle.srm_cell.specs.declared.fault.CellFault.TheVariants as fault
-use Rattle.srm_cell.specs.Cells.{PlainCell, before, next_event}
+use Rattle.srm_cell.specs.Cells.{before}
 use Rattle.srm_cell.specs.Crossings.{crossings, joined, packets_of}
 use Rattle.srm_cell.specs.Hearing.{IsSent, packets_in}
-use Rattle.srm_cell.specs.Jobs.{Advances, AreCells, AreMembers, MayAdvance, OwnCell, RanEach, Runs, TellsFault}
+use Rattle.srm_cell.specs.Jobs.{Advances, AreMembers, AreSound, MayAdvance, RanAlone, RanEach, Runs, TellsFault, TellsRun, own_cells}
 use Rattle.srm_cell.specs.Setting.{traffic_of}
 use Rattle.srm_cell.specs.Totalled.{IsSentBelow, numbers_of}
-use Rattle.srm_cell.specs.Views.{IsCell}
+use Rattle.srm_cell.specs.Views.{IsSoundCell, event_of, plain_cell}
 use Rattle.srm_cell.proofs.Nexts.{idle_step}
 use Rattle.srm_cell.proofs.OwnRunLemmas.{after_none, end_now, rows_none}
 use Rattle.srm_cell.proofs.RowPackets.{joined-append, numbers_are}
-use Rattle.srm_cell.proofs.SentRows.{as_many, rows_below, rows_few}
-use Rattle.srm_cell.proofs.SoFar.{SoFar, first_of, so_far_all, so_far_fault, so_far_more, so_far_none}
+use Rattle.srm_cell.proofs.SentRows.{rows_below, rows_few}
+use Rattle.srm_cell.proofs.SoFar.{fault_after, ran_more}
 use Rattle.srm_interfaces.specs.declared.watched.WatchedJob.{WatchedJob}
 use Rattle.srm_interfaces.specs.declared.watched.WatchedDone.{WatchedDone}
 use Rattle.srm_interfaces.specs.Watches.{KeepEach, job_in}
@@ -45,19 +45,16 @@ if_ok (Err x) P e h = absurd (true≢false e)
 -- ---- whose the rows are
 
 module _ {M : Type 0} (f : M → Record) (members : ℕ) where
-  pub are_of_members : (cs : List (Cell M)) (qs : List OwnCell) → AreCells f cs qs → AreMembers members qs
-      → All (IsOfMember f members) cs
-  are_of_members [] qs h a = All-nil (IsOfMember f members)
-  are_of_members (c ∷ cs) [] h a = absurd h
-  are_of_members (c ∷ cs) (q ∷ qs) h a =
-      All-cons (IsOfMember f members) c cs (q.member, q.cell, h.0, a.0) (are_of_members cs qs h.1 a.1)
+  pub are_of_members : (cs : List (Cell M)) → AreSound f cs → AreMembers members (own_cells f cs) → All (IsOfMember f members) cs
+  are_of_members [] h a = All-nil (IsOfMember f members)
+  are_of_members (c ∷ cs) h a =
+      All-cons (IsOfMember f members) c cs (All-head (IsSoundCell f) c cs h, a.0) (are_of_members cs (All-tail (IsSoundCell f) c cs h) a.1)
 
   pub sent_below : (till : ℕ) (c after : Cell M) (rows : List Row) → till ≤ end_of_time → IsOfMember f members c
       → Runs f till c (Ok rows) after → All (λ r. IsSentBelow members r.sent) rows
   sent_below till c after rows le o run =
-      let q : OwnCell = record { member = o.0; cell = o.1 } in
       All-head (λ (rs : List Row). All (λ r. IsSentBelow members r.sent) rs) rows []
-      (rows_below f till members (q ∷ []) (rows ∷ []) (after ∷ []) le (o.3, tt) (run o.0 o.1 o.2, tt))
+      (rows_below f till members (c ∷ []) (rows ∷ []) (after ∷ []) le (o.1, tt) (run o.0, tt))
 
 -- ---- where nothing is due
 
@@ -66,17 +63,19 @@ none_of None h = refl
 none_of (Some x) h = absurd (true≢false h)
 
 pub runs_idle : {M : Type 0} (f : M → Record) (till : ℕ) (c : Cell M)
-    → ((m : ℕ) (p : PlainCell) → IsCell f m c p → is_some (before till (next_event m p)) ≡ false) → Runs f till c (Ok []) c
-runs_idle f till c h m p is = (
-  p,
-  record {
-    steps = 0;
-    ends = end_now till m p ∙ idle_step till m p (none_of (before till (next_event m p)) (h m p is));
-    rows_are = sym (rows_none till m p);
-    leaves = sym (after_none till m p);
-  },
-  is,
-)
+    → (IsSoundCell f c → is_some (before till (event_of f c)) ≡ false) → Runs f till c (Ok []) c
+runs_idle f till c h is =
+    let m = c.number in
+    let p = plain_cell f c in
+    record {
+      run = record {
+        steps = 0;
+        ends = end_now till m p ∙ idle_step till m p (none_of (before till (event_of f c)) (h is));
+        rows_are = sym (rows_none till m p);
+        leaves = sym (after_none till m p);
+      };
+      on = (is, refl);
+    }
 
 -- ---- what is so after the first of the cells
 
@@ -86,25 +85,26 @@ module _ {M K : Type 0} (f : M → Record) (keeps : K → List Row → Type 0) (
   pub record CellsSoFar (cells left : List (Cell M)) (old new : List K) (sent : List Sent) : Type 0 where
     pub rows : List (List Row)
     pub many : length rows ≡ length cells
-    pub runs : (qs : List OwnCell) → AreCells f j.cells.items qs → SoFar f j.till qs rows cells left
+    pub first : List (Cell M)
+    pub is : first ++ left ≡ j.cells.items
+    pub runs : RanEach f j.till first rows cells
     pub kept : KeepEach keeps old rows new
     pub packets : packets_in sent ≡ packets_of (joined rows)
 
   pub cells_none : CellsSoFar [] j.cells.items [] [] []
-  cells_none = record { rows = []; many = refl; runs = λ qs h. so_far_none f j.till qs j.cells.items h; kept = tt; packets = refl }
+  cells_none = record { rows = []; many = refl; first = []; is = refl; runs = tt; kept = tt; packets = refl }
 
   pub cells_more : (cells left : List (Cell M)) (old new : List K) (sent all : List Sent) (c after : Cell M) (rows : List Row)
-      (a b : K) → CellsSoFar cells (c ∷ left) old new sent → Runs f j.till c (Ok rows) after
+      (a b : K) → CellsSoFar cells (c ∷ left) old new sent → RanAlone f j.till c rows after
       → ((before : List Row) → keeps a before → keeps b (before ++ rows))
       → packets_in all ≡ packets_in sent ++ packets_of rows
       → CellsSoFar (cells ++ after ∷ []) left (old ++ a ∷ []) (new ++ b ∷ []) all
   cells_more cells left old new sent all c after rows a b s run kept packets = record {
     rows = s.rows ++ rows ∷ [];
     many = length-append s.rows (rows ∷ []) ∙ ap (λ n. n + 1) s.many ∙ sym (length-append cells (after ∷ []));
-    runs = λ qs h.
-        let so = s.runs qs h in
-        let r = first_of f c left so.rest so.seen in
-        so_far_more f j.till qs s.rows cells (c ∷ left) left c after rows so r (run r.own.member r.own.cell r.cell);
+    first = s.first ++ c ∷ [];
+    is = append_assoc s.first (c ∷ []) left ∙ s.is;
+    runs = ran_more f j.till s.first s.rows cells c rows after s.runs run;
     kept = keep_one_more keeps old s.rows new a rows b s.kept kept;
     packets = packets ∙ ap (λ l. l ++ packets_of rows) s.packets
         ∙ sym (ap packets_of (joined-append s.rows (rows ∷ [])) ∙ ap (λ l. packets_of (joined s.rows ++ l)) (append-nil rows)
@@ -112,17 +112,12 @@ module _ {M K : Type 0} (f : M → Record) (keeps : K → List Row → Type 0) (
   }
 
   stops : (cells left : List (Cell M)) (old new : List K) (sent : List Sent) (c after : Cell M) (e : CellFault)
-      → CellsSoFar cells (c ∷ left) old new sent → Runs f j.till c (Err e) after → Advances f k net (job_in j) (Err e)
-  stops cells left old new sent c after e s run = record {
-    tells = λ p h.
-        let so = s.runs p.cells h.cells in
-        let r = first_of f c left so.rest so.seen in
-        subst (λ t. TellsFault t p.cells e) h.till
-        (so_far_fault f j.till p.cells s.rows cells (c ∷ left) left c after e so r (run r.own.member r.own.cell r.cell));
-  }
+      → CellsSoFar cells (c ∷ left) old new sent → TellsRun f j.till c (Err e) after → Advances f k net (job_in j) (Err e)
+  stops cells left old new sent c after e s run = subst (λ cs. TellsFault j.till (own_cells f cs) e) s.is
+      (fault_after f j.till s.first s.rows cells c after left e s.runs run)
 
   pub cells_fault : (cells left : List (Cell M)) (old new : List K) (sent : List Sent) (c after : Cell M) (e : CellFault)
-      → CellsSoFar cells (c ∷ left) old new sent → (e ≢ fault.NoMemory → Runs f j.till c (Err e) after)
+      → CellsSoFar cells (c ∷ left) old new sent → (e ≢ fault.NoMemory → TellsRun f j.till c (Err e) after)
       → AdvanceOne f keeps k net j (Err e)
   cells_fault cells left old new sent c after fault.NoMemory s run = tt
   cells_fault cells left old new sent c after fault.Spent s run =
@@ -146,21 +141,18 @@ module _ {M K : Type 0} (f : M → Record) (keeps : K → List Row → Type 0) (
       (subst (λ xs. CellsSoFar cells xs (take n old) (take n new) sent) b
       (subst (λ xs. CellsSoFar xs (drop n cells) (take n old) (take n new) sent) a s)))
 
-  ran_all : (cells : List (Cell M)) (old new : List K) (sent : List Sent) (s : CellsSoFar cells [] old new sent) (qs : List OwnCell)
-      → AreCells f j.cells.items qs → RanEach f j.till qs s.rows cells
-  ran_all cells old new sent s qs h = so_far_all f j.till qs s.rows cells [] (s.runs qs h) refl
+  ran_all : (cells : List (Cell M)) (old new : List K) (sent : List Sent) (s : CellsSoFar cells [] old new sent)
+      → RanEach f j.till j.cells.items s.rows cells
+  ran_all cells old new sent s = subst (λ cs. RanEach f j.till cs s.rows cells) (sym (append-nil s.first) ∙ s.is) s.runs
 
   pub few_sent : (members : ℕ) (cells : List (Cell M)) (old new : List K) (sent : List Sent) → MayAdvance f members (job_in j)
       → CellsSoFar cells [] old new sent → length sent + 2 < 2 ^ 64
   few_sent members cells old new sent may s =
-      let qs = may.plain_job.cells in
-      let ran = ran_all cells old new sent s qs may.is.cells in
-      let few = rows_few f j.till qs s.rows cells ran in
-      let many = as_many f j.till qs s.rows cells ran in
+      let few = rows_few f j.till j.cells.items s.rows cells (ran_all cells old new sent s) in
       let same : length sent ≡ length (packets_of (joined s.rows)) =
       sym (length-map sent (λ (x : Sent). x.packet)) ∙ ap length s.packets in
       let most = may.few in
-      omega (arith, few, many, same, most)
+      omega (arith, few, same, most)
 
   -- the rows are gone; that they were is enough
   pub cells_all : (e : WatchedDone M K) → e.place ≡ j.place → CellsSoFar e.cells.items [] j.kept.items e.kept.items e.sent.items
@@ -173,14 +165,11 @@ module _ {M K : Type 0} (f : M → Record) (keeps : K → List Row → Type 0) (
       let are : s.rows ≡ were.items = sym (with_items_is none s.rows (s.many ∙ sym e.cells.ok.0)) in (
         record { place = j.place; cells = e.cells; rows = were; crossings = e.crossings },
         record {
-          tells = λ p h. record {
-            place = h.place;
-            runs = subst (λ rs. RanEach f p.till p.cells rs e.cells.items) are
-                (subst (λ x. RanEach f x p.cells s.rows e.cells.items) h.till
-                (ran_all e.cells.items j.kept.items e.kept.items e.sent.items s p.cells h.cells));
-            crossings_are = counted ∙ ap (numbers_of t) s.packets ∙ numbers_are t (joined s.rows)
-                ∙ ap (λ rs. crossings t (joined rs)) are;
-          };
+          place = refl;
+          runs = subst (λ rs. RanEach f j.till j.cells.items rs e.cells.items) are
+              (ran_all e.cells.items j.kept.items e.kept.items e.sent.items s);
+          crossings_are = counted ∙ ap (numbers_of t) s.packets ∙ numbers_are t (joined s.rows)
+              ∙ ap (λ rs. crossings t (joined rs)) are;
         },
         record {
           place = place;

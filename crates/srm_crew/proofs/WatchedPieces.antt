@@ -15,22 +15,21 @@ use Rattle.srm_cell.specs.declared.fault.CellFault.{CellFault}
 use Rattle.srm_cell.specs.declared.fault.CellFault.TheVariants as cell
 use Rattle.srm_cell.specs.Cells.{StepOutcome, Full, Spent, Stepped}
 use Rattle.srm_cell.specs.Setting.{traffic_of}
-use Rattle.srm_cell.specs.Jobs.{PlainJob, IsDone, MayAdvance}
+use Rattle.srm_cell.specs.Jobs.{IsDone, MayAdvance, plain_job}
 use Rattle.srm_interfaces.specs.declared.fault.CrewFault.{CrewFault}
 use Rattle.srm_interfaces.specs.declared.fault.CrewFault.TheVariants as crew
 use Rattle.srm_interfaces.specs.declared.watched.WatchedJob.{WatchedJob}
 use Rattle.srm_interfaces.specs.declared.watched.WatchedDone.{WatchedDone}
-use Rattle.srm_interfaces.specs.Crews.{AreJobs, AnyEnds, AdvanceEach, Maps, TellsEach, counted_in, rows_of, sum_at}
+use Rattle.srm_interfaces.specs.Crews.{AnyEnds, AreDone, Maps, counted_in, plain_jobs, rows_of, sum_at}
 use Rattle.srm_interfaces.specs.Faults.{crew_fault_of}
-use Rattle.srm_interfaces.specs.Watches.{AdvanceWatched, AreDone, HaveKept, MapsWatched, WatchEach, job_in, jobs_in}
+use Rattle.srm_interfaces.specs.Watches.{AdvanceWatched, HaveKept, MapsWatched, WatchEach, job_in, jobs_in}
 use Rattle.srm_interfaces.proofs.InPieces.{all_each, all_in}
 use Rattle.srm_interfaces.proofs.Sums.{all_long, rows_of_all, sum_is}
 use Rattle.srm_net.proofs.Basics.{zip_append}
 use Rattle.srm_crew.specs.Shared.{sum_of}
 use Rattle.srm_crew.specs.Pieces.{PutTogether}
 use Rattle.srm_crew.specs.Watched.{MayWatch, SettlesWatched}
-use Rattle.srm_crew.proofs.JobPieces.{any_first, any_last, parted}
-use Rattle.srm_crew.proofs.JobsSeen.{seen_jobs}
+use Rattle.srm_crew.proofs.JobPieces.{any_first, any_last}
 
 module _ {M K : Type 0} (f : M → Record) (k : PlainScenario) (net : Network) where
   -- ---- pieces of jobs that may be watched
@@ -92,23 +91,18 @@ module _ {M K : Type 0} (f : M → Record) (k : PlainScenario) (net : Network) w
     abbrev pub GaveWatched : List (Vec (WatchedJob M K)) → List (Result (Vec (WatchedDone M K)) CellFault) → Type 0
     GaveWatched pieces rs = AllZip (λ (js : Vec (WatchedJob M K)) r. AdvanceWatched f keeps k net js.items r) pieces rs
 
-    none_done : (ps : List PlainJob) → AreJobs f [] ps → AllZip (λ p d. IsDone f (traffic_of k net) p d) ps []
-    none_done [] h = tt
-    none_done (p ∷ ps) h = absurd h
+    in_both : (xs ys : List (WatchedJob M K)) → plain_jobs f (jobs_in xs) ++ plain_jobs f (jobs_in ys) ≡ plain_jobs f (jobs_in (xs ++ ys))
+    in_both xs ys = sym (map-append (plain_job f) (jobs_in xs) (jobs_in ys)) ∙ ap (plain_jobs f) (sym (map-append job_in xs ys))
 
     both_done : (xs ys : List (WatchedJob M K)) (ds dt : List (job.Done M)) → AreDone f k net (jobs_in xs) ds
         → AreDone f k net (jobs_in ys) dt → AreDone f k net (jobs_in (xs ++ ys)) (ds ++ dt)
-    both_done xs ys ds dt h g = record {
-      are = λ ps a.
-          let r = parted f (jobs_in xs) (jobs_in ys) ps (subst (λ l. AreJobs f l ps) (map-append job_in xs ys) a) in
-          subst (λ l. AllZip (λ p d. IsDone f (traffic_of k net) p d) l (ds ++ dt)) (sym r.whole)
-          (zip_append (λ p d. IsDone f (traffic_of k net) p d) r.first ds r.others dt (h.are r.first r.one) (g.are r.others r.more));
-    }
+    both_done xs ys ds dt h g = subst (λ l. AreDone f k net l (ds ++ dt)) (sym (map-append job_in xs ys))
+        (zip_append (λ j d. IsDone f (traffic_of k net) j d) (jobs_in xs) ds (jobs_in ys) dt h g)
 
     all_left : (pieces : List (Vec (WatchedJob M K))) (es : List (Vec (WatchedDone M K))) → GaveWatched pieces (map Ok es)
         → (ds : List (job.Done M)) × AreDone f k net (jobs_in (all_in pieces)) ds
         × WatchEach keeps k net (all_in pieces) ds (all_in es)
-    all_left [] [] z = ([], record { are = none_done }, tt)
+    all_left [] [] z = ([], tt, tt)
     all_left [] (e ∷ es) z = absurd z
     all_left (j ∷ js) [] z = absurd z
     all_left (j ∷ js) (e ∷ es) z =
@@ -119,23 +113,20 @@ module _ {M K : Type 0} (f : M → Record) (k : PlainScenario) (net : Network) w
         )
 
     any_refused : (o : StepOutcome Stepped) (e : CellFault)
-        → ((ps : List PlainJob) → TellsEach {M = M} f (traffic_of k net) ps (Err e) → AnyEnds o ps)
-        → ((js : List (WatchedJob M K)) → AdvanceWatched f keeps k net js (Err e) → AdvanceEach f k net (jobs_in js) (Err e))
-        → (pieces : List (Vec (WatchedJob M K))) (rs : List (Result (Vec (WatchedDone M K)) CellFault)) (ps : List PlainJob)
-        → GaveWatched pieces rs → AreJobs f (jobs_in (all_in pieces)) ps → (i : ℕ) → i < length rs
-        → get_or rs i (Err e) ≡ Err e → AnyEnds o ps
-    any_refused o e tells plain pieces [] ps z h i lt at = absurd (omega arith)
-    any_refused o e tells plain [] (r ∷ rs) ps z h i lt at = absurd z
-    any_refused o e tells plain (j ∷ js) (r ∷ rs) ps z h zero lt at =
-        let c = parted f (jobs_in j.items) (jobs_in (all_in js)) ps
-        (subst (λ l. AreJobs f l ps) (map-append job_in j.items (all_in js)) h) in
-        subst (AnyEnds o) (sym c.whole) (any_first o c.first c.others
-        (tells c.first ((plain j.items (subst (AdvanceWatched f keeps k net j.items) at z.0)).tells c.first c.one)))
-    any_refused o e tells plain (j ∷ js) (r ∷ rs) ps z h (suc i) lt at =
-        let c = parted f (jobs_in j.items) (jobs_in (all_in js)) ps
-        (subst (λ l. AreJobs f l ps) (map-append job_in j.items (all_in js)) h) in
-        subst (AnyEnds o) (sym c.whole) (any_last o c.first c.others
-        (any_refused o e tells plain js rs c.others z.1 c.more i (omega arith) at))
+        → ((js : List (WatchedJob M K)) → AdvanceWatched f keeps k net js (Err e) → AnyEnds o (plain_jobs f (jobs_in js)))
+        → (pieces : List (Vec (WatchedJob M K))) (rs : List (Result (Vec (WatchedDone M K)) CellFault))
+        → GaveWatched pieces rs → (i : ℕ) → i < length rs
+        → get_or rs i (Err e) ≡ Err e → AnyEnds o (plain_jobs f (jobs_in (all_in pieces)))
+    any_refused o e tells pieces [] z i lt at = absurd (omega arith)
+    any_refused o e tells [] (r ∷ rs) z i lt at = absurd z
+    any_refused o e tells (j ∷ js) (r ∷ rs) z zero lt at =
+        subst (AnyEnds o) (in_both j.items (all_in js))
+        (any_first o (plain_jobs f (jobs_in j.items)) (plain_jobs f (jobs_in (all_in js)))
+        (tells j.items (subst (AdvanceWatched f keeps k net j.items) at z.0)))
+    any_refused o e tells (j ∷ js) (r ∷ rs) z (suc i) lt at =
+        subst (AnyEnds o) (in_both j.items (all_in js))
+        (any_last o (plain_jobs f (jobs_in j.items)) (plain_jobs f (jobs_in (all_in js)))
+        (any_refused o e tells js rs z.1 i (omega arith) at))
 
     -- watched jobs whose pieces were advanced, and then put together, were advanced
     pub pieces_watched : (pieces : List (Vec (WatchedJob M K))) (rs : List (Result (Vec (WatchedDone M K)) CellFault))
@@ -144,13 +135,9 @@ module _ {M K : Type 0} (f : M → Record) (k : PlainScenario) (net : Network) w
     pieces_watched pieces rs (Ok v) z p =
         subst (λ l. (ds : List (job.Done M)) × AreDone f k net (jobs_in (all_in pieces)) ds
         × WatchEach keeps k net (all_in pieces) ds l) (sym p.2) (all_left pieces p.0 (subst (GaveWatched pieces) p.1 z))
-    pieces_watched pieces rs (Err cell.NoMemory) z p = record { tells = λ ps h. tt }
-    pieces_watched pieces rs (Err cell.Spent) z p = record {
-      tells = λ ps h. any_refused Spent cell.Spent (λ ps t. t) (λ js a. a) pieces rs ps z h p.0 p.1 p.2;
-    }
-    pieces_watched pieces rs (Err cell.CountFull) z p = record {
-      tells = λ ps h. any_refused Full cell.CountFull (λ ps t. t) (λ js a. a) pieces rs ps z h p.0 p.1 p.2;
-    }
+    pieces_watched pieces rs (Err cell.NoMemory) z p = tt
+    pieces_watched pieces rs (Err cell.Spent) z p = any_refused Spent cell.Spent (λ js a. a) pieces rs z p.0 p.1 p.2
+    pieces_watched pieces rs (Err cell.CountFull) z p = any_refused Full cell.CountFull (λ js a. a) pieces rs z p.0 p.1 p.2
 
     -- ---- their crossings
 
@@ -179,24 +166,19 @@ module _ {M K : Type 0} (f : M → Record) (k : PlainScenario) (net : Network) w
 
     -- all that is left has five numbers for each link
     pub settled_long : (js : List (WatchedJob M K)) (links : ℕ) (r : Result (Vec (WatchedDone M K)) CellFault)
-        → All (λ j. MayAdvance f (length net.hosts) j) (jobs_in js) → length net.links ≡ links → AdvanceWatched f keeps k net js r
+        → length net.links ≡ links → AdvanceWatched f keeps k net js r
         → IfOk r (λ all. All (λ (e : WatchedDone M K). length e.crossings ≡ 5 * links) all.items)
-    settled_long js links (Err e) may is a = tt
-    settled_long js links (Ok v) may is a =
-        let seen = seen_jobs f (length net.hosts) (jobs_in js) may in
-        left_long links js a.0 v.items a.2 (all_long f (traffic_of k net) links seen.0 a.0 is (a.1.are seen.0 seen.1))
+    settled_long js links (Err e) is a = tt
+    settled_long js links (Ok v) is a = left_long links js a.0 v.items a.2 (all_long f k net links (jobs_in js) a.0 is a.1)
 
     -- ---- what a crew tells
 
     -- adding the crossings of all that is left makes of it what a crew tells
     pub maps_settled : (seat : SeatView) (js : List (WatchedJob M K)) (adv : Result (Vec (WatchedDone M K)) CellFault)
         (r : Result (Vec (WatchedDone M K) × SeatView) CrewFault)
-        → All (λ j. MayAdvance f (length net.hosts) j) (jobs_in js) → AdvanceWatched f keeps k net js adv
-        → SettlesWatched seat adv r → MapsWatched f keeps k net seat js r
-    maps_settled seat js (Ok all) (Ok r) may a t =
-        let seen = seen_jobs f (length net.hosts) (jobs_in js) may in
-        let same = λ (w : ℕ). left_sum w js a.0 all.items a.2
-        ∙ sum_is f (traffic_of k net) seen.0 a.0 (a.1.are seen.0 seen.1) w in (
+        → AdvanceWatched f keeps k net js adv → SettlesWatched seat adv r → MapsWatched f keeps k net seat js r
+    maps_settled seat js (Ok all) (Ok r) a t =
+        let same = λ (w : ℕ). left_sum w js a.0 all.items a.2 ∙ sum_is f k net (jobs_in js) a.0 a.1 w in (
           a.0,
           a.1,
           record {
@@ -207,29 +189,26 @@ module _ {M K : Type 0} (f : M → Record) (k : PlainScenario) (net : Network) w
           },
           subst (λ (u : Vec (WatchedDone M K)). WatchEach keeps k net js a.0 u.items) (sym t.0) a.2,
         )
-    maps_settled seat js (Ok all) (Err crew.ShareFull) may a t = record {
-      tells = λ ps h.
-          let done = a.1.are ps h in (
-            rows_of a.0,
-            rows_of_all f (traffic_of k net) ps a.0 done,
-            (
-              t.0,
-              subst (λ n. 2 ^ 47 < slice_index seat.shares t.0 + n)
-                  (left_sum t.0 js a.0 all.items a.2 ∙ sum_is f (traffic_of k net) ps a.0 done t.0) t.1,
-            ),
-          );
-    }
-    maps_settled seat js (Ok all) (Err crew.NoMemory) may a t = absurd t
-    maps_settled seat js (Ok all) (Err crew.Spent) may a t = absurd t
-    maps_settled seat js (Ok all) (Err crew.CountFull) may a t = absurd t
-    maps_settled seat js (Err e) (Ok r) may a t = absurd t
-    maps_settled seat js (Err e) (Err g) may a t =
+    maps_settled seat js (Ok all) (Err crew.ShareFull) a t = (
+      rows_of a.0,
+      rows_of_all f k net (jobs_in js) a.0 a.1,
+      (
+        t.0,
+        subst (λ n. 2 ^ 47 < slice_index seat.shares t.0 + n)
+            (left_sum t.0 js a.0 all.items a.2 ∙ sum_is f k net (jobs_in js) a.0 a.1 t.0) t.1,
+      ),
+    )
+    maps_settled seat js (Ok all) (Err crew.NoMemory) a t = absurd t
+    maps_settled seat js (Ok all) (Err crew.Spent) a t = absurd t
+    maps_settled seat js (Ok all) (Err crew.CountFull) a t = absurd t
+    maps_settled seat js (Err e) (Ok r) a t = absurd t
+    maps_settled seat js (Err e) (Err g) a t =
         subst (λ (x : CrewFault). Maps f k net seat (jobs_in js) (Err x)) (sym t) (as_refused e a)
       where
         as_refused : (e : CellFault) → AdvanceWatched f keeps k net js (Err e) → Maps f k net seat (jobs_in js) (Err (crew_fault_of e))
-        as_refused cell.NoMemory a = record { tells = λ ps h. tt }
-        as_refused cell.Spent a = record { tells = λ ps h. a.tells ps h }
-        as_refused cell.CountFull a = record { tells = λ ps h. a.tells ps h }
+        as_refused cell.NoMemory a = tt
+        as_refused cell.Spent a = a
+        as_refused cell.CountFull a = a
 
 -- what is told of one scenario and network is told of the same under other names
 module _ {M K : Type 0} (f : M → Record) where

@@ -9,9 +9,8 @@ use Rattle.srm_cell.specs.declared.cell.Cell.{Cell}
 use Rattle.srm_cell.specs.declared.job.Done as job
 use Rattle.srm_cell.specs.declared.fault.CellFault.{CellFault}
 use Rattle.srm_cell.specs.declared.fault.CellFault.TheVariants as fault
-use Rattle.srm_cell.specs.Cells.{PlainCell}
 use Rattle.srm_cell.specs.Jobs.{Advances, MayAdvance}
-use Rattle.srm_cell.specs.Views.{IsCell}
+use Rattle.srm_cell.specs.Views.{IsSoundCell}
 use Rattle.srm_ledger.specs.Seats.{SeatView}
 use Rattle.srm_interfaces.specs.declared.fault.CrewFault.{CrewFault}
 use Rattle.srm_interfaces.specs.declared.fault.CrewFault.TheVariants as crew
@@ -27,9 +26,9 @@ use Rattle.srm_interfaces.specs.Watches.{HaveKept, Watches, job_in, jobs_in}
 abbrev pub IsWatchOn : {W : Type 0} → Watching W → PlainScenario → Network → Type 0
 IsWatchOn w k net = (w.session.scenario.now ≡ k) × (w.session.net.now ≡ net)
 
--- the cell is that of one of so many members
+-- the cell is sound, and that of one of so many members
 abbrev pub IsOfMember : {M : Type 0} → (M → Record) → ℕ → Cell M → Type 0
-IsOfMember f members c = (m : ℕ) × (p : PlainCell) × IsCell f m c p × (m < members)
+IsOfMember f members c = IsSoundCell f c × (c.number < members)
 
 module _ {M K : Type 0} where
   -- what advancing one watched job tells: what is left of what is done of it; or why not, as without a watch, but

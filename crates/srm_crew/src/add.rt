@@ -1,10 +1,11 @@
 //! Crossings, added to a ledger.
-ghost use Rattle.std.specs.Prelude.{◌≡◌, ◌<◌, ◌≤◌, ◌+◌, ◌*◌, ◌^◌, ℕ, List, length, All, Err, IfErr, IfOk, MatchResult};
+ghost use Rattle.std.specs.Prelude.{◌≡◌, ◌<◌, ◌*◌, List, length, All, Err, IfErr, IfOk, MatchResult};
 ghost use Rattle.srm_ledger.specs.Counts.{place_of};
-ghost use Rattle.srm_cell.specs.Jobs.{PlainJob};
-ghost use Rattle.srm_cell.specs.Setting.{Traffic};
+ghost use Rattle.srm_net.specs.Network.{Network};
+ghost use Rattle.srm_scenario.specs.Plain.{PlainScenario};
+ghost use Rattle.srm_cell.specs.declared.job.Job.{Job as DeclaredJob};
 ghost use Rattle.srm_interfaces.specs.Faults.{crew_fault_of};
-ghost use Rattle.srm_interfaces.specs.Crews.{HasGrown, IsPast, counted_in, TellsEach, TellsMap};
+ghost use Rattle.srm_interfaces.specs.Crews.{HasGrown, IsPast, counted_in, AdvanceEach, Maps};
 ghost use Rattle.srm_crew.specs.Shared.{sum_of};
 ghost use Rattle.srm_crew.specs.Watched.{SettlesWatched};
 
@@ -99,13 +100,11 @@ pub(crate) fn settle<M: Participant>(
     advanced: Result<Vec<Done<M>>, CellFault>,
 ) -> Result<(Vec<Done<M>>, Seat), CrewFault>
     requires seat { seat.ledger ≡ ledger.now.name }
-    requires known { (s : Traffic) × (ps : List PlainJob) × (s.links ≡ ledger.now.links)
-        × TellsEach M.plain s ps advanced }
+    requires long { IfOk advanced (λ all. All (λ d. length d.crossings ≡ 5 * ledger.now.links) all.items) }
     ensures refused { MatchResult advanced (λ _. IfErr result (λ e. e ≡ CrewFault.ShareFull))
         (λ e. result ≡ Err (crew_fault_of e)) }
-    ensures told { (s : Traffic) (ps : List PlainJob) → s.links ≡ ledger.now.links
-        → TellsEach M.plain s ps advanced
-        → TellsMap M.plain s seat ps result }
+    ensures told { (k : PlainScenario) (net : Network) (js : List (DeclaredJob M)) → AdvanceEach M.plain k net js advanced
+        → Maps M.plain k net seat js result }
 {
     let all = match advanced {
         Ok(all) => all,

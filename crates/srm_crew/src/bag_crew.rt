@@ -1,10 +1,10 @@
 //! A crew of threads of its own, which take jobs from a bag.
-ghost use Rattle.std.specs.Prelude.{◌≡◌, ◌≤◌, ◌*◌, ◌∷◌, ◌++◌, [], ℕ, List, length, map, All, Ok, IfOk};
+ghost use Rattle.std.specs.Prelude.{◌≡◌, ◌≤◌, ◌*◌, length, map, All, Ok, IfOk};
 ghost use Rattle.std.specs.List.{range_with_len};
 ghost use Rattle.srm_net.specs.Limits.{most_nodes};
 ghost use denote.Param.Send.{IsSync};
-ghost use Rattle.srm_cell.specs.Jobs.{PlainJob, MayAdvance, Advances};
-ghost use Rattle.srm_interfaces.specs.Crews.{AreJobs, Maps};
+ghost use Rattle.srm_cell.specs.Jobs.{MayAdvance, Advances};
+ghost use Rattle.srm_interfaces.specs.Crews.{Maps};
 ghost use Rattle.srm_crew.specs.Shared.{TellsAll};
 
 use crate::bag::Bag;
@@ -131,8 +131,6 @@ impl<R: Threads + Wait + Sync> Crew<Box<dyn Member>> for BagCrew<R, OpenGate> {
 
     ghost ready = { λ _. IsSync R.row };
 
-    ghost serves = { λ _ _ _. Unit {0} };
-
     // It keeps no record of its calls, and one that it answers leaves it as it was.
     ghost handed = { λ a _ b. b ≡ a };
 
@@ -150,7 +148,6 @@ impl<R: Threads + Wait + Sync> Crew<Box<dyn Member>> for BagCrew<R, OpenGate> {
         jobs: Vec<Job>,
     ) -> Result<(Vec<Done>, Seat), CrewFault>
         requires ready { IsSync R.row }
-        requires serves { Unit {0} }
         requires jobs { All (λ j. MayAdvance (λ b. (⟦<dyn Member as Member>⟧ b.vtable).plain b.value)
             (length net.now.hosts) j) jobs.items }
         requires many { length jobs.items ≤ most_nodes }
@@ -158,11 +155,9 @@ impl<R: Threads + Wait + Sync> Crew<Box<dyn Member>> for BagCrew<R, OpenGate> {
         requires links { ledger.now.links ≡ length net.now.links }
         requires seat { seat.ledger ≡ ledger.now.name }
         ensures ready { IsSync R.row }
-        ensures serves { Unit {0} }
         ensures done { Maps (λ b. (⟦<dyn Member as Member>⟧ b.vtable).plain b.value) scenario.now net.now seat
             jobs.items result }
-        ensures handed { IfOk result (λ _. (ps : List PlainJob)
-            → AreJobs (λ b. (⟦<dyn Member as Member>⟧ b.vtable).plain b.value) jobs.items ps → self.new ≡ self.old) }
+        ensures handed { IfOk result (λ _. self.new ≡ self.old) }
     {
         self.map_with_gate(alloc, scenario, net, ledger, seat, jobs)
     }

@@ -1,8 +1,7 @@
 //! Jobs, advanced one after the other.
-ghost use Rattle.std.specs.Prelude.{◌≡◌, ℕ, List, length, All};
-ghost use Rattle.srm_cell.specs.Setting.{setting_of};
-ghost use Rattle.srm_cell.specs.Jobs.{PlainJob, MayAdvance};
-ghost use Rattle.srm_interfaces.specs.Crews.{AreJobs, AdvanceEach};
+ghost use Rattle.std.specs.Prelude.{length, All};
+ghost use Rattle.srm_cell.specs.Jobs.{MayAdvance};
+ghost use Rattle.srm_interfaces.specs.Crews.{AdvanceEach};
 
 use srm_cell::advance::advance;
 use srm_cell::fault::CellFault;

@@ -1,10 +1,10 @@
 //! The work of a call in pieces, and what comes of them.
-ghost use Rattle.std.specs.Prelude.{◌≡◌, ◌≤◌, ◌+◌, ◌-◌, ◌*◌, ℕ, length, IfOk, map, All};
+ghost use Rattle.std.specs.Prelude.{◌≡◌, ◌≤◌, ◌+◌, ◌-◌, ◌*◌, length, IfOk, map, All};
 ghost use Rattle.std.specs.List.{AllZip};
 ghost use Rattle.std.specs.Option.{is_some};
-ghost use Rattle.srm_cell.specs.Cells.{PlainCell, before, next_event};
+ghost use Rattle.srm_cell.specs.Cells.{before};
 ghost use Rattle.srm_cell.specs.Crossings.{joined};
-ghost use Rattle.srm_cell.specs.Views.{IsCell};
+ghost use Rattle.srm_cell.specs.Views.{IsSoundCell, event_of};
 ghost use Rattle.srm_crew.specs.Pieces.{IsJobsOf, AreHearersOf, IsAdvanced, IsHeard, IsAdvancedAs, HeardTogether};
 ghost use Rattle.srm_crew.specs.Pieces.{PutTogether};
 
@@ -41,7 +41,7 @@ fn due_in<M: Participant, K: Drop>(job: &WatchedJob<M, K>) -> usize {
 
 /// Whether something is due in the cell before tick `till`.
 pub(crate) fn is_due<M: Participant>(cell: &Cell<M>, till: u64) -> bool
-    ensures { (m : ℕ) (p : PlainCell) → IsCell M.plain m cell.now p → result ≡ is_some (before till (next_event m p)) }
+    ensures { IsSoundCell M.plain cell.now → result ≡ is_some (before till (event_of M.plain cell.now)) }
 {
     match cell.next_time() {
         Some(time) => time < till,

@@ -1,9 +1,9 @@
 //! A crew of one.
-ghost use Rattle.std.specs.Prelude.{◌≡◌, ◌≤◌, ◌∷◌, ◌++◌, [], ℕ, List, length, map, All, IfOk};
+ghost use Rattle.std.specs.Prelude.{◌≡◌, ◌≤◌, length, map, All, IfOk};
 ghost use Rattle.std.specs.List.{range_with_len};
 ghost use Rattle.srm_net.specs.Limits.{most_nodes};
-ghost use Rattle.srm_cell.specs.Jobs.{PlainJob, MayAdvance};
-ghost use Rattle.srm_interfaces.specs.Crews.{AreJobs, Maps};
+ghost use Rattle.srm_cell.specs.Jobs.{MayAdvance};
+ghost use Rattle.srm_interfaces.specs.Crews.{Maps};
 
 use crate::add::settle;
 use crate::each::advance_each;
@@ -33,8 +33,6 @@ impl<M: Participant> Crew<M> for PlainCrew {
 
     ghost ready = { λ _. Unit {0} };
 
-    ghost serves = { λ _ _ _. Unit {0} };
-
     // It keeps no record of its calls, and one that it answers leaves it as it was.
     ghost handed = { λ a _ b. b ≡ a };
 
@@ -52,17 +50,14 @@ impl<M: Participant> Crew<M> for PlainCrew {
         jobs: Vec<Job<M>>,
     ) -> Result<(Vec<Done<M>>, Seat), CrewFault>
         requires ready { Unit {0} }
-        requires serves { Unit {0} }
         requires jobs { All (λ j. MayAdvance M.plain (length net.now.hosts) j) jobs.items }
         requires many { length jobs.items ≤ most_nodes }
         requires places { map (λ j. j.place) jobs.items ≡ range_with_len 0 (length jobs.items) }
         requires links { ledger.now.links ≡ length net.now.links }
         requires seat { seat.ledger ≡ ledger.now.name }
         ensures ready { Unit {0} }
-        ensures serves { Unit {0} }
         ensures done { Maps M.plain scenario.now net.now seat jobs.items result }
-        ensures handed { IfOk result (λ _. (ps : List PlainJob) → AreJobs M.plain jobs.items ps
-            → self.new ≡ self.old) }
+        ensures handed { IfOk result (λ _. self.new ≡ self.old) }
     {
         let advanced = advance_each(alloc, scenario, net, jobs);
         settle(ledger, seat, advanced)

@@ -1,10 +1,10 @@
 //! A crew of the threads that `rayon` runs.
-ghost use Rattle.std.specs.Prelude.{◌≡◌, ◌≤◌, ◌∷◌, ◌++◌, [], ℕ, List, length, map, All, IfOk};
+ghost use Rattle.std.specs.Prelude.{◌≡◌, ◌≤◌, length, map, All, IfOk};
 ghost use Rattle.std.specs.List.{range_with_len};
 ghost use Rattle.srm_net.specs.Limits.{most_nodes};
 ghost use denote.Param.Send.{IsSync};
-ghost use Rattle.srm_cell.specs.Jobs.{PlainJob, MayAdvance, Advances};
-ghost use Rattle.srm_interfaces.specs.Crews.{AdvanceEach, AreJobs, GathersEach, Maps};
+ghost use Rattle.srm_cell.specs.Jobs.{MayAdvance, Advances};
+ghost use Rattle.srm_interfaces.specs.Crews.{AdvanceEach, GathersEach, Maps};
 
 use crate::add::settle;
 use rayon::current_num_threads;
@@ -90,8 +90,6 @@ impl<R: Threads + Sync> Crew<Box<dyn Member>> for PoolCrew<R> {
 
     ghost ready = { λ _. IsSync R.row };
 
-    ghost serves = { λ _ _ _. Unit {0} };
-
     // It keeps no record of its calls, and one that it answers leaves it as it was.
     ghost handed = { λ a _ b. b ≡ a };
 
@@ -109,17 +107,14 @@ impl<R: Threads + Sync> Crew<Box<dyn Member>> for PoolCrew<R> {
         jobs: Vec<Job>,
     ) -> Result<(Vec<Done>, Seat), CrewFault>
         requires ready { IsSync R.row }
-        requires serves { Unit {0} }
         requires jobs { All (λ j. MayAdvance (λ b. (⟦<dyn Member as Member>⟧ b.vtable).plain b.value) (length net.now.hosts) j) jobs.items }
         requires many { length jobs.items ≤ most_nodes }
         requires places { map (λ j. j.place) jobs.items ≡ range_with_len 0 (length jobs.items) }
         requires links { ledger.now.links ≡ length net.now.links }
         requires seat { seat.ledger ≡ ledger.now.name }
         ensures ready { IsSync R.row }
-        ensures serves { Unit {0} }
         ensures done { Maps (λ b. (⟦<dyn Member as Member>⟧ b.vtable).plain b.value) scenario.now net.now seat jobs.items result }
-        ensures handed { IfOk result (λ _. (ps : List PlainJob)
-            → AreJobs (λ b. (⟦<dyn Member as Member>⟧ b.vtable).plain b.value) jobs.items ps → self.new ≡ self.old) }
+        ensures handed { IfOk result (λ _. self.new ≡ self.old) }
     {
         let advanced = advance_in_pool(&self.rt, alloc, scenario, net, jobs);
         settle(ledger, seat, advanced)

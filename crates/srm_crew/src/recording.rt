@@ -1,9 +1,9 @@
 //! A crew that notes what it is handed.
-ghost use Rattle.std.specs.Prelude.{◌≡◌, ◌≤◌, ◌∷◌, ◌++◌, [], ℕ, List, length, map, All, IfOk};
+ghost use Rattle.std.specs.Prelude.{◌≡◌, ◌≤◌, ◌∷◌, ◌++◌, [], length, map, All, IfOk};
 ghost use Rattle.std.specs.List.{range_with_len};
 ghost use Rattle.srm_net.specs.Limits.{most_nodes};
-ghost use Rattle.srm_cell.specs.Jobs.{PlainJob, MayAdvance};
-ghost use Rattle.srm_interfaces.specs.Crews.{AreJobs, Maps};
+ghost use Rattle.srm_cell.specs.Jobs.{MayAdvance};
+ghost use Rattle.srm_interfaces.specs.Crews.{Maps, plain_jobs};
 ghost use Rattle.srm_crew.specs.Notes.{notes_of, noted_none, noted_more};
 
 use crate::plain::PlainCrew;
@@ -59,8 +59,7 @@ impl Recording {
 
 // A note of each job.
 fn notes<M: Participant>(alloc: Global, jobs: &[Job<M>]) -> Result<Sequence<Note>, AllocError>
-    ensures { IfOk result (λ v. (ps : List PlainJob)
-        → AreJobs M.plain jobs.now ps → v ≡ notes_of ps) }
+    ensures { IfOk result (λ v. v ≡ notes_of (plain_jobs M.plain jobs.now)) }
 {
     let mut all = Sequence::new(alloc);
     for job in jobs {
@@ -76,8 +75,6 @@ fn notes<M: Participant>(alloc: Global, jobs: &[Job<M>]) -> Result<Sequence<Note
 
 impl<M: Participant> Crew<M> for Recording {
     ghost ready = { λ _. Unit {0} };
-
-    ghost serves = { λ _ _ _. Unit {0} };
 
     ghost handed = { λ a calls b. b.calls.items ≡ a.calls.items ++ map notes_of calls };
 
@@ -95,17 +92,15 @@ impl<M: Participant> Crew<M> for Recording {
         jobs: Vec<Job<M>>,
     ) -> Result<(Vec<Done<M>>, Seat), CrewFault>
         requires ready { Unit {0} }
-        requires serves { Unit {0} }
         requires jobs { All (λ j. MayAdvance M.plain (length net.now.hosts) j) jobs.items }
         requires many { length jobs.items ≤ most_nodes }
         requires places { map (λ j. j.place) jobs.items ≡ range_with_len 0 (length jobs.items) }
         requires links { ledger.now.links ≡ length net.now.links }
         requires seat { seat.ledger ≡ ledger.now.name }
         ensures ready { Unit {0} }
-        ensures serves { Unit {0} }
         ensures done { Maps M.plain scenario.now net.now seat jobs.items result }
-        ensures handed { IfOk result (λ _. (ps : List PlainJob) → AreJobs M.plain jobs.items ps
-            → self.new.calls.items ≡ self.old.calls.items ++ map notes_of (ps ∷ [])) }
+        ensures handed { IfOk result (λ _. self.new.calls.items
+            ≡ self.old.calls.items ++ map notes_of (plain_jobs M.plain jobs.items ∷ [])) }
     {
         let Ok(call) = notes(alloc, jobs.as_slice()) else {
             return Err(CrewFault::NoMemory);

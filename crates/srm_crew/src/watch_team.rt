@@ -1,12 +1,10 @@
 //! A crew of threads that live for a whole run, and keep of rows what a watch keeps.
-ghost use Rattle.std.specs.Prelude.{◌≡◌, ◌≤◌, ◌∷◌, ◌++◌, [], List, length, All, IfOk};
+ghost use Rattle.std.specs.Prelude.{◌≡◌, ◌≤◌, length, All, IfOk};
 ghost use Rattle.std.specs.List.{AllZip};
 ghost use Rattle.srm_cell.specs.Setting.{traffic_of};
-ghost use Rattle.srm_cell.specs.Jobs.{PlainJob};
 ghost use Rattle.srm_cell.specs.Hearing.{IsSent, packets_in};
-ghost use Rattle.srm_interfaces.specs.Crews.{AreJobs};
 ghost use Rattle.srm_interfaces.specs.Hearers.{GroupsMayHear, TellsHeard};
-ghost use Rattle.srm_interfaces.specs.Watches.{jobs_in, AdvanceWatched, MayMap, MapsWatched};
+ghost use Rattle.srm_interfaces.specs.Watches.{AdvanceWatched, MayMap, MapsWatched};
 ghost use Rattle.srm_crew.specs.Watched.{IsWatchOn, MayWatch};
 
 use crate::add::settle_watched;
@@ -210,8 +208,7 @@ impl<'a, R: Wait, M: Participant, K: Drop, W: Watch<K> + Copy, J: Naming> WatchC
         ensures serves { IsWatchOn self.new.work session.entry.scenario.now session.entry.net.now }
         ensures done { MapsWatched M.plain (W.keeps watch) session.entry.scenario.now session.entry.net.now seat
             jobs.items result }
-        ensures handed { IfOk result (λ _. (ps : List PlainJob) → AreJobs M.plain (jobs_in jobs.items) ps
-            → (self.new.work ≡ self.old.work) × (self.new.team.room ≡ self.old.team.room)
+        ensures handed { IfOk result (λ _. (self.new.work ≡ self.old.work) × (self.new.team.room ≡ self.old.team.room)
             × (self.new.few ≡ self.old.few)) }
         ensures same { (self.new.work ≡ self.old.work) × (self.new.team.room ≡ self.old.team.room)
             × (self.new.few ≡ self.old.few) }

@@ -1,24 +1,18 @@
 -- Jobs as crews may be handed them.
-use Rattle.std.proofs.Common.{◌≡◌, ℕ, zero, suc, ◌+◌, ◌<◌, ◌≤◌, List, [], ◌∷◌, ◌++◌, length, Ok, refl, sym, ap, ◌∙◌, subst, arith}
+use Rattle.std.proofs.Common.{◌≡◌, ℕ, zero, suc, ◌+◌, ◌<◌, ◌≤◌, List, [], ◌∷◌, ◌++◌, length, refl, sym, ap, ◌∙◌, subst, arith}
 use Rattle.std.proofs.Common.{add-zero, zero-add, add-one, All, length-append, map}
 use Rattle.std.specs.List.{AllZip, range_with_len}
 use Rattle.std.proofs.lemmas.List.{length-map, map-append}
-use Rattle.std.proofs.lemmas.List.Elements.{All-nil, All-cons, All-head, All-tail, All-push}
-use Rattle.std.specs.Global.{Vec}
+use Rattle.std.proofs.lemmas.List.Elements.{All-nil, All-cons, All-push}
 use Rattle.srm_net.specs.Network.{Network}
-use Rattle.srm_scenario.specs.Plain.{PlainScenario}
-use Rattle.srm_member.specs.declared.row.Row.{Row}
 use Rattle.srm_member.specs.Record.{Record, fixed_part}
 use Rattle.srm_scenario.specs.declared.mark.Mark.{Mark}
 use Rattle.srm_ledger.specs.Seats.{LedgerView, SeatView}
 use Rattle.srm_cell.specs.declared.cell.Cell.{Cell}
 use Rattle.srm_cell.specs.declared.job.Job.{Job}
-use Rattle.srm_cell.specs.declared.job.Done as job
-use Rattle.srm_cell.specs.Setting.{Traffic, traffic_of}
-use Rattle.srm_cell.specs.Cells.{new_cell}
-use Rattle.srm_cell.specs.Views.{IsNew}
-use Rattle.srm_cell.specs.Jobs.{OwnCell, PlainJob, AreMembers, AreCells, MayAdvance, RanEach, IsDone}
-use Rattle.srm_interfaces.specs.Crews.{AreJobs, Maps}
+use Rattle.srm_cell.specs.Cells.{OwnCell}
+use Rattle.srm_cell.specs.Views.{IsNew, IsSoundCell}
+use Rattle.srm_cell.specs.Jobs.{MayAdvance}
 use Rattle.srm_interfaces.specs.declared.watched.WatchedJob.{WatchedJob}
 use Rattle.srm_interfaces.specs.Watches.{HaveKept, job_in, jobs_in}
 use Rattle.srm_interfaces.specs.Watches as watches
@@ -51,43 +45,19 @@ module _ {M : Type 0} (f : M → Record) (n : ℕ) where
   -- ---- what is done
 
   pub may_go_on : (j : Job M) → AreKnown f n j.cells.items → j.till ≤ end_of_time → MayAdvance f n j
-  may_go_on j known soon = record {
-    plain_job = record { place = j.place; till = j.till; cells = known.seen };
-    is = record { place = refl; till = refl; cells = known.are };
-    till = soon;
-    few = known.few;
-    of_members = known.of_members;
-  }
+  may_go_on j known soon = record { sound = known.sound; till = soon; few = known.few; of_members = known.of_members }
 
   pub none_known : AreKnown {M = M} f n []
-  none_known = record { seen = []; are = tt; of_members = tt; few = omega arith }
+  none_known = record { sound = All-nil (IsSoundCell f); of_members = tt; few = omega arith }
 
   -- a new cell of a member, alone
   pub new_known : (r : Record) (script : List Mark) (sent : ℕ) (c : Cell M) (cs : List (Cell M)) → cs ≡ c ∷ [] → IsNew f r script sent c
       → (fixed_part r).member < n → AreKnown f n cs
-  new_known r script sent c cs e new lt = record {
-    seen = record { member = (fixed_part r).member; cell = new_cell r script sent } ∷ [];
-    are = subst (λ l. AreCells f l (record { member = (fixed_part r).member; cell = new_cell r script sent } ∷ [])) (sym e) (new, tt);
-    of_members = (lt, tt);
+  new_known r script sent c cs e new lt = subst (AreKnown f n) (sym e) (record {
+    sound = All-cons (IsSoundCell f) c [] new.sound (All-nil (IsSoundCell f));
+    of_members = (subst (λ (q : OwnCell). q.member < n) (sym new.is) lt, tt);
     few = omega arith;
-  }
-
-  -- jobs that may be advanced, as they are seen
-  abbrev Fit : List PlainJob → Type 0
-  Fit [] = Unit {0}
-  Fit (p ∷ ps) = ((length p.cells ≤ 1024) × AreMembers n p.cells) × Fit ps
-
-  fit_jobs : (js : List (Job M)) → All (λ j. MayAdvance f n j) js → (ps : List PlainJob) × AreJobs f js ps × Fit ps
-  fit_jobs [] h = ([], tt, tt)
-  fit_jobs (j ∷ js) h =
-      let one = All-head (λ j. MayAdvance f n j) j js h in
-      let more = fit_jobs js (All-tail (λ j. MayAdvance f n j) j js h) in
-      (one.plain_job ∷ more.0, (one.is, more.1), ((one.few, one.of_members), more.2))
-
-  -- the seat is still one of its ledger
-  pub same_ledger : (k : PlainScenario) (net : Network) (seat : SeatView) (js : List (Job M)) (r : Vec (job.Done M) × SeatView)
-      → MayMap f n js → Maps f k net seat js (Ok r) → r.1.ledger ≡ seat.ledger
-  same_ledger k net seat js r h m = let fit = fit_jobs js h.jobs in (m.tells fit.0 fit.1).1.ledger
+  })
 
 module _ {M K : Type 0} where
   jobs_are : (js : List (Job M)) (ws : List (WatchedJob M K)) → AllZip (λ j w. IsWatchedAs j w) js ws → jobs_in ws ≡ js

@@ -7,7 +7,7 @@ use Rattle.srm_cell.specs.declared.job.Job.{Job}
 use Rattle.srm_cell.specs.declared.cell.Cell.{Cell}
 use Rattle.srm_interfaces.specs.declared.watched.WatchedJob.{WatchedJob}
 use Rattle.srm_interfaces.specs.Watches.{HaveKept, job_in}
-use Rattle.srm_cell.specs.Jobs.{OwnCell, AreMembers, AreCells, MayAdvance}
+use Rattle.srm_cell.specs.Jobs.{AreMembers, AreSound, MayAdvance, own_cells}
 
 module _ {M : Type 0} where
   -- a crew may be handed these jobs: each may be advanced, they stand in the order of their places, and are few
@@ -16,12 +16,11 @@ module _ {M : Type 0} where
     pub places : map (λ j. j.place) js ≡ range_with_len 0 (length js)
     pub few : length js ≤ most_nodes
 
-  -- these are cells of so many members, and few
+  -- these are sound cells of so many members, and few
   pub record AreKnown (f : M → Record) (members : ℕ) (cs : List (Cell M)) : Type 0 where
-    pub seen : List OwnCell
-    pub are : AreCells f cs seen
-    pub of_members : AreMembers members seen
-    pub few : length seen ≤ 1024
+    pub sound : AreSound f cs
+    pub of_members : AreMembers members (own_cells f cs)
+    pub few : length cs ≤ 1024
 
 -- the watched job is this one, and something is kept of each of its cells
 abbrev pub IsWatchedAs : {M K : Type 0} → Job M → WatchedJob M K → Type 0

@@ -1,63 +1,79 @@
--- Cells in groups: each seen as the cell of its member.
-use Rattle.std.proofs.Common.{◌≡◌, ℕ, zero, suc, ◌+◌, ◌*◌, ◌/◌, ◌%◌, ◌<◌, ◌≤◌, ◌⊎◌, inl, inr, List, [], ◌∷◌, ◌++◌, length, Some}
-use Rattle.std.proofs.Common.{refl, sym, ap, ◌∙◌, subst, arith, slice_get, slice_set, get_or, add-zero, zero-add, length-append, append-nil}
+-- Cells in groups, in the order of their members.
+use Rattle.std.proofs.Common.{◌≡◌, ℕ, suc, ◌+◌, ◌<◌, ◌≤◌, ◌⊎◌, inl, inr, List, [], ◌∷◌, ◌++◌, length, map}
+use Rattle.std.proofs.Common.{refl, sym, ap, ◌∙◌, subst, arith, add-zero, add-one, length-append, append-nil}
 use Rattle.std.proofs.Common.{append_assoc}
-use Rattle.std.proofs.Math.Nat.{suc-mul}
-use Rattle.std.proofs.lemmas.List.{map-append}
-use native.Mathlib.Nat.{div-add-mod', mod-lt}
+use Rattle.std.proofs.lemmas.List.{length-map, map-append}
+use Rattle.std.proofs.lemmas.List.Elements.{All-nil, All-cons, All-head, All-tail}
+use Rattle.std.specs.List.{range_with_len}
 use Rattle.std.specs.Global.{Vec}
 use Rattle.srm_member.specs.Record.{Record}
 use Rattle.srm_cell.specs.declared.cell.Cell.{Cell}
 use Rattle.srm_cell.specs.Cells.{PlainCell}
-use Rattle.srm_cell.specs.Views.{IsCell}
-use Rattle.srm_cell.specs.Jobs as cell
-use Rattle.srm_engine.specs.Seen.{AreCellsInOrder}
-use Rattle.srm_model.specs.WindowRuns.{own_cells}
+use Rattle.srm_cell.specs.Views.{IsSoundCell, plain_cell}
+use Rattle.srm_cell.specs.Jobs.{AreSound, own_cells}
+use Rattle.srm_engine.specs.Seen.{AreFrom, AreInOrder, plain_cells}
+use Rattle.srm_model.specs.WindowRuns.{cells_from}
 use Rattle.srm_interfaces.proofs.GroupedLemmas.{all_in_append}
 use Rattle.srm_engine.specs.Groups.{AreCuts, AreFull, sizes, all_in}
-use Rattle.srm_model.proofs.RunLemmas.{shifted}
-use Rattle.std.proofs.lemmas.Option.{same_Some}
+
+-- ---- cells of members that follow one another
+
+same_first : {A : Type 0} (x y : A) (xs ys : List A) → x ∷ xs ≡ y ∷ ys → (x ≡ y) × (xs ≡ ys)
+same_first x y xs ys e = (cc, cc)
 
 module _ {M : Type 0} (f : M → Record) where
-  -- the cells are those of member i and on
-  abbrev pub AreFrom : ℕ → List (Cell M) → List PlainCell → Type 0
-  AreFrom i cs ps = cell.AreCells f cs (own_cells i ps)
+  pub none_from : (i : ℕ) → AreFrom f i []
+  none_from i = record { sound = All-nil (IsSoundCell f); numbers = refl }
 
-  from_each : (i : ℕ) (cs : List (Cell M)) (ps : List PlainCell) → length cs ≡ length ps
-      → ((j : ℕ) (c : Cell M) (p : PlainCell) → slice_get cs j ≡ Some c → slice_get ps j ≡ Some p → IsCell f (i + j) c p)
-      → AreFrom i cs ps
-  from_each i [] [] len each = tt
-  from_each i [] (p ∷ ps) len each = absurd (omega arith)
-  from_each i (c ∷ cs) [] len each = absurd (omega arith)
-  from_each i (c ∷ cs) (p ∷ ps) len each =
-      let first : IsCell f i c p = rw add-zero at (each 0 c p refl refl) in
-      (first, from_each (suc i) cs ps (omega arith) (λ j d q a b. subst (λ k. IsCell f k d q) (shifted i j) (each (suc j) d q a b)))
+  pub first_from : (i : ℕ) (c : Cell M) (cs : List (Cell M)) → AreFrom f i (c ∷ cs) → (c.number ≡ i) × AreFrom f (suc i) cs
+  first_from i c cs h =
+      let r = same_first c.number i (map (λ (x : Cell M). x.number) cs) (range_with_len (i + 1) (length cs)) h.numbers in (
+        r.0,
+        record {
+          sound = All-tail (IsSoundCell f) c cs h.sound;
+          numbers = r.1 ∙ ap (λ k. range_with_len k (length cs)) (add-one i);
+        },
+      )
 
-  as_many_from : (i : ℕ) (cs : List (Cell M)) (ps : List PlainCell) → AreFrom i cs ps → length cs ≡ length ps
-  as_many_from i [] [] h = refl
-  as_many_from i [] (p ∷ ps) h = absurd h
-  as_many_from i (c ∷ cs) [] h = absurd h
-  as_many_from i (c ∷ cs) (p ∷ ps) h = ap suc (as_many_from (suc i) cs ps h.1)
-
-  pub each_from : (i : ℕ) (cs : List (Cell M)) (ps : List PlainCell) → AreFrom i cs ps → (j : ℕ) (c : Cell M) (p : PlainCell)
-      → slice_get cs j ≡ Some c → slice_get ps j ≡ Some p → IsCell f (i + j) c p
-  each_from i [] [] h j c p a b = cc
-  each_from i [] (q ∷ ps) h j c p a b = absurd h
-  each_from i (x ∷ cs) [] h j c p a b = absurd h
-  each_from i (x ∷ cs) (q ∷ ps) h zero c p a b =
-      let one : IsCell f i c p = subst (λ y. IsCell f i y p) (same_Some x c a) (subst (λ y. IsCell f i x y) (same_Some q p b) h.0) in
-      rw add-zero one
-  each_from i (x ∷ cs) (q ∷ ps) h (suc j) c p a b = subst (λ k. IsCell f k c p) (sym (shifted i j)) (each_from (suc i) cs ps h.1 j c p a b)
-
-  pub from_seen : (cs : List (Cell M)) (ps : List PlainCell) → AreCellsInOrder f cs ps → AreFrom 0 cs ps
-  from_seen cs ps h = from_each 0 cs ps h.as_many (λ j c p a b. subst (λ k. IsCell f k c p) (sym (zero-add j)) (h.each j c p a b))
-
-  pub seen_from : (cs : List (Cell M)) (ps : List PlainCell) → AreFrom 0 cs ps → AreCellsInOrder f cs ps
-  seen_from cs ps h = record {
-    as_many = as_many_from 0 cs ps h;
-    each =
-        λ j c p a b. subst (λ k. IsCell f k c p) (zero-add j) (each_from 0 cs ps h j c p a b);
+  pub more_from : (i : ℕ) (c : Cell M) (cs : List (Cell M)) → IsSoundCell f c → c.number ≡ i → AreFrom f (suc i) cs
+      → AreFrom f i (c ∷ cs)
+  more_from i c cs sound number h = record {
+    sound = All-cons (IsSoundCell f) c cs sound h.sound;
+    numbers = (λ k. number k ∷ h.numbers k) ∙ ap (λ k. i ∷ range_with_len k (length cs)) (sym (add-one i));
   }
+
+  pub both_from : (i : ℕ) (cs ds : List (Cell M)) → AreFrom f i (cs ++ ds) → AreFrom f i cs × AreFrom f (i + length cs) ds
+  both_from i [] ds h = (none_from i, subst (λ k. AreFrom f k ds) (sym (add-zero i)) h)
+  both_from i (c ∷ cs) ds h =
+      let r = first_from i c (cs ++ ds) h in
+      let more = both_from (suc i) cs ds r.1 in
+      let at : suc i + length cs ≡ i + suc (length cs) = omega arith in (
+        more_from i c cs (All-head (IsSoundCell f) c (cs ++ ds) h.sound) r.0 more.0,
+        subst (λ k. AreFrom f k ds) at more.1,
+      )
+
+  -- the cells as they are seen, each with its member
+  pub own_from : (i : ℕ) (cs : List (Cell M)) → AreFrom f i cs → own_cells f cs ≡ cells_from i (plain_cells f cs)
+  own_from i [] h = refl
+  own_from i (c ∷ cs) h =
+      let r = first_from i c cs h in
+      let more = own_from (suc i) cs r.1 in
+      λ k. record { member = r.0 k; cell = plain_cell f c } ∷ more k
+
+  -- the same members
+  pub still_from : (i : ℕ) (cs ds : List (Cell M)) → AreFrom f i cs → AreSound f ds
+      → map (λ (c : Cell M). c.number) ds ≡ map (λ (c : Cell M). c.number) cs → AreFrom f i ds
+  still_from i cs ds h sound same =
+      let many : length cs ≡ length ds =
+      sym (length-map cs (λ (c : Cell M). c.number)) ∙ ap length (sym same) ∙ length-map ds (λ (c : Cell M). c.number) in
+      record { sound = sound; numbers = same ∙ h.numbers ∙ ap (range_with_len i) many }
+
+  -- all cells, each with its member, where they are seen as these
+  pub own_all : (cs : List (Cell M)) (ps : List PlainCell) → AreInOrder f cs → plain_cells f cs ≡ ps → own_cells f cs ≡ cells_from 0 ps
+  own_all cs ps h shown = own_from 0 cs h ∙ ap (cells_from 0) shown
+
+  pub as_many : (cs : List (Cell M)) (ps : List PlainCell) → plain_cells f cs ≡ ps → length cs ≡ length ps
+  as_many cs ps shown = sym (length-map cs (plain_cell f)) ∙ ap length shown
 
 -- ---- sizes
 
@@ -86,6 +102,17 @@ last_cuts cut [] n some most h = (some, most)
 last_cuts cut (m ∷ []) n some most h = (h.0, (some, most))
 last_cuts cut (m ∷ k ∷ ns) n some most h = (h.0, last_cuts cut (k ∷ ns) n some most h.1)
 
+-- groups of the same sizes hold as many
+pub all_long : {A B : Type 0} (xs : List (Vec A)) (ys : List (Vec B)) → sizes xs ≡ sizes ys → length (all_in xs) ≡ length (all_in ys)
+all_long [] [] e = refl
+all_long [] (y ∷ ys) e = cc
+all_long (x ∷ xs) [] e = cc
+all_long (x ∷ xs) (y ∷ ys) e =
+    let first : length x.items ≡ length y.items = cc in
+    let rest : sizes xs ≡ sizes ys = cc in
+    let more = all_long xs ys rest in
+    omega (arith, first, more, length-append x.items (all_in xs), length-append y.items (all_in ys))
+
 module _ {A : Type 0} where
   pub no_more_groups : (gs : List (Vec A)) → sizes gs ≡ [] → gs ≡ []
   no_more_groups [] h = refl
@@ -99,92 +126,6 @@ module _ {A : Type 0} where
       let more = few_groups cut gs pos a.others in
       let both = length-append g.items (all_in gs) in
       omega arith
-
-  -- ---- a cell in its group
-
-  get_early : (xs ys : List A) (i : ℕ) → i < length xs → slice_get (xs ++ ys) i ≡ slice_get xs i
-  get_early [] ys i lt = absurd (omega arith)
-  get_early (x ∷ xs) ys zero lt = refl
-  get_early (x ∷ xs) ys (suc i) lt = get_early xs ys i (omega arith)
-
-  get_late : (xs ys : List A) (n j : ℕ) → n ≡ length xs → slice_get (xs ++ ys) (n + j) ≡ slice_get ys j
-  get_late [] ys n j e = let z : n + j ≡ j = omega (arith, e) in ap (slice_get ys) z
-  get_late (x ∷ xs) ys zero j e = absurd (omega arith)
-  get_late (x ∷ xs) ys (suc n) j e = let z : suc n + j ≡ suc (n + j) = omega arith in ap (slice_get (x ∷ xs ++ ys)) z
-      ∙ get_late xs ys n j (omega arith)
-
-  set_early : (xs ys : List A) (i : ℕ) (x : A) → i < length xs → slice_set (xs ++ ys) i x ≡ slice_set xs i x ++ ys
-  set_early [] ys i x lt = absurd (omega arith)
-  set_early (y ∷ xs) ys zero x lt = refl
-  set_early (y ∷ xs) ys (suc i) x lt = ap (λ l. y ∷ l) (set_early xs ys i x (omega arith))
-
-  set_late : (xs ys : List A) (n j : ℕ) (x : A) → n ≡ length xs → slice_set (xs ++ ys) (n + j) x ≡ xs ++ slice_set ys j x
-  set_late [] ys n j x e = let z : n + j ≡ j = omega (arith, e) in ap (λ k. slice_set ys k x) z
-  set_late (y ∷ xs) ys zero j x e = absurd (omega arith)
-  set_late (y ∷ xs) ys (suc n) j x e = let z : suc n + j ≡ suc (n + j) = omega arith in ap (λ k. slice_set (y ∷ xs ++ ys) k x) z
-      ∙ ap (λ l. y ∷ l) (set_late xs ys n j x (omega arith))
-
-  -- cell i of group k is that of member k * cut + i
-  pub record InGroup (gs : List (Vec A)) (m k i : ℕ) : Type 0 where
-    pub group : k < length gs
-    pub index : (d : Vec A) → i < length (get_or gs k d).items
-    pub get : (d : Vec A) → slice_get (all_in gs) m ≡ slice_get (get_or gs k d).items i
-    pub set : (d g : Vec A) (x : A) → g.items ≡ slice_set (get_or gs k d).items i x → all_in (slice_set gs k g) ≡ slice_set (all_in gs) m x
-    pub size : (d g : Vec A) → length g.items ≡ length (get_or gs k d).items → sizes (slice_set gs k g) ≡ sizes gs
-
-  pub in_group : (cut : ℕ) (gs : List (Vec A)) (m k i : ℕ) → 0 < cut → AreCuts cut (sizes gs) → m ≡ k * cut + i → i < cut
-      → m < length (all_in gs) → InGroup gs m k i
-  in_group cut [] m k i pos cuts e small lt = absurd (omega arith)
-  in_group cut (g ∷ gs) m zero i pos cuts e small lt =
-      let a = first_cut cut (length g.items) (sizes gs) pos cuts in
-      let here : m ≡ i = omega (arith, e) in
-      let within : i < length g.items = in_first a.full in
-      record {
-        group = omega arith;
-        index = λ d. within;
-        get = λ d. ap (slice_get (g.items ++ all_in gs)) here ∙ get_early g.items (all_in gs) i within;
-        set = λ d h x is. ap (λ l. l ++ all_in gs) is ∙ sym (set_early g.items (all_in gs) i x within)
-            ∙ ap (λ j. slice_set (g.items ++ all_in gs) j x) (sym here);
-        size = λ d h same. ap (λ n. n ∷ sizes gs) same;
-      }
-    where
-      in_first : (length g.items ≡ cut) ⊎ (sizes gs ≡ []) → i < length g.items
-      in_first (inl full) = omega arith
-      in_first (inr none) =
-          let all : all_in gs ≡ [] = ap all_in (no_more_groups gs none) in
-          let both = length-append g.items (all_in gs) in
-          let zero : length (all_in gs) ≡ 0 = ap length all in
-          let here : m ≡ i = omega (arith, e) in
-          omega arith
-  in_group cut (g ∷ gs) m (suc k) i pos cuts e small lt =
-      let a = first_cut cut (length g.items) (sizes gs) pos cuts in
-      let n : length g.items ≡ cut = is_full a.full in
-      let both = length-append g.items (all_in gs) in
-      let at : m ≡ length g.items + (k * cut + i) = omega (arith, e, suc-mul k cut) in
-      let more = in_group cut gs (k * cut + i) k i pos a.others refl small (omega arith) in
-      let group = more.group in
-      record {
-        group = omega arith;
-        index = more.index;
-        get = λ d. ap (slice_get (g.items ++ all_in gs)) at ∙ get_late g.items (all_in gs) (length g.items) (k * cut + i) refl ∙ more.get d;
-        set = λ d h x is. ap (λ l. g.items ++ l) (more.set d h x is) ∙ sym
-            (set_late g.items (all_in gs) (length g.items) (k * cut + i) x refl) ∙ ap (λ j. slice_set (g.items ++ all_in gs) j x) (sym at);
-        size = λ d h same. ap (λ l. length g.items ∷ l) (more.size d h same);
-      }
-    where
-      is_full : (length g.items ≡ cut) ⊎ (sizes gs ≡ []) → length g.items ≡ cut
-      is_full (inl full) = full
-      is_full (inr none) =
-          let all : all_in gs ≡ [] = ap all_in (no_more_groups gs none) in
-          let both = length-append g.items (all_in gs) in
-          let zero : length (all_in gs) ≡ 0 = ap length all in
-          let most = (first_cut cut (length g.items) (sizes gs) pos cuts).most in
-          absurd (omega (arith, e, suc-mul k cut))
-
-  -- by quotient and remainder
-  pub at_index : (cut : ℕ) (gs : List (Vec A)) (m n : ℕ) → 0 < cut → AreCuts cut (sizes gs) → n ≡ m → m < length (all_in gs)
-      → InGroup gs m (n / cut) (n % cut)
-  at_index cut gs m n pos cuts e lt = in_group cut gs m (n / cut) (n % cut) pos cuts (sym e ∙ sym (div-add-mod' n cut)) (mod-lt n pos) lt
 
   -- ---- one group after the other
 

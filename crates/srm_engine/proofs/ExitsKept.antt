@@ -1,32 +1,30 @@
 -- A member that is gone has left its exit.
-use Rattle.std.proofs.Common.{◌≡◌, ℕ, zero, suc, ◌+◌, Bool, true, false, cond, List, [], ◌∷◌, ◌==◌, length, Option, Some, None}
-use Rattle.std.proofs.Common.{Err, refl, sym, ap, ◌∙◌, subst, slice_get, le_refl, arith, zero-add}
+use Rattle.std.proofs.Common.{◌≡◌, ℕ, zero, suc, Bool, true, false, cond, List, [], ◌∷◌, ◌==◌, Option, Some, None}
+use Rattle.std.proofs.Common.{refl, sym, ap, ◌∙◌, subst, le_refl, arith}
 use Rattle.srm_net.specs.declared.packet.Packet.{Packet}
 use Rattle.srm_member.specs.declared.cause.Cause.{Cause}
-use Rattle.srm_member.specs.declared.exit.Exit.{Exit}
-use Rattle.srm_member.specs.Record.{Record, Active, Gone}
+use Rattle.srm_member.specs.Record.{Record, MemberState}
+use Rattle.std.proofs.lemmas.List.Elements.{All-nil, All-cons}
 use Rattle.srm_member.proofs.AllIn.{AllIn}
 use Rattle.srm_cell.specs.declared.cell.Cell.{Cell}
 use Rattle.srm_cell.specs.Setting.{Setting, arrival_of}
 use Rattle.srm_cell.specs.Cells.{PlainCell, Event, StepOutcome, Idle, Full, Spent, Done, Stepped, handle, step_at, before}
 use Rattle.srm_cell.specs.Cells.{hear, hear_at}
 use Rattle.srm_cell.specs.OwnRuns.{told_to}
-use Rattle.srm_cell.specs.declared.fault.CellFault.{CellFault}
-use Rattle.srm_cell.specs.declared.fault.CellFault.TheVariants as fault
-use Rattle.srm_cell.specs.Views.{IsCell, IsGone, TellsExit}
+use Rattle.srm_cell.specs.Views.{plain_cell}
 use Rattle.srm_cell.proofs.Rising.{OnStep}
 use Rattle.srm_model.specs.World.{World, IsReached, after_step, least_event, opening, opening_cells, run, cells_after, step, step_of}
 use Rattle.srm_model.specs.World.{step_to}
 use Rattle.srm_engine.specs.Outcomes.{HasEnd, AllEnd}
-use Rattle.srm_engine.specs.Seen.{AreCellsInOrder}
-use Rattle.srm_model.proofs.RunLemmas.{run_by, run_first, shifted}
+use Rattle.srm_engine.specs.Seen.{AreCellsInOrder, plain_cells}
+use Rattle.srm_model.proofs.RunLemmas.{run_by, run_first}
 
 abbrev Kept : PlainCell → Type 0
 Kept c = HasEnd c.holds c.exit
 
 -- ---- one step
 
-kept_handle : (e : Event) (holds : Record) (cause : Option Cause) → OnStep (λ d. Kept d.cell) (handle e holds cause)
+kept_handle : (e : Event) (holds : Option MemberState) (cause : Option Cause) → OnStep (λ d. Kept d.cell) (handle e holds cause)
 unfolding handle
 kept_handle e holds cause = grind arith
 
@@ -90,27 +88,10 @@ module _ (s : Setting) where
 -- ---- the cells of the engine
 
 module _ {M : Type 0} (f : M → Record) where
-  all_end_from : (i : ℕ) (cs : List (Cell M)) (ps : List PlainCell) → length cs ≡ length ps
-      → ((j : ℕ) (c : Cell M) (p : PlainCell) → slice_get cs j ≡ Some c → slice_get ps j ≡ Some p → IsCell f (i + j) c p) → AllIn Kept ps
-      → AllEnd f cs
-  all_end_from i [] ps len each kept = tt
-  all_end_from i (c ∷ cs) [] len each kept = absurd (omega arith)
-  all_end_from i (c ∷ cs) (p ∷ ps) len each kept = (
-    (i + 0, p, each 0 c p refl refl, kept.0),
-    all_end_from (suc i) cs ps (omega arith) (λ j d q a b. subst (λ k. IsCell f k d q) (shifted i j) (each (suc j) d q a b)) kept.1,
-  )
-
   -- each cell of an engine in a reached world has a member, or the exit of one that left
   pub all_end : (s : Setting) (cs : List (Cell M)) (w : World) → IsReached s w → AreCellsInOrder f cs w.cells → AllEnd f cs
-  all_end s cs w r h = all_end_from 0 cs w.cells h.as_many (λ j c p a b. subst (λ k. IsCell f k c p) (sym (zero-add j)) (h.each j c p a b))
-      (kept_reached s w r)
-
-gone_without : (r : Record) (x : Option Exit) → HasEnd r x → IsGone r → x ≡ None → ⊥
-gone_without (Active m) x h g e = g
-gone_without (Gone f) x h g e = h e
-
--- a cell whose member is there, or has left its exit, is refused nothing but memory for its end
-pub only_memory : (p : PlainCell) (x : CellFault) → HasEnd p.holds p.exit → TellsExit p (Err x) → x ≡ fault.NoMemory
-only_memory p fault.NoMemory h t = refl
-only_memory p fault.Spent h t = absurd (gone_without p.holds p.exit h t.1 t.0)
-only_memory p fault.CountFull h t = absurd t
+  all_end s cs w r h = from_plain cs (subst (AllIn Kept) (sym h.1) (kept_reached s w r))
+    where
+      from_plain : (cs : List (Cell M)) → AllIn Kept (plain_cells f cs) → AllEnd f cs
+      from_plain [] k = All-nil (λ (c : Cell M). HasEnd (plain_cell f c).holds (plain_cell f c).exit)
+      from_plain (c ∷ cs) k = All-cons (λ (c : Cell M). HasEnd (plain_cell f c).holds (plain_cell f c).exit) c cs k.0 (from_plain cs k.1)

@@ -1,8 +1,9 @@
 -- Cells that hear the packets of rows, as cells that hear packets.
-use Rattle.std.proofs.Common.{◌≡◌, ℕ, zero, suc, ◌+◌, List, [], ◌∷◌, ◌++◌, length, map, get_or, IsPermutation}
+use Rattle.std.proofs.Common.{◌≡◌, ℕ, suc, ◌+◌, List, [], ◌∷◌, ◌++◌, length, map, get_or, IsPermutation}
 use Rattle.std.proofs.Common.{Option, Some, None, option_map, refl, sym, ap, ◌∙◌, subst, arith, slice_get, zero-add}
 use Rattle.std.proofs.lemmas.List.Sorted.{IsPermutation-refl, length_permutation}
-use Rattle.std.proofs.lemmas.Option.{slice_get-get_or, same_Some}
+use Rattle.std.proofs.lemmas.List.Elements.{All-head}
+use Rattle.std.proofs.lemmas.Option.{slice_get-get_or}
 use Rattle.std.specs.List.{AllZip, cons_option}
 use Rattle.std.specs.Global.{Vec}
 use Rattle.srm_net.specs.declared.packet.Packet.{Packet}
@@ -10,19 +11,21 @@ use Rattle.srm_member.specs.declared.row.Row.{Row}
 use Rattle.srm_member.specs.Record.{Record}
 use Rattle.srm_cell.specs.declared.cell.Cell.{Cell}
 use Rattle.srm_cell.specs.Setting.{Traffic, Setting}
-use Rattle.srm_cell.specs.Cells.{PlainCell, hear}
+use Rattle.srm_cell.specs.Cells.{OwnCell, PlainCell, hear}
+use Rattle.srm_cell.specs.Views.{IsSoundCell, plain_cell}
 use Rattle.srm_cell.specs.OwnRuns.{hear_rows, told_to}
 use Rattle.srm_cell.specs.Crossings.{packets_of, joined}
 use Rattle.srm_cell.specs.Hearing.{hear_all, AreNewTo, MayHearAll, HearsAll, AllMayHear, EachHearsAll}
 use Rattle.srm_model.specs.Hearing.{IsUnheard}
 use Rattle.srm_model.specs.WindowRuns.{each_hears, AreNewInTurn}
-use Rattle.srm_model.proofs.WindowRows.{packets_are_heard_in_turn, length-each_hears, get_heard}
+use Rattle.srm_model.proofs.WindowRows.{packets_are_heard_in_turn, get_heard}
 use Rattle.srm_interfaces.specs.Hearers.{GroupsMayHear, GroupsHear}
 use Rattle.srm_interfaces.proofs.InPieces.{all_each}
 use Rattle.srm_net.proofs.Basics.{zip_append}
-use Rattle.srm_engine.specs.Seen.{AreCellsInOrder}
+use Rattle.srm_engine.specs.Seen.{AreFrom, AreInOrder, plain_cells}
 use Rattle.srm_engine.specs.Groups.{all_in, sizes}
-use Rattle.srm_net.proofs.Lists.{below_get}
+use Rattle.srm_engine.proofs.CellLists.{first_from, more_from}
+use Rattle.srm_engine.proofs.SeenLemmas.{map_get, number_is, sound_at}
 
 one_hears : (t : Traffic) (m : ℕ) (xs ys : List Row) (c : PlainCell) → hear_rows t m (xs ++ ys) c ≡ hear_rows t m ys (hear_rows t m xs c)
 one_hears t m [] ys c = refl
@@ -103,14 +106,6 @@ rows_that_send (r ∷ rows) ps h =
 
 -- ---- cells
 
-zip_get : {A B : Type 0} (R : A → B → Type 0) (xs : List A) (ys : List B) → AllZip R xs ys → (j : ℕ) (y : B) → slice_get ys j ≡ Some y
-    → (x : A) × (slice_get xs j ≡ Some x) × R x y
-zip_get R [] [] z j y at = cc
-zip_get R [] (b ∷ ys) z j y at = absurd z
-zip_get R (a ∷ xs) [] z j y at = absurd z
-zip_get R (a ∷ xs) (b ∷ ys) z zero y at = (a, refl, subst (R a) (same_Some b y at) z.0)
-zip_get R (a ∷ xs) (b ∷ ys) z (suc j) y at = zip_get R xs ys z.1 j y at
-
 zip_long : {A B : Type 0} (R : A → B → Type 0) (xs : List A) (ys : List B) → AllZip R xs ys → length xs ≡ length ys
 zip_long R [] [] z = refl
 zip_long R [] (b ∷ ys) z = absurd z
@@ -119,22 +114,34 @@ zip_long R (a ∷ xs) (b ∷ ys) z = ap suc (zip_long R xs ys z.1)
 
 module _ {M : Type 0} (f : M → Record) where
   -- the cells of all members may hear packets that are new in turn
-  cells_may : (s : Setting) (rows : List Row) (cs : List (Cell M)) (ps : List PlainCell) → AreCellsInOrder f cs ps
-      → length ps ≡ s.traffic.members → AreNewInTurn s.traffic rows ps → AllMayHear f s.traffic (packets_of rows) cs
-  cells_may s rows cs ps h many new = λ j d lt.
-      let as_many = h.as_many in
-      let p = below_get ps j (omega (arith, as_many)) in (
-        j,
-        p.0,
-        h.each j (get_or cs j d) p.0 (slice_get-get_or cs j d lt) p.1,
-        omega (arith, as_many, many),
-        new_to s rows ps new j p.0 p.1,
-      )
+  cells_may : (s : Setting) (rows : List Row) (cs : List (Cell M)) → AreInOrder f cs → length cs ≡ s.traffic.members
+      → AreNewInTurn s.traffic rows (plain_cells f cs) → AllMayHear f s.traffic (packets_of rows) cs
+  cells_may s rows cs h many new = λ j d lt.
+      let c = get_or cs j d in
+      let at = slice_get-get_or cs j d lt in
+      let is = number_is f cs j c h at in
+      record {
+        sound = sound_at f 0 cs j c h at;
+        member = omega (arith, is, many);
+        new = subst (λ m. AreNewTo s.traffic m (packets_of rows) (plain_cell f c)) (sym is)
+            (new_to s rows (plain_cells f cs) new j (plain_cell f c) (map_get (plain_cell f) cs j c at));
+      }
 
   -- cells that heard the packets of rows are those of members that did
-  cells_heard : (s : Setting) (rows : List Row) (cs ds : List (Cell M)) (ps : List PlainCell)
-      → EachHearsAll f s.traffic (packets_of rows) cs ds → AreCellsInOrder f cs ps → AreCellsInOrder f ds (each_hears s.traffic 0 rows ps)
-  cells_heard s rows cs ds ps z h = grind (arith, zip_long, length-each_hears, zip_get, get_heard, rows_heard)
+  cells_heard : (t : Traffic) (rows : List Row) (i : ℕ) (cs ds : List (Cell M)) → EachHearsAll f t (packets_of rows) cs ds → AreFrom f i cs
+      → AreFrom f i ds × (plain_cells f ds ≡ each_hears t i rows (plain_cells f cs))
+  cells_heard t rows i [] [] z h = (h, refl)
+  cells_heard t rows i [] (d ∷ ds) z h = absurd z
+  cells_heard t rows i (c ∷ cs) [] z h = absurd z
+  cells_heard t rows i (c ∷ cs) (d ∷ ds) z h =
+      let r = first_from f i c cs h in
+      let one = z.0 (All-head (IsSoundCell f) c cs h.sound) in
+      let more = cells_heard t rows (suc i) cs ds z.1 r.1 in
+      let heard = ap (λ (q : OwnCell). q.cell) one.is ∙ sym (rows_heard t c.number rows (plain_cell f c))
+      ∙ ap (λ m. hear_rows t m rows (plain_cell f c)) r.0 in (
+        more_from f i d ds one.sound (ap (λ (q : OwnCell). q.member) one.is ∙ r.0) more.0,
+        λ k. heard k ∷ more.1 k,
+      )
 
   -- ---- groups
 
@@ -142,11 +149,12 @@ module _ {M : Type 0} (f : M → Record) where
   all_joined [] = refl
   all_joined (g ∷ gs) = ap (λ l. g.items ++ l) (all_joined gs)
 
-  pub groups_may : (s : Setting) (rows : List Row) (gs : List (Vec (Cell M))) (ps : List PlainCell) → AreCellsInOrder f (all_in gs) ps
-      → length ps ≡ s.traffic.members → AreNewInTurn s.traffic rows ps → GroupsMayHear f s.traffic (packets_of rows) gs
-  groups_may s rows gs ps h many new =
+  pub groups_may : (s : Setting) (rows : List Row) (gs : List (Vec (Cell M))) → AreInOrder f (all_in gs)
+      → length (all_in gs) ≡ s.traffic.members → AreNewInTurn s.traffic rows (plain_cells f (all_in gs))
+      → GroupsMayHear f s.traffic (packets_of rows) gs
+  groups_may s rows gs h many new =
       all_each (λ c. MayHearAll f s.traffic (packets_of rows) c) gs
-      (subst (AllMayHear f s.traffic (packets_of rows)) (all_joined gs) (cells_may s rows (all_in gs) ps h many new))
+      (subst (AllMayHear f s.traffic (packets_of rows)) (all_joined gs) (cells_may s rows (all_in gs) h many new))
 
   pub groups_long : (t : Traffic) (ps : List Packet) (gs hs : List (Vec (Cell M))) → GroupsHear f t ps gs hs → sizes gs ≡ sizes hs
   groups_long t ps [] [] z = refl
@@ -165,7 +173,7 @@ module _ {M : Type 0} (f : M → Record) where
   all_hear t ps (g ∷ gs) (h ∷ hs) z =
       zip_append (λ c d. HearsAll f t ps c d) g.items h.items (all_in gs) (all_in hs) z.0 (all_hear t ps gs hs z.1)
 
-  pub groups_heard : (s : Setting) (rows : List Row) (gs hs : List (Vec (Cell M))) (ps : List PlainCell)
-      → GroupsHear f s.traffic (packets_of rows) gs hs → AreCellsInOrder f (all_in gs) ps
-      → AreCellsInOrder f (all_in hs) (each_hears s.traffic 0 rows ps)
-  groups_heard s rows gs hs ps z h = cells_heard s rows (all_in gs) (all_in hs) ps (all_hear s.traffic (packets_of rows) gs hs z) h
+  pub groups_heard : (t : Traffic) (rows : List Row) (gs hs : List (Vec (Cell M))) → GroupsHear f t (packets_of rows) gs hs
+      → AreInOrder f (all_in gs)
+      → AreInOrder f (all_in hs) × (plain_cells f (all_in hs) ≡ each_hears t 0 rows (plain_cells f (all_in gs)))
+  groups_heard t rows gs hs z h = cells_heard t rows 0 (all_in gs) (all_in hs) (all_hear t (packets_of rows) gs hs z) h

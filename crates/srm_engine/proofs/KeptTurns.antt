@@ -23,7 +23,7 @@ use Rattle.srm_engine.specs.Streams.{TellsHalt}
 use Rattle.srm_engine.specs.WatchEngines.{IsWatching, KeepsRows, kept_by}
 use Rattle.srm_engine.specs.WindowEngines.{ComesTo, setting_by}
 use Rattle.srm_engine.proofs.Stepping.{opening_reached, opening_trace}
-use Rattle.srm_engine.proofs.WatchWindows.{all_long}
+use Rattle.srm_engine.proofs.CellLists.{all_long}
 use Rattle.srm_engine.proofs.WindowLemmas.{fit, members_are, reached}
 
 -- ---- rows of a run are of its members, and before its end
@@ -76,8 +76,7 @@ kept_in_turn f keeps e is seed begins w comes front rows grown sorted kept =
     let s = setting_by e.engine seed in
     let p = e.engine.session.scenario.now in
     let all : length (kept_by e) ≡ s.traffic.members =
-    all_long e.kept.items e.engine.groups.groups.items is.each ∙ comes.kept.grouped.cells.as_many
-    ∙ members_are f e.engine is.under_way seed begins w comes in
+    all_long e.kept.items e.engine.groups.groups.items is.each ∙ members_are f e.engine is.under_way seed begins w comes in
     let most = few_members p is.under_way.accepted in
     let few = is.under_way.accepted.few_ticks in record {
       few = omega (arith, all, most);

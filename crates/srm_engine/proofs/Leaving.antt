@@ -1,58 +1,33 @@
 -- What is left of what a crew that keeps rows did.
 use Rattle.std.proofs.Common.{◌≡◌, ◌⊎◌, inl, inr, List, [], ◌∷◌, ◌++◌, All, sym, subst, length, append_assoc, append-nil}
-use Rattle.std.specs.List.{AllZip}
 use Rattle.std.proofs.lemmas.List.Elements.{All-head, All-tail}
 use Rattle.srm_net.specs.Network.{Network}
 use Rattle.srm_scenario.specs.Plain.{PlainScenario}
 use Rattle.srm_member.specs.Record.{Record}
 use Rattle.srm_member.specs.declared.row.Row.{Row}
 use Rattle.srm_cell.specs.declared.job.Done as job
-use Rattle.srm_cell.specs.Jobs.{IsDone, MayAdvance, PlainJob}
-use Rattle.srm_cell.specs.Setting.{Traffic}
-use Rattle.srm_interfaces.specs.Crews.{AreJobs}
+use Rattle.srm_cell.specs.Jobs.{MayAdvance}
+use Rattle.srm_cell.specs.Setting.{traffic_of}
+use Rattle.srm_interfaces.specs.Crews.{AreDone}
 use Rattle.srm_interfaces.specs.declared.watched.WatchedJob.{WatchedJob}
 use Rattle.srm_interfaces.specs.declared.watched.WatchedDone.{WatchedDone}
 use Rattle.srm_interfaces.specs.Watches.{HaveKept, WatchEach, Watches, job_in, jobs_in}
 use Rattle.srm_interfaces.proofs.WatchLemmas.{as_many_kept, sent_below}
 use Rattle.srm_engine.specs.ByRows.{LeftEach, MayLeave, kept_in}
 
-module _ {M K : Type 0} (f : M → Record) (k : PlainScenario) (t : Traffic) where
-  -- what watched jobs are seen as
-  abbrev plains : (js : List (WatchedJob M K)) → All (λ j. MayAdvance f (length k.members) j) (jobs_in js) → List PlainJob
-  plains [] a = []
-  plains (j ∷ js) a =
-      (All-head (λ j. MayAdvance f (length k.members) j) (job_in j) (jobs_in js) a).plain_job
-      ∷ plains js (All-tail (λ j. MayAdvance f (length k.members) j) (job_in j) (jobs_in js) a)
-
-  are_plains : (js : List (WatchedJob M K)) (a : All (λ j. MayAdvance f (length k.members) j) (jobs_in js))
-      → AreJobs f (jobs_in js) (plains js a)
-  are_plains [] a = tt
-  are_plains (j ∷ js) a = (
-    (All-head (λ j. MayAdvance f (length k.members) j) (job_in j) (jobs_in js) a).is,
-    are_plains js (All-tail (λ j. MayAdvance f (length k.members) j) (job_in j) (jobs_in js) a),
-  )
-
-  each_may : (js : List (WatchedJob M K)) (ds : List (job.Done M)) (a : All (λ j. MayAdvance f (length k.members) j) (jobs_in js))
-      → All HaveKept js → AllZip (λ p d. IsDone f t p d) (plains js a) ds → MayLeave k (kept_in js) ds
-  each_may [] [] a h z = tt
-  each_may [] (d ∷ ds) a h z = absurd z
-  each_may (j ∷ js) [] a h z = absurd z
-  each_may (j ∷ js) (d ∷ ds) a h z =
-      let may = All-head (λ j. MayAdvance f (length k.members) j) (job_in j) (jobs_in js) a in (
-        as_many_kept f (length k.members) t j d may (All-head HaveKept j js h) z.0,
-        sent_below f (length k.members) t j d may z.0,
-        each_may js ds (All-tail (λ j. MayAdvance f (length k.members) j) (job_in j) (jobs_in js) a) (All-tail HaveKept j js h) z.1,
-      )
-
-  pub some_jobs : (js : List (WatchedJob M K)) → All (λ j. MayAdvance f (length k.members) j) (jobs_in js)
-      → (ps : List PlainJob) × AreJobs f (jobs_in js) ps
-  some_jobs js a = (plains js a, are_plains js a)
-
+module _ {M K : Type 0} (f : M → Record) (k : PlainScenario) (net : Network) where
   -- what is done of jobs that may be advanced may be left
   pub may_leave : (js : List (WatchedJob M K)) (ds : List (job.Done M)) → All (λ j. MayAdvance f (length k.members) j) (jobs_in js)
-      → All HaveKept js → ((ps : List PlainJob) → AreJobs f (jobs_in js) ps → AllZip (λ p d. IsDone f t p d) ps ds)
-      → MayLeave k (kept_in js) ds
-  may_leave js ds a h done = each_may js ds a h (done (plains js a) (are_plains js a))
+      → All HaveKept js → AreDone f k net (jobs_in js) ds → MayLeave k (kept_in js) ds
+  may_leave [] [] a h z = tt
+  may_leave [] (d ∷ ds) a h z = absurd z
+  may_leave (j ∷ js) [] a h z = absurd z
+  may_leave (j ∷ js) (d ∷ ds) a h z = (
+    as_many_kept f (length k.members) (traffic_of k net) j d (All-head HaveKept j js h) z.0,
+    sent_below f (length k.members) (traffic_of k net) j d
+        (All-head (λ j. MayAdvance f (length k.members) j) (job_in j) (jobs_in js) a) z.0,
+    may_leave js ds (All-tail (λ j. MayAdvance f (length k.members) j) (job_in j) (jobs_in js) a) (All-tail HaveKept j js h) z.1,
+  )
 
 module _ {M K : Type 0} (keeps : K → List Row → Type 0) (k : PlainScenario) (net : Network) where
   pub left_of_jobs : (js : List (WatchedJob M K)) (ds : List (job.Done M)) (es : List (WatchedDone M K))

@@ -12,11 +12,9 @@ pub mod Stepping
 pub mod PutLemmas
 pub mod CellLists
 pub mod JobLemmas
-pub mod FixedParts
-pub mod Promises
+pub mod Ways
 pub mod SoonLemmas
 pub mod SoonGroups
-pub mod Beginnings
 pub mod WindowLemmas
 pub mod Merging
 mod KeptLemmas
@@ -25,3 +23,4 @@ mod WatchedLemmas
 mod WatchWindows
 mod KeptTurns
 mod MergedSinks
+pub mod CellEnds

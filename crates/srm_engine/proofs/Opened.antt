@@ -1,6 +1,6 @@
 -- The cells at the beginning of a run.
-use Rattle.std.proofs.Common.{◌≡◌, ◌⊎◌, ℕ, zero, suc, ◌+◌, ◌<◌, List, [], ◌∷◌, ◌++◌, length, Some, inl, inr, refl}
-use Rattle.std.proofs.Common.{sym, ap, ◌∙◌, subst, map, slice_get, arith, length-append, add-one, zero-add, Vec, Global}
+use Rattle.std.proofs.Common.{◌≡◌, ◌⊎◌, ℕ, zero, suc, ◌+◌, List, [], ◌∷◌, ◌++◌, length, refl}
+use Rattle.std.proofs.Common.{sym, ap, ◌∙◌, subst, map, arith, length-append, add-one, zero-add, Vec, Global}
 use Rattle.std.specs.List.{range_with_len}
 use Rattle.srm_net.specs.Network.{Network}
 use Rattle.srm_scenario.specs.declared.mark.Mark.{Mark}
@@ -16,48 +16,47 @@ use Rattle.srm_model.specs.World.{World, opening, opening_cells}
 use Rattle.srm_engine.specs.Seen.{AreCellsInOrder}
 use Rattle.srm_cell.specs.Totalled.{numbers_of}
 use Rattle.srm_engine.specs.Openings.{records_from}
-use Rattle.std.proofs.lemmas.Option.{same_Some}
 use Rattle.srm_model.proofs.OneStep.{length_opening}
+use Rattle.std.specs.List.{range_with_len}
+use Rattle.std.proofs.lemmas.List.{length-map, map-append}
+use Rattle.std.proofs.lemmas.List.Elements.{All-append, All-cons, All-nil}
+use Rattle.srm_cell.specs.Cells.{OwnCell}
+use Rattle.srm_cell.specs.Views.{IsSoundCell, plain_cell}
 
-get_last : {A : Type 0} (xs : List A) (x y : A) (j : ℕ) → slice_get (xs ++ x ∷ []) j ≡ Some y → (slice_get xs j ≡ Some y)
-    ⊎ ((j ≡ length xs) × (x ≡ y))
-get_last [] x y zero h = inr (refl, same_Some x y h)
-get_last [] x y (suc j) h = cc
-get_last (z ∷ zs) x y zero h = inl h
-get_last (z ∷ zs) x y (suc j) h = elim (get_last zs x y j h) [ inl g ↦ inl g | inr g ↦ inr (ap suc g.0, g.1) ]
-
-get_short : {A : Type 0} (xs : List A) (y : A) (j : ℕ) → slice_get xs j ≡ Some y → j < length xs
-get_short [] y j h = cc
-get_short (x ∷ xs) y zero h = omega arith
-get_short (x ∷ xs) y (suc j) h = let g = get_short xs y j h in omega arith
+range_more : (i n : ℕ) → range_with_len i n ++ (i + n) ∷ [] ≡ range_with_len i (n + 1)
+range_more i zero = let e : i + 0 ≡ i = omega arith in ap (λ k. k ∷ []) e
+range_more i (suc n) = let e : i + suc n ≡ (i + 1) + n = omega arith in
+    let more : suc (n + 1) ≡ suc n + 1 = omega arith in
+    ap (λ k. i ∷ (range_with_len (i + 1) n ++ k ∷ [])) e ∙ ap (λ l. i ∷ l) (range_more (i + 1) n) ∙ ap (range_with_len i) more
 
 module _ {M : Type 0} where
   pub more_cells : (f : M → Record) (cs : List (Cell M)) (ps : List PlainCell) (c : Cell M) (q : PlainCell)
-      → AreCellsInOrder f cs ps → IsCell f (length ps) c q → AreCellsInOrder f (cs ++ c ∷ []) (ps ++ q ∷ [])
-  more_cells f cs ps c q h is = record {
-    as_many = length-append cs (c ∷ []) ∙ ap (λ n. n + 1) h.as_many ∙ sym (length-append ps (q ∷ []));
-    each = λ j x p a g. elim (get_last ps q p j g) [
-      | inl b ↦ elim (get_last cs c x j a) [
-        | inl d ↦ h.each j x p d b
-        | inr d ↦ let lt = get_short ps p j b in let at = d.0 in let many = h.as_many in absurd (omega arith)
-      ]
-      | inr b ↦ elim (get_last cs c x j a) [
-        | inl d ↦ let lt = get_short cs x j d in let at = b.0 in let many = h.as_many in absurd (omega arith)
-        | inr d ↦ subst (λ k. IsCell f k x p) (sym b.0)
-            (subst (λ y. IsCell f (length ps) y p) d.1 (subst (λ y. IsCell f (length ps) c y) b.1 is))
-      ]
-    ];
-  }
+      → AreCellsInOrder f cs ps → IsCell f c (record { member = length ps; cell = q })
+      → AreCellsInOrder f (cs ++ c ∷ []) (ps ++ q ∷ [])
+  more_cells f cs ps c q h is =
+      let many : length ps ≡ length cs = sym (ap length h.1) ∙ length-map cs (plain_cell f) in (
+        record {
+          sound = All-append (IsSoundCell f) cs (c ∷ []) h.0.sound (All-cons (IsSoundCell f) c [] is.sound (All-nil (IsSoundCell f)));
+          numbers = map-append (λ (x : Cell M). x.number) cs (c ∷ [])
+              ∙ (λ i. h.0.numbers i ++ (ap (λ (o : OwnCell). o.member) is.is ∙ many ∙ sym (zero-add (length cs))) i ∷ [])
+              ∙ range_more 0 (length cs) ∙ ap (range_with_len 0) (sym (length-append cs (c ∷ [])));
+        },
+        map-append (plain_cell f) cs (c ∷ []) ∙ (λ i. h.1 i ++ (is.is i).cell ∷ []),
+      )
 
   pub none_seen : (f : M → Record) (s : Setting) → AreCellsInOrder f [] (opening_cells s 0 0)
   unfolding opening_cells
-  none_seen f s = record { as_many = refl; each = λ j c p a g. cc }
+  none_seen f s = (record { sound = All-nil (IsSoundCell f); numbers = refl }, refl)
 
   pub opened_cell : (f : M → Record) (p : PlainScenario) (net : Network) (seed k : ℕ) (c : Cell M) (r : Record)
       (marks : List Mark)
-      → r ≡ opening_record (fixed_of p net seed k) → marks ≡ script_of p k → IsCell f (fixed_part r).member c (new_cell r marks 0)
-      → IsCell f k c (opening_cell (setting_of p net seed) k)
-  opened_cell f p net seed k c r marks e h is = grind arith
+      → r ≡ opening_record (fixed_of p net seed k) → marks ≡ script_of p k
+      → IsCell f c (record { member = (fixed_part r).member; cell = new_cell r marks 0 })
+      → IsCell f c (record { member = k; cell = opening_cell (setting_of p net seed) k })
+  opened_cell f p net seed k c r marks e h is = record {
+    sound = is.sound;
+    is = is.is ∙ (λ i. record { member = (fixed_part (e i)).member; cell = new_cell (e i) (h i) 0 });
+  }
 
 one_more_cell : (s : Setting) (n i : ℕ) → opening_cells s (suc n) i ≡ opening_cells s n i ++ opening_cell s (i + n) ∷ []
 unfolding opening_cells
@@ -134,7 +133,8 @@ module _ {M : Type 0} (f : M → Record) (p : PlainScenario) (net : Network) (se
 
   -- the cell of the next member is opened
   pub open_next : (m : M) (ms ns : List M) (v : Vec Mark Global) (vs ws : List (Vec Mark Global)) (cs : List (Cell M)) (c : Cell M)
-      → ns ≡ m ∷ ms → ws ≡ v ∷ vs → OpenSoFar ns ws cs → IsCell f (fixed_part (f m)).member c (new_cell (f m) v.items 0)
+      → ns ≡ m ∷ ms → ws ≡ v ∷ vs → OpenSoFar ns ws cs
+      → IsCell f c (record { member = (fixed_part (f m)).member; cell = new_cell (f m) v.items 0 })
       → OpenSoFar ms vs (cs ++ c ∷ [])
   open_next m ms ns v vs ws cs c e d before is =
       let k = length cs in
@@ -142,7 +142,7 @@ module _ {M : Type 0} (f : M → Record) (p : PlainScenario) (net : Network) (se
       let o = begins m ms ns v vs ws cs e d before in
       let i = next_is m ms v vs cs o in
       let q = opening_cell s k in
-      let here = subst (λ j. IsCell f j c q) (sym (length_opening s k 0))
+      let here = subst (λ j. IsCell f c (record { member = j; cell = q })) (sym (length_opening s k 0))
       (opened_cell f p net seed k c (f m) v.items i.opening i.script is) in
       let now : length (cs ++ c ∷ []) ≡ k + 1 = length-append cs (c ∷ []) in
       let was = o.all in

@@ -7,11 +7,11 @@ use Rattle.srm_member.specs.declared.row.Row.{Row}
 use Rattle.srm_member.specs.Record.{Record}
 use Rattle.srm_cell.specs.declared.cell.Cell.{Cell}
 use Rattle.srm_cell.specs.declared.fault.CellFault.{CellFault}
-use Rattle.srm_cell.specs.Cells.{PlainCell, own_step}
-use Rattle.srm_cell.specs.Views.{Steps}
+use Rattle.srm_cell.specs.Cells.{own_step}
+use Rattle.srm_cell.specs.Views.{Steps, plain_cell}
 use Rattle.srm_cell.specs.PutRows.{PutsStep}
 use Rattle.srm_engine.specs.declared.cells.Cells.{Cells}
-use Rattle.srm_engine.specs.Seen.{ShowCells, TellsOwnStep}
+use Rattle.srm_engine.specs.Seen.{AreSeen, TellsOwnStep, plain_cells}
 
 -- what was put behind others is the last
 pub last_is_put : {A : Type 0} (xs ys : List A) (x : A) → xs ≡ ys ++ x ∷ [] → slice_get xs (length xs - 1) ≡ Some x
@@ -28,11 +28,12 @@ module _ {M : Type 0} where
   -- where what a cell's step gives is so of all cells, it is so of the row that was put
   pub put_taken : (f : M → Record) (m till : ℕ) (old : Cells M) (c d : Cell M) (cs : List (Cell M)) (ts : List (Option ℕ))
       (b : Bool) (rows more : List Row)
-      → ((ps : List PlainCell) (p : PlainCell) (row : Option Row) → ShowCells f old ps → slice_get ps m ≡ Some p
-      → Steps f till c (Ok row) d → TellsOwnStep f m ps (own_step till m p) (Ok row) cs ts)
+      → ((row : Option Row) → Steps f till c (Ok row) d → (x : Cell M) → AreSeen f old.cells.items old.times
+      → slice_get old.cells.items m ≡ Some x
+      → TellsOwnStep f m (plain_cells f old.cells.items) (own_step till m (plain_cell f x)) (Ok row) cs ts)
       → PutsStep {E = CellFault} (λ r. Steps f till c r d) rows (Ok b) more
       → PutsStep {E = CellFault}
-      (λ r. (ps : List PlainCell) (p : PlainCell) → ShowCells f old ps → slice_get ps m ≡ Some p
-      → TellsOwnStep f m ps (own_step till m p) r cs ts) rows (Ok b) more
-  put_taken f m till old c d cs ts false rows more so puts = ((λ ps p h k. so ps p None h k puts.0), puts.1)
-  put_taken f m till old c d cs ts true rows more so puts = (puts.0, (λ ps p h k. so ps p (Some puts.0) h k puts.1), puts.2)
+      (λ r. AreSeen f old.cells.items old.times → (x : Cell M) → slice_get old.cells.items m ≡ Some x
+      → TellsOwnStep f m (plain_cells f old.cells.items) (own_step till m (plain_cell f x)) r cs ts) rows (Ok b) more
+  put_taken f m till old c d cs ts false rows more so puts = ((λ h x at. so None puts.0 x h at), puts.1)
+  put_taken f m till old c d cs ts true rows more so puts = (puts.0, (λ h x at. so (Some puts.0) puts.1 x h at), puts.2)

@@ -1,30 +1,21 @@
--- How soon something is due in each group, after own runs and after packets were heard.
-use Rattle.std.proofs.Common.{◌≡◌, ◌⊎◌, inl, inr, ℕ, zero, suc, ◌+◌, ◌-◌, ◌*◌, ◌/◌, ◌%◌, ◌<◌, ◌≤◌, true, false, List, [], ◌∷◌}
-use Rattle.std.proofs.Common.{◌++◌, Some, refl, sym, ap, ◌∙◌, subst, arith, slice_get}
-use Rattle.std.proofs.Common.{slice_set, get_or, length, length-append, nat_lt, zero-add}
+-- How soon something is due in each group, where groups are looked at one after the other.
+use Rattle.std.proofs.Common.{◌≡◌, ◌⊎◌, inl, inr, ℕ, zero, suc, ◌+◌, ◌*◌, ◌<◌, ◌≤◌, List, [], ◌∷◌, ◌++◌, refl, sym, ap, ◌∙◌, subst}
+use Rattle.std.proofs.Common.{arith, slice_set, get_or, length, length-append, take, drop, add-one, append-nil, take_all}
 use Rattle.std.proofs.Math.Nat.{suc-mul}
-use Rattle.std.proofs.lemmas.Bool.Decides.{nat_tests}
-use Rattle.std.proofs.lemmas.Nat.{div-mul-add}
-use Rattle.std.proofs.lemmas.Option.{slice_get_within, same_Some}
+use Rattle.std.proofs.lemmas.List.{length-map, drop_all, get_or-map}
+use Rattle.std.proofs.lemmas.Slice.Zip.{AllZip-long}
 use Rattle.std.specs.Global.{Vec}
-use native.Mathlib.Nat.{div-add-mod'}
 use Rattle.srm_member.specs.Record.{Record}
+use Rattle.srm_member.specs.declared.row.Row.{Row}
 use Rattle.srm_cell.specs.declared.cell.Cell.{Cell}
+use Rattle.srm_cell.specs.Jobs.{RanEach, own_cells}
 use Rattle.srm_cell.specs.Setting.{Setting}
-use Rattle.srm_cell.specs.Cells.{PlainCell, Idle, next_event, own_step}
-use Rattle.srm_cell.specs.OwnRuns.{own_after}
-use Rattle.srm_cell.proofs.Nexts.{idle_step, none_due}
-use Rattle.srm_cell.proofs.OwnRunLemmas.{after_idle}
 use Rattle.srm_engine.specs.declared.soonest.Soonest.{Soonest}
-use Rattle.srm_engine.specs.Groups.{AreCuts, AreGrouped, sizes, all_in}
-use Rattle.srm_model.specs.WindowRuns.{OwnResult, AreOwnRuns, cells_in}
-use Rattle.srm_engine.specs.Soonest.{IsSoonest, AreSoonest, AreThose, IsInRange, due}
-use Rattle.srm_engine.proofs.CellLists.{first_cut, no_more_groups, in_group, at_index}
-use Rattle.srm_model.proofs.OneWindow.{as_many_results}
-use Rattle.srm_model.proofs.RunLemmas.{shifted}
-use Rattle.srm_model.proofs.Sequential.{get_below}
-use Rattle.srm_engine.proofs.SoonLemmas.{soon_same_cells, soon_same_members}
-use Rattle.srm_net.proofs.Lists.{get_set_same, get_set_other, below_get}
+use Rattle.srm_engine.specs.Groups.{AreCuts, AreGrouped, RanGroups, sizes, all_in}
+use Rattle.srm_engine.specs.Seen.{AreFrom}
+use Rattle.srm_engine.specs.Soonest.{soon_in, soonest_of}
+use Rattle.srm_engine.proofs.CellLists.{both_from, first_cut, no_more_groups}
+use Rattle.srm_engine.proofs.SoonLemmas.{idle_cells}
 
 -- ---- the members of a group
 
@@ -53,156 +44,155 @@ group_within cut (g ∷ gs) (suc k) d pos cuts lt =
     is_full (inl e) = e
     is_full (inr none) = let no : length gs ≡ 0 = ap length (no_more_groups gs none) in absurd (omega arith)
 
-module _ {M : Type 0} (f : M → Record) (cut : ℕ) (gs : List (Vec (Cell M))) (ps : List PlainCell)
-    (pos : 0 < cut) (h : AreGrouped f cut gs ps) where
+module _ {M : Type 0} (f : M → Record) where
   -- the cells of group k are those of its members
-  pub those_of_group : (k : ℕ) (g : Vec (Cell M)) → k < length gs → g ≡ get_or gs k g → AreThose f (k * cut) g.items ps
-  those_of_group k g lt is j c get =
-      let at = group_within cut gs k g pos h.cuts lt in
-      let own : g.items ≡ (get_or gs k g).items = ap (λ (v : Vec (Cell M)). v.items) is in
-      let many : length g.items ≡ length (get_or gs k g).items = ap length own in
-      let small = slice_get_within g.items j c get in
-      let most = at.most in
-      let within = at.within in
-      let inside : k * cut + j < length (all_in gs) = omega arith in
-      let all = h.cells.as_many in
-      let p = below_get ps (k * cut + j) (omega arith) in
-      let here = in_group cut gs (k * cut + j) k j pos h.cuts refl (omega arith) inside in
-      (p.0, p.1, h.cells.each (k * cut + j) c p.0 (here.get g ∙ ap (λ l. slice_get l j) (sym own) ∙ get) p.1)
-
-  -- the members of group k are those with that quotient
-  pub soonest_of_group : (s : Setting) (k : ℕ) (g : Vec (Cell M)) (x : Soonest) → k < length gs → g ≡ get_or gs k g
-      → IsSoonest s (IsInRange (k * cut) (length g.items)) ps x
-      → IsSoonest s (λ m. m / cut ≡ k) ps x
-  soonest_of_group s k g x lt is soon =
-      let at = group_within cut gs k g pos h.cuts lt in
-      let many : length g.items ≡ length (get_or gs k g).items = ap (λ (v : Vec (Cell M)). length v.items) is in
-      let all = h.cells.as_many in
-      soon_same_members s (IsInRange (k * cut) (length g.items)) (λ m. m / cut ≡ k) ps x
-      (λ m in_all a. let le = a.0 in let less = a.1 in let most = at.most in let d = at_offset m le in
-      ap (λ n. n / cut) d.1 ∙ div-mul-add k cut d.0 (let e = d.1 in omega arith))
-      (λ m in_all e.
-      let there = at_index cut gs m m pos h.cuts refl (omega arith) in
-      let within : m % cut < length (get_or gs k g).items = subst (λ n. m % cut < length (get_or gs n g).items) e (there.index g) in
-      let whole : k * cut + m % cut ≡ m = ap (λ n. n * cut + m % cut) (sym e) ∙ div-add-mod' m cut in
-      (omega arith, omega arith))
-      soon
+  group_from : (cut i : ℕ) (gs : List (Vec (Cell M))) (k : ℕ) (d : Vec (Cell M)) → 0 < cut → AreCuts cut (sizes gs)
+      → AreFrom f i (all_in gs) → k < length gs → AreFrom f (i + k * cut) (get_or gs k d).items
+  group_from cut i [] k d pos cuts h lt = absurd (omega arith)
+  group_from cut i (g ∷ gs) zero d pos cuts h lt =
+      let at : i ≡ i + 0 * cut = omega arith in
+      subst (λ j. AreFrom f j g.items) at (both_from f i g.items (all_in gs) h).0
+  group_from cut i (g ∷ gs) (suc k) d pos cuts h lt =
+      let a = first_cut cut (length g.items) (sizes gs) pos cuts in
+      let full : length g.items ≡ cut = is_full a.full in
+      let at : i + length g.items + k * cut ≡ i + suc k * cut = omega (arith, suc-mul k cut) in
+      subst (λ j. AreFrom f j (get_or gs k d).items) at
+      (group_from cut (i + length g.items) gs k d pos a.others (both_from f i g.items (all_in gs) h).1 (omega arith))
     where
-      at_offset : (m : ℕ) → k * cut ≤ m → (j : ℕ) × (m ≡ k * cut + j)
-      at_offset m le = (m - k * cut, omega arith)
+      is_full : (length g.items ≡ cut) ⊎ (sizes gs ≡ []) → length g.items ≡ cut
+      is_full (inl e) = e
+      is_full (inr none) = let no : length gs ≡ 0 = ap length (no_more_groups gs none) in absurd (omega arith)
 
-  -- what a look at the cells of group k tells is how soon something is due in the group
-  pub looked_at : (s : Setting) (k : ℕ) (g : Vec (Cell M)) (own : List (Cell M)) (x : Soonest) → k < length gs → g ≡ get_or gs k g → own
-      ≡ g.items
-      → (AreThose f (k * cut) own ps → IsSoonest s (IsInRange (k * cut) (length own)) ps x) → IsSoonest s (λ m. m / cut ≡ k) ps x
-  looked_at s k g own x lt is same told =
-      let those = subst (λ l. AreThose f (k * cut) l ps) (sym same) (those_of_group k g lt is) in
-      soonest_of_group s k g x lt is (subst (λ l. IsSoonest s (IsInRange (k * cut) (length l)) ps x) same (told those))
+  -- what is told of the cells of a group as they are looked at is so of that group
+  pub looked_at : (s : Setting) (cut : ℕ) (gs : List (Vec (Cell M))) (k : ℕ) (g : Vec (Cell M)) (own : List (Cell M)) (x : Soonest)
+      → 0 < cut → AreGrouped f cut gs → k < length gs → g ≡ get_or gs k g → own ≡ g.items
+      → (AreFrom f (k * cut) own → x ≡ soonest_of s (own_cells f own)) → x ≡ get_or (soon_in f s gs) k x
+  looked_at s cut gs k g own x pos h lt is same told =
+      let here : own ≡ (get_or gs k g).items = same ∙ ap (λ (v : Vec (Cell M)). v.items) is in
+      let at : 0 + k * cut ≡ k * cut = omega arith in
+      told (subst (λ l. AreFrom f (k * cut) l) (sym here)
+      (subst (λ j. AreFrom f j (get_or gs k g).items) at (group_from cut 0 gs k g pos h.cuts h.order lt)))
+      ∙ ap (λ l. soonest_of s (own_cells f l)) here
+      ∙ sym (get_or-map (λ (v : Vec (Cell M)). soonest_of s (own_cells f v.items)) gs k g x lt)
 
-  pub group_below : (m : ℕ) → m < length ps → m / cut < length gs
-  group_below m lt = let all = h.cells.as_many in (at_index cut gs m m pos h.cuts refl (omega arith)).group
+  ran_at : (till : ℕ) (gs hs : List (Vec (Cell M))) (k : ℕ) (d e : Vec (Cell M)) → RanGroups f till gs hs → k < length hs
+      → (lists : List (List Row)) × RanEach f till (get_or gs k d).items lists (get_or hs k e).items
+  ran_at till [] [] k d e h lt = absurd (omega arith)
+  ran_at till [] (b ∷ hs) k d e h lt = absurd h
+  ran_at till (a ∷ gs) [] k d e h lt = absurd h
+  ran_at till (a ∷ gs) (b ∷ hs) zero d e h lt = h.0
+  ran_at till (a ∷ gs) (b ∷ hs) (suc k) d e h lt = ran_at till gs hs k d e h.1 (omega arith)
 
--- for each group it is kept how soon something is due in it
-pub as_many_kept : {A : Type 0} (s : Setting) (cut : ℕ) (gs : List (Vec A)) (xs : List Soonest) (ps : List PlainCell) → 0 < cut
-    → AreCuts cut (sizes gs)
-    → length (all_in gs) ≡ length ps → AreSoonest s cut xs ps → length gs ≤ length xs
-as_many_kept s cut gs xs ps pos cuts all soon = elim (nat_lt (length xs) (length gs)) as
-    (λ b. nat_lt (length xs) (length gs) ≡ b → length gs ≤ length xs) [
-      | true ↦ λ e.
-          let k = length xs in
-          let lt : k < length gs = grind (arith, nat_tests) in
-          let d = below_get gs k lt in
-          let at = group_within cut gs k d.0 pos cuts lt in
-          let some = at.some in
-          let within = at.within in
-          let below = soon.many (k * cut + 0) (omega arith) in
-          let is = div-mul-add k cut 0 pos in
-          absurd (omega (arith, is))
-      | false ↦ λ e. grind (arith, nat_tests)
-    ] refl
+  -- as many groups
+  pub as_many_ran : (s : Setting) (till : ℕ) (gs hs : List (Vec (Cell M))) → RanGroups f till gs hs
+      → length (soon_in f s hs) ≡ length (soon_in f s gs)
+  as_many_ran s till gs hs h =
+      length-map hs (λ (v : Vec (Cell M)). soonest_of s (own_cells f v.items))
+      ∙ AllZip-long (λ (a b : Vec (Cell M)). (lists : List (List Row)) × RanEach f till a.items lists b.items) gs hs h
+      ∙ sym (length-map gs (λ (v : Vec (Cell M)). soonest_of s (own_cells f v.items)))
 
--- ---- after own runs
-
--- a cell in which nothing is due before the end is as it was
-idle_from : (till i : ℕ) (cs : List PlainCell) (rs : List OwnResult) → AreOwnRuns till i cs rs → (j : ℕ) (c : PlainCell) → slice_get cs j
-    ≡ Some c
-    → ((u : ℕ) → due (i + j) c ≡ Some u → till ≤ u) → slice_get (cells_in rs) j ≡ Some c
-idle_from till i [] rs h j c get late = cc
-idle_from till i (x ∷ cs) [] h j c get late = absurd h
-idle_from till i (x ∷ cs) (r ∷ rs) h zero c get late =
-    let same = same_Some x c get in
-    let here : i + 0 ≡ i = omega arith in
-    let idle : own_step till i c ≡ Idle = idle_step till i c
-    (none_due till (next_event i c) (λ u e. late u (ap (λ m. due m c) here ∙ e))) in
-    let run = h.0 in
-    ap Some (run.leaves ∙ ap (λ d. own_after till i run.steps d) same ∙ after_idle till i run.steps c idle)
-idle_from till i (x ∷ cs) (r ∷ rs) h (suc j) c get late =
-    idle_from till (suc i) cs rs h.1 j c get (λ u e. late u (ap (λ m. due m c) (shifted i j) ∙ e))
-
-pub idle_stays : (till : ℕ) (cs : List PlainCell) (rs : List OwnResult) → AreOwnRuns till 0 cs rs → (m : ℕ) (c : PlainCell) → slice_get cs m
-    ≡ Some c
-    → ((u : ℕ) → due m c ≡ Some u → till ≤ u) → slice_get (cells_in rs) m ≡ Some c
-idle_stays till cs rs h m c get late = idle_from till 0 cs rs h m c get (λ u e. late u (ap (λ k. due k c) (sym (zero-add m)) ∙ e))
-
--- where nothing is due in a group before the end, it is as it was
-pub soonest_idle : (s : Setting) (cut k till : ℕ) (ps : List PlainCell) (rs : List OwnResult) (x : Soonest) → AreOwnRuns till 0 ps rs
-    → till ≤ x.time
-    → IsSoonest s (λ m. m / cut ≡ k) ps x → IsSoonest s (λ m. m / cut ≡ k) (cells_in rs) x
-soonest_idle s cut k till ps rs x alone late h =
-    soon_same_cells s (λ m. m / cut ≡ k) ps (cells_in rs) x stays
-    (λ m c p get.
-    let many = as_many_results till 0 ps rs alone in
-    let below = get_below (cells_in rs) m c get in
-    let q = below_get ps m (omega arith) in
-    q.1 ∙ sym (stays m q.0 p q.1) ∙ get)
-    h
-  where
-    stays : (m : ℕ) (c : PlainCell) → m / cut ≡ k → slice_get ps m ≡ Some c → slice_get (cells_in rs) m ≡ Some c
-    stays m c p get = idle_stays till ps rs alone m c get (λ u e. let le = h.time.none_less m c u p get e in omega arith)
+  -- where nothing was due in a group before the end, it is as soon due as before
+  pub as_before : (s : Setting) (till : ℕ) (gs hs : List (Vec (Cell M))) (k : ℕ) (d e : Vec (Cell M)) (x : Soonest)
+      → RanGroups f till gs hs → k < length hs → k < length gs → till ≤ (get_or (soon_in f s gs) k x).time
+      → get_or (soon_in f s gs) k x ≡ get_or (soon_in f s hs) k x
+  as_before s till gs hs k d e x ran lt within late =
+      let at = get_or-map (λ (v : Vec (Cell M)). soonest_of s (own_cells f v.items)) gs k d x within in
+      let after = get_or-map (λ (v : Vec (Cell M)). soonest_of s (own_cells f v.items)) hs k e x lt in
+      let r = ran_at till gs hs k d e ran lt in
+      at ∙ ap (soonest_of s) (idle_cells f till s.traffic.until (get_or gs k d).items r.0 (get_or hs k e).items r.1
+      (subst (λ (y : Soonest). till ≤ y.time) at late)) ∙ sym after
 
 -- ---- one group after the other
 
-pub pushed_each : {A : Type 0} (P : ℕ → A → Type 0) (xs : List A) (y : A) → ((j : ℕ) (x : A) → slice_get xs j ≡ Some x → P j x)
-    → P (length xs) y
-    → (j : ℕ) (x : A) → slice_get (xs ++ y ∷ []) j ≡ Some x → P j x
-pushed_each P [] y each last zero x g = subst (P 0) (same_Some y x g) last
-pushed_each P [] y each last (suc j) x g = cc
-pushed_each P (z ∷ xs) y each last zero x g = each 0 x g
-pushed_each P (z ∷ xs) y each last (suc j) x g = pushed_each (λ i. P (suc i)) xs y (λ i. each (suc i)) last j x g
+-- what was kept, written over up to a place
+abbrev pub written_to : {A : Type 0} → ℕ → List A → List A → List A
+written_to k new old = take k new ++ drop k old
 
-module _ {A : Type 0} (N O : ℕ → A → Type 0) (xs : List A) (k : ℕ)
-    (each : (j : ℕ) (x : A) → slice_get xs j ≡ Some x → (j < k → N j x) × (k ≤ j → O j x)) where
-  pub one_set : (y : A) → k < length xs → N k y → (j : ℕ) (x : A) → slice_get (slice_set xs k y) j ≡ Some x → (j < k + 1 → N j x)
-      × (k + 1 ≤ j → O j x)
-  one_set y lt new j x g = grind (arith, get_set_same, get_set_other)
+module _ {A : Type 0} where
+  -- the next is still as it was
+  pub next_old : (k : ℕ) (new old : List A) (d : A) → length new ≡ length old → k < length old
+      → get_or (written_to k new old) k d ≡ get_or old k d
+  next_old k [] [] d same lt = absurd (omega arith)
+  next_old k [] (y ∷ old) d same lt = absurd (omega arith)
+  next_old k (x ∷ new) [] d same lt = absurd (omega arith)
+  next_old zero (x ∷ new) (y ∷ old) d same lt = refl
+  next_old (suc k) (x ∷ new) (y ∷ old) d same lt = next_old k new old d (omega arith) (omega arith)
 
-  pub one_kept : ((x : A) → slice_get xs k ≡ Some x → O k x → N k x) → (j : ℕ) (x : A) → slice_get xs j ≡ Some x → (j < k + 1 → N j x)
-      × (k + 1 ≤ j → O j x)
-  one_kept kept j x g = grind arith
+  set_next : (k : ℕ) (new old : List A) (x : A) → length new ≡ length old → k < length old → x ≡ get_or new k x
+      → slice_set (written_to k new old) k x ≡ written_to (suc k) new old
+  set_next k [] [] x same lt is = absurd (omega arith)
+  set_next k [] (y ∷ old) x same lt is = absurd (omega arith)
+  set_next k (z ∷ new) [] x same lt is = absurd (omega arith)
+  set_next zero (z ∷ new) (y ∷ old) x same lt is = ap (λ v. v ∷ old) is
+  set_next (suc k) (z ∷ new) (y ∷ old) x same lt is = ap (λ l. z ∷ l) (set_next k new old x (omega arith) (omega arith) is)
 
-module _ {M : Type 0} (f : M → Record) (cut : ℕ) (gs : List (Vec (Cell M))) (ps : List PlainCell)
-    (results : List OwnResult) (pos : 0 < cut) (till : ℕ) (alone : AreOwnRuns till 0 ps results)
-    (h : AreGrouped f cut gs (cells_in results))
-  where
-    -- each group was looked through again, or has no cells
-    pub all_looked : (s : Setting) (xs ys : List Soonest) (index : ℕ) → length gs ≤ index → length ys ≡ length xs → length gs ≤ length xs
-        → AreSoonest s cut xs ps
-        → ((j : ℕ) (x : Soonest) → slice_get ys j ≡ Some x
-        → (j < index → IsSoonest s (λ m. m / cut ≡ j) (cells_in results) x) × (index ≤ j → IsSoonest s (λ m. m / cut ≡ j) ps x))
-        → AreSoonest s cut ys (cells_in results)
-    all_looked s xs ys index past same many soon each = record {
-      many = λ m lt. let below = group_below f cut gs (cells_in results) pos h m lt in omega arith;
-      each = λ k x g. elim (nat_lt k index) as (λ b. nat_lt k index ≡ b → IsSoonest s (λ m. m / cut ≡ k) (cells_in results) x) [
-        | true ↦ λ e. (each k x g).0 (grind (arith, nat_tests))
-        | false ↦ λ e.
-            let le : index ≤ k = grind (arith, nat_tests) in
-            soon_same_cells s (λ m. m / cut ≡ k) ps (cells_in results) x
-            (λ m c p get.
-            let long = as_many_results till 0 ps results alone in
-            let below = group_below f cut gs (cells_in results) pos h m (let lt = get_below ps m c get in omega arith) in
-            absurd (omega (arith, p)))
-            (λ m c p get. let below = group_below f cut gs (cells_in results) pos h m (get_below (cells_in results) m c get) in
-            absurd (omega (arith, p)))
-            ((each k x g).1 le)
-      ] refl;
-    }
+  keep_next : (k : ℕ) (new old : List A) (d : A) → length new ≡ length old → k < length old → get_or old k d ≡ get_or new k d
+      → written_to k new old ≡ written_to (suc k) new old
+  keep_next k [] [] d same lt is = absurd (omega arith)
+  keep_next k [] (y ∷ old) d same lt is = absurd (omega arith)
+  keep_next k (z ∷ new) [] d same lt is = absurd (omega arith)
+  keep_next zero (z ∷ new) (y ∷ old) d same lt is = ap (λ v. v ∷ old) is
+  keep_next (suc k) (z ∷ new) (y ∷ old) d same lt is = ap (λ l. z ∷ l) (keep_next k new old d (omega arith) (omega arith) is)
+
+  -- the next is written, or stands
+  pub one_set : (k : ℕ) (new old : List A) (x : A) → length new ≡ length old → k < length old → x ≡ get_or new k x
+      → slice_set (written_to k new old) k x ≡ written_to (k + 1) new old
+  one_set k new old x same lt is = set_next k new old x same lt is ∙ ap (λ n. written_to n new old) (sym (add-one k))
+
+  pub one_kept : (k : ℕ) (new old : List A) (d : A) → length new ≡ length old → k < length old → get_or old k d ≡ get_or new k d
+      → written_to k new old ≡ written_to (k + 1) new old
+  one_kept k new old d same lt is = keep_next k new old d same lt is ∙ ap (λ n. written_to n new old) (sym (add-one k))
+
+  pub all_written : (k : ℕ) (new old : List A) → length new ≡ length old → length new ≤ k → written_to k new old ≡ new
+  all_written k new old same past =
+      (λ i. take_all k new past i ++ drop_all k old (subst (λ n. n ≤ k) same past) i) ∙ append-nil new
+
+module _ {M : Type 0} (f : M → Record) (s : Setting) (till cut : ℕ) (all : List (Vec (Cell M))) (initial : List Soonest) where
+  -- the first k groups were looked at again, after the own runs of their cells
+  abbrev pub AreLookedAt : ℕ → List Soonest → Type 0
+  AreLookedAt k kept =
+      (before : List (Vec (Cell M))) → RanGroups f till before all → initial ≡ soon_in f s before → AreGrouped f cut all
+      → kept ≡ written_to k (soon_in f s all) initial
+
+  module _ (before : List (Vec (Cell M))) (ran : RanGroups f till before all) (was : initial ≡ soon_in f s before) where
+    as_many : length (soon_in f s all) ≡ length initial
+    as_many = as_many_ran f s till before all ran ∙ sym (ap length was)
+
+    kept_there : (k : ℕ) → k < length all → k < length initial
+    kept_there k lt =
+        let many = as_many in
+        let long = length-map all (λ (v : Vec (Cell M)). soonest_of s (own_cells f v.items)) in
+        omega (arith, many, long)
+
+  -- one more was looked at again
+  pub look_next : (k : ℕ) (kept : List Soonest) (g : Vec (Cell M)) (own : List (Cell M)) (y : Soonest) → 0 < cut → k < length all
+      → g ≡ get_or all k g → own ≡ g.items → (AreFrom f (k * cut) own → y ≡ soonest_of s (own_cells f own))
+      → AreLookedAt k kept → AreLookedAt (k + 1) (slice_set kept k y)
+  look_next k kept g own y pos lt is same told so_far = λ before ran was h.
+      ap (λ l. slice_set l k y) (so_far before ran was h)
+      ∙ one_set k (soon_in f s all) initial y (as_many before ran was) (kept_there before ran was k lt)
+      (looked_at f s cut all k g own y pos h lt is same told)
+
+  -- one more has nothing due before the end
+  pub look_past : (k : ℕ) (kept : List Soonest) (g : Vec (Cell M)) (x : Soonest) → k < length all → till ≤ (get_or kept k x).time
+      → AreLookedAt k kept → AreLookedAt (k + 1) kept
+  look_past k kept g x lt late so_far = λ before ran was h.
+      let many = as_many before ran was in
+      let there = kept_there before ran was k lt in
+      let long = length-map before (λ (v : Vec (Cell M)). soonest_of s (own_cells f v.items)) in
+      let old : get_or kept k x ≡ get_or (soon_in f s before) k x =
+      ap (λ l. get_or l k x) (so_far before ran was h) ∙ next_old k (soon_in f s all) initial x many there ∙ ap (λ l. get_or l k x) was in
+      let within : k < length before = (let e = ap length was in omega (arith, e, long, there)) in
+      so_far before ran was h
+      ∙ one_kept k (soon_in f s all) initial x many there (ap (λ l. get_or l k x) was
+      ∙ as_before f s till before all k g g x ran lt within (subst (λ (z : Soonest). till ≤ z.time) old late))
+
+  -- all were
+  pub looked_through : (k : ℕ) (kept : List Soonest) → length all ≤ k → AreLookedAt k kept
+      → (before : List (Vec (Cell M))) → RanGroups f till before all → initial ≡ soon_in f s before → AreGrouped f cut all
+      → (kept ≡ soon_in f s all) × (length kept ≡ length initial)
+  looked_through k kept past so_far before ran was h =
+      let long = length-map all (λ (v : Vec (Cell M)). soonest_of s (own_cells f v.items)) in
+      let is = so_far before ran was h
+      ∙ all_written k (soon_in f s all) initial (as_many before ran was) (omega (arith, long, past)) in
+      (is, ap length is ∙ as_many before ran was)

@@ -1,149 +1,171 @@
--- How soon something is due in the cells of some members.
-use Rattle.std.proofs.Common.{◌≡◌, ◌⊎◌, inl, inr, ℕ, zero, suc, ◌+◌, ◌/◌, ◌<◌, ◌≤◌, ◌==◌, min, true, false, List, [], ◌∷◌, Option, Some}
-use Rattle.std.proofs.Common.{refl, sym, ap, ◌∙◌, subst, arith, slice_get, length, eqb-true}
-use Rattle.std.proofs.lemmas.Bool.{eqb-false}
-use Rattle.std.proofs.lemmas.Option.{same_Some}
-use Rattle.srm_model.proofs.Sequential.{get_below}
+-- How soon something is due in groups of cells.
+use Rattle.std.proofs.Common.{◌≡◌, ℕ, suc, ◌+◌, ◌≤◌, ◌<◌, min, List, [], ◌∷◌, ◌++◌, Option, Some, None, unwrap_or}
+use Rattle.std.proofs.Common.{refl, sym, ap, ◌∙◌, arith, add-one, take, get_or, slice_get, length, take_all}
+use Rattle.std.proofs.lemmas.List.{length-map, map-append, take_more}
+use Rattle.std.proofs.lemmas.Option.{slice_get_within, slice_get-get_or, same_Some}
+use Rattle.std.specs.Global.{Vec}
+use Rattle.srm_member.specs.Record.{Record}
+use Rattle.srm_member.specs.declared.row.Row.{Row}
+use Rattle.srm_cell.specs.declared.cell.Cell.{Cell}
 use Rattle.srm_cell.specs.Setting.{Setting}
-use Rattle.srm_cell.specs.Cells.{PlainCell}
+use Rattle.srm_cell.specs.Cells.{OwnCell, PlainCell, Event, earlier, next_event, time_of}
+use Rattle.srm_cell.specs.Jobs.{RanAlone, RanEach, own_cells}
+use Rattle.srm_cell.specs.Views.{IsNextTime, event_of, own_cell, plain_cell}
+use Rattle.srm_cell.proofs.Nexts.{idle_step, none_due}
+use Rattle.srm_cell.proofs.OwnRunLemmas.{after_idle}
+use Rattle.srm_model.specs.World.{World, least_event}
+use Rattle.srm_model.specs.Windows.{least_promise, least_with, promise_by, promise_end, promise_of, way_of}
+use Rattle.srm_model.specs.WindowChains.{start_of}
+use Rattle.srm_model.specs.WindowRuns.{cells_from}
+use Rattle.srm_model.proofs.Lookahead.{least_with_in, least_with_le}
 use Rattle.srm_engine.specs.declared.soonest.Soonest.{Soonest}
-use Rattle.srm_model.specs.Windows.{least_with, promise_by, way_of}
-use Rattle.srm_engine.specs.Soonest.{IsLeast, IsSoonest, IsInRange, due, promised}
+use Rattle.srm_engine.specs.Groups.{all_in}
+use Rattle.srm_engine.specs.Seen.{AreFrom, AreInOrder, plain_cells}
+use Rattle.srm_engine.specs.Soonest.{due, first_promise, first_time, least_of, promised, soon_in, soonest_of}
+use Rattle.srm_engine.proofs.CellLists.{own_all}
+use Rattle.srm_engine.proofs.SeenLemmas.{map_get, number_at, sound_at}
 
--- the lesser is the first, or the other
-pub with_one : (n : ℕ) (o : Option ℕ) → (least_with n o ≡ n) ⊎ (o ≡ Some (least_with n o))
-with_one n o = grind arith
+-- ---- the least of a list
 
-module _ (g : ℕ → PlainCell → Option ℕ) (n : ℕ) where
-  at_most : (P : ℕ → Type 0) (ps : List PlainCell) (t u : ℕ) → IsLeast g P n ps t → IsLeast g P n ps u → t ≤ u
-  at_most P ps t u h k = grind arith
+least_with_both : (a b : ℕ) (o : Option ℕ) → least_with (min a b) o ≡ min a (least_with b o)
+least_with_both a b None = refl
+least_with_both a b (Some k) = omega arith
 
-  -- there is one least
-  pub least_is_one : (P : ℕ → Type 0) (ps : List PlainCell) (t u : ℕ) → IsLeast g P n ps t → IsLeast g P n ps u → t ≡ u
-  least_is_one P ps t u h k = let a = at_most P ps t u h k in let b = at_most P ps u t k h in omega arith
+module _ {A : Type 0} (g : A → Option ℕ) (n : ℕ) where
+  least_most : (xs : List A) → least_of g n xs ≤ n
+  least_most [] = omega arith
+  least_most (x ∷ xs) =
+      let most = least_most xs in
+      let le = least_with_le (least_of g n xs) (g x) in
+      omega arith
 
-  -- one member more
-  pub one_more : (i k : ℕ) (ps : List PlainCell) (t : ℕ) (p : PlainCell) → slice_get ps (i + k) ≡ Some p → IsLeast g (IsInRange i k) n ps t
-      → IsLeast g (IsInRange i (k + 1)) n ps (least_with t (g (i + k) p))
-  one_more i k ps t p at h = grind (arith, with_one)
+  least_append : (xs ys : List A) → least_of g n (xs ++ ys) ≡ min (least_of g n ys) (least_of g n xs)
+  least_append [] ys = let most = least_most ys in omega arith
+  least_append (x ∷ xs) ys =
+      ap (λ k. least_with k (g x)) (least_append xs ys) ∙ least_with_both (least_of g n ys) (least_of g n xs) (g x)
 
-  module _ (P : ℕ → Type 0) where
-    -- the cells of these members are the same
-    pub same_cells : (ps qs : List PlainCell) (t : ℕ) → ((m : ℕ) (c : PlainCell) → P m → slice_get ps m ≡ Some c → slice_get qs m ≡ Some c)
-        → ((m : ℕ) (c : PlainCell) → P m → slice_get qs m ≡ Some c → slice_get ps m ≡ Some c) → IsLeast g P n ps t → IsLeast g P n qs t
-    same_cells ps qs t to back h = grind arith
-
-  -- the same members
-  pub same_members : (P Q : ℕ → Type 0) (ps : List PlainCell) (t : ℕ) → ((m : ℕ) → m < length ps → P m → Q m)
-      → ((m : ℕ) → m < length ps → Q m → P m)
-      → IsLeast g P n ps t → IsLeast g Q n ps t
-  same_members P Q ps t to back h = grind (arith, get_below)
-
--- ---- the least of all groups
-
-module _ (n : ℕ) where
-  -- best is the least of n and of the first k numbers
-  pub record BestOf (h : Soonest → ℕ) (xs : List Soonest) (k best : ℕ) : Type 0 where
-    pub most : best ≤ n
-    pub none_less : (j : ℕ) (x : Soonest) → j < k → slice_get xs j ≡ Some x → best ≤ h x
-    pub one : (best ≡ n) ⊎ ((j : ℕ) × (x : Soonest) × (slice_get xs j ≡ Some x) × (best ≡ h x))
-
-  pub best_none : (h : Soonest → ℕ) (xs : List Soonest) → BestOf h xs 0 n
-  best_none h xs = record { most = omega arith; none_less = λ j x lt get. absurd (omega arith); one = inl refl }
-
-  pub best_more : (h : Soonest → ℕ) (xs : List Soonest) (k best : ℕ) (x : Soonest) → slice_get xs k ≡ Some x → BestOf h xs k best
-      → BestOf h xs (k + 1) (min best (h x))
-  best_more h xs k best x at b = record {
-    most = let a = b.most in omega arith;
-    none_less = λ j y lt get. elim (j == k) as (λ q. (j == k) ≡ q → min best (h x) ≤ h y) [
-      | true ↦ λ r.
-          let here : j ≡ k = eqb-true j k r in
-          let same : y ≡ x = same_Some y x (sym get ∙ ap (slice_get xs) here ∙ at) in
-          let e : h y ≡ h x = ap h same in
-          omega (arith, e)
-      | false ↦ λ r. let ne = eqb-false j k r in let old = b.none_less j y (omega arith) get in omega arith
-    ] refl;
-    one = by (with_one best (Some (h x))) b.one;
-  }
+  least_more : (xs : List A) (x : A) → least_of g n (xs ++ x ∷ []) ≡ least_with (least_of g n xs) (g x)
+  least_more xs x = least_append xs (x ∷ []) ∙ last (g x)
     where
-      by : (min best (h x) ≡ best) ⊎ (Some (h x) ≡ Some (min best (h x)))
-          → (best ≡ n) ⊎ ((j : ℕ) × (y : Soonest) × (slice_get xs j ≡ Some y) × (best ≡ h y))
-          → (min best (h x) ≡ n) ⊎ ((j : ℕ) × (y : Soonest) × (slice_get xs j ≡ Some y) × (min best (h x) ≡ h y))
-      by (inr e) old = inr (k, x, at, sym (same_Some (h x) (min best (h x)) e))
-      by (inl e) (inl was) = inl (e ∙ was)
-      by (inl e) (inr a) = inr (a.0, a.1, a.2, e ∙ a.3)
+      last : (o : Option ℕ) → min (least_with n o) (least_of g n xs) ≡ least_with (least_of g n xs) o
+      last None = let most = least_most xs in omega arith
+      last (Some k) = let most = least_most xs in omega arith
 
--- all members
-abbrev pub Any : ℕ → Type 0
-Any m = Unit {0}
+  -- one more of a list is looked at
+  pub least_so_far : (xs : List A) (i : ℕ) (d : A) (best : ℕ) → i < length xs → best ≡ least_of g n (take i xs)
+      → least_with best (g (get_or xs i d)) ≡ least_of g n (take (i + 1) xs)
+  least_so_far xs i d best lt is =
+      ap (λ k. least_with k (g (get_or xs i d))) is
+      ∙ sym (ap (least_of g n) (take_more xs i d lt) ∙ least_more (take i xs) (get_or xs i d))
 
-there : (xs : List Soonest) (k : ℕ) → k < length xs → (x : Soonest) × (slice_get xs k ≡ Some x)
-there [] k lt = absurd (omega arith)
-there (x ∷ xs) zero lt = (x, refl)
-there (x ∷ xs) (suc k) lt = there xs k (omega arith)
+  -- and all
+  pub least_of_all : (xs : List A) (i best : ℕ) → length xs ≤ i → best ≡ least_of g n (take i xs) → best ≡ least_of g n xs
+  least_of_all xs i best past is = is ∙ ap (least_of g n) (take_all i xs past)
 
-module _ (g : ℕ → PlainCell → Option ℕ) (n : ℕ) where
-  -- the least of the groups' leasts is that of all
-  pub best_is_least : (h : Soonest → ℕ) (cut : ℕ) (xs : List Soonest) (ps : List PlainCell) (k best : ℕ) → length xs ≤ k
-      → ((m : ℕ) → m < length ps → m / cut < length xs) →
-      ((j : ℕ) (x : Soonest) → slice_get xs j ≡ Some x → IsLeast g (λ m. m / cut ≡ j) n ps (h x))
-      → BestOf n h xs k best → IsLeast g Any n ps best
-  best_is_least h cut xs ps k best all many each b = record {
-    most = b.most;
-    none_less = λ m c u p get e.
-        let lt = many m (get_below ps m c get) in
-        let x = there xs (m / cut) lt in
-        let low = b.none_less (m / cut) x.0 (omega arith) x.1 in
-        let own = (each (m / cut) x.0 x.1).none_less m c u refl get e in
-        omega arith;
-    one = by b.one;
-  }
+-- ---- the least of all cells
+
+-- the earlier event has the lesser time
+earlier_time : (n : ℕ) (x y : Option Event) → min n (unwrap_or (time_of (earlier x y)) n)
+    ≡ least_with (min n (unwrap_or (time_of y) n)) (time_of x)
+earlier_time n x y = grind arith
+
+time_is_least : (n i : ℕ) (cs : List PlainCell) → min n (unwrap_or (time_of (least_event i cs)) n) ≡ least_of due n (cells_from i cs)
+unfolding least_event
+time_is_least n i [] = omega arith
+time_is_least n i (c ∷ cs) =
+    earlier_time n (next_event i c) (least_event (suc i) cs)
+    ∙ ap (λ k. least_with k (time_of (next_event i c))) (time_is_least n (suc i) cs)
+
+promise_is_least : (s : Setting) (i : ℕ) (cs : List PlainCell) → least_promise s i cs
+    ≡ least_of (promised s) s.traffic.until (cells_from i cs)
+promise_is_least s i [] = refl
+promise_is_least s i (c ∷ cs) =
+    ap (λ k. least_with k (promise_of s i c)) (ap (λ m. least_promise s m cs) (add-one i) ∙ promise_is_least s (suc i) cs)
+
+module _ {M : Type 0} (f : M → Record) (s : Setting) where
+  -- the least of the groups' leasts is that of all cells
+  least_of_groups : (g : OwnCell → Option ℕ) (h : Soonest → ℕ) (n : ℕ) → ((qs : List OwnCell) → h (soonest_of s qs) ≡ least_of g n qs)
+      → (gs : List (Vec (Cell M))) → least_of (λ (x : Soonest). Some (h x)) n (soon_in f s gs) ≡ least_of g n (own_cells f (all_in gs))
+  least_of_groups g h n is [] = refl
+  least_of_groups g h n is (v ∷ gs) =
+      (λ i. min (least_of_groups g h n is gs i) (is (own_cells f v.items) i))
+      ∙ sym (ap (least_of g n) (map-append (own_cell f) v.items (all_in gs))
+      ∙ least_append g n (own_cells f v.items) (own_cells f (all_in gs)))
+
+  module _ (gs : List (Vec (Cell M))) (w : World) (order : AreInOrder f (all_in gs)) (shown : plain_cells f (all_in gs) ≡ w.cells)
     where
-      of : (x : Soonest) → best ≡ h x → (h x ≡ n) ⊎ ((m : ℕ) × (c : PlainCell) × Unit {0} × (slice_get ps m ≡ Some c)
-          × (g m c ≡ Some (h x)))
-          → (best ≡ n) ⊎ ((m : ℕ) × (c : PlainCell) × Any m × (slice_get ps m ≡ Some c) × (g m c ≡ Some best))
-      of x e (inl was) = inl (e ∙ was)
-      of x e (inr a) = inr (a.0, a.1, tt, a.3, a.4 ∙ ap Some (sym e))
+      -- when the next window begins
+      pub begins_at : first_time s.traffic.until (soon_in f s gs) ≡ min s.traffic.until (start_of s w)
+      begins_at =
+          least_of_groups due (λ (x : Soonest). x.time) s.traffic.until (λ qs. refl) gs
+          ∙ ap (least_of due s.traffic.until) (own_all f (all_in gs) w.cells order shown)
+          ∙ sym (time_is_least s.traffic.until 0 w.cells)
 
-      any : (j : ℕ) (x : Soonest) → (h x ≡ n) ⊎ ((m : ℕ) × (c : PlainCell)
-          × (m / cut ≡ j) × (slice_get ps m ≡ Some c) × (g m c ≡ Some (h x)))
-          → (h x ≡ n) ⊎ ((m : ℕ) × (c : PlainCell) × Unit {0} × (slice_get ps m ≡ Some c) × (g m c ≡ Some (h x)))
-      any j x (inl e) = inl e
-      any j x (inr a) = inr (a.0, a.1, tt, a.3, a.4)
+      -- before which no packet arrives that is yet to be sent
+      pub promised_by : first_promise s.traffic.until (soon_in f s gs) ≡ promise_end s w
+      promised_by =
+          least_of_groups (promised s) (λ (x : Soonest). x.promise) s.traffic.until (λ qs. refl) gs
+          ∙ ap (least_of (promised s) s.traffic.until) (own_all f (all_in gs) w.cells order shown)
+          ∙ sym (promise_is_least s 0 w.cells)
 
-      by : (best ≡ n) ⊎ ((j : ℕ) × (x : Soonest) × (slice_get xs j ≡ Some x) × (best ≡ h x))
-          → (best ≡ n) ⊎ ((m : ℕ) × (c : PlainCell) × Any m × (slice_get ps m ≡ Some c) × (g m c ≡ Some best))
-      by (inl e) = inl e
-      by (inr a) = of a.1 a.3 (any a.0 a.1 (each a.0 a.1 a.2).one)
+-- ---- one cell after the other
 
--- ---- how soon something is due
+module _ {M : Type 0} (f : M → Record) (s : Setting) where
+  -- how soon something is due in one cell more
+  pub soon_more : (i : ℕ) (cs : List (Cell M)) (k : ℕ) (c : Cell M) (x y : Soonest) (next way : Option ℕ) → AreFrom f i cs
+      → slice_get cs k ≡ Some c → IsNextTime f c next → way ≡ way_of s (i + k) → y.time ≡ least_with x.time next
+      → y.promise ≡ least_with x.promise (promise_by next way) → x ≡ soonest_of s (take k (own_cells f cs))
+      → y ≡ soonest_of s (take (k + 1) (own_cells f cs))
+  soon_more i cs k c x y next way from at n w t r is =
+      let qs = own_cells f cs in
+      let q = own_cell f c in
+      let own = map_get (own_cell f) cs k c at in
+      let lt = slice_get_within qs k q own in
+      let here : get_or qs k q ≡ q = same_Some (get_or qs k q) q (sym (slice_get-get_or qs k q lt) ∙ own) in
+      let due_is = n (sound_at f i cs k c from at) in
+      let way_is = w ∙ ap (way_of s) (sym (number_at f i cs k c from at)) in
+      λ j. record {
+        time = (t ∙ (λ m. least_with x.time (due_is m)) ∙ ap (λ o. least_with x.time (due o)) (sym here)
+            ∙ least_so_far due s.traffic.until qs k q x.time lt (ap (λ (z : Soonest). z.time) is)) j;
+        promise = (r ∙ (λ m. least_with x.promise (promise_by (due_is m) (way_is m)))
+            ∙ ap (λ o. least_with x.promise (promised s o)) (sym here)
+            ∙ least_so_far (promised s) s.traffic.until qs k q x.promise lt (ap (λ (z : Soonest). z.promise) is)) j;
+      }
 
-module _ (s : Setting) where
-  -- one cell more
-  pub soon_more : (i k : ℕ) (ps : List PlainCell) (x y : Soonest) (p : PlainCell) (next way : Option ℕ) → slice_get ps (i + k) ≡ Some p
-      → next ≡ due (i + k) p → way ≡ way_of s (i + k) → y.time ≡ least_with x.time next → y.promise
-      ≡ least_with x.promise (promise_by next way)
-      → IsSoonest s (IsInRange i k) ps x → IsSoonest s (IsInRange i (k + 1)) ps y
-  soon_more i k ps x y p next way at n w t r h = record {
-    time = subst (λ u. IsLeast due (IsInRange i (k + 1)) s.traffic.until ps u) (sym (t ∙ ap (least_with x.time) n))
-        (one_more due s.traffic.until i k ps x.time p at h.time);
-    promise = subst (λ u. IsLeast (promised s) (IsInRange i (k + 1)) s.traffic.until ps u)
-        (sym (r ∙ (λ j. least_with x.promise (promise_by (n j) (w j)))))
-        (one_more (promised s) s.traffic.until i k ps x.promise p at h.promise);
-  }
+  -- and in all
+  pub soon_all : (cs : List (Cell M)) (k : ℕ) (x : Soonest) → length cs ≤ k → x ≡ soonest_of s (take k (own_cells f cs))
+      → x ≡ soonest_of s (own_cells f cs)
+  soon_all cs k x past is =
+      let long = length-map cs (own_cell f) in
+      is ∙ ap (soonest_of s) (take_all k (own_cells f cs) (omega arith))
 
-  pub soon_same_cells : (P : ℕ → Type 0) (ps qs : List PlainCell) (x : Soonest)
-      → ((m : ℕ) (c : PlainCell) → P m → slice_get ps m ≡ Some c → slice_get qs m ≡ Some c)
-      → ((m : ℕ) (c : PlainCell) → P m → slice_get qs m ≡ Some c → slice_get ps m ≡ Some c) → IsSoonest s P ps x → IsSoonest s P qs x
-  soon_same_cells P ps qs x to back h = record {
-    time = same_cells due s.traffic.until P ps qs x.time to back h.time;
-    promise = same_cells (promised s) s.traffic.until P ps qs x.promise to back h.promise;
-  }
+-- ---- groups in which nothing was due
 
-  pub soon_same_members : (P Q : ℕ → Type 0) (ps : List PlainCell) (x : Soonest) → ((m : ℕ) → m < length ps → P m → Q m)
-      → ((m : ℕ) → m < length ps → Q m → P m)
-      → IsSoonest s P ps x → IsSoonest s Q ps x
-  soon_same_members P Q ps x to back h = record {
-    time = same_members due s.traffic.until P Q ps x.time to back h.time;
-    promise = same_members (promised s) s.traffic.until P Q ps x.promise to back h.promise;
-  }
+module _ {M : Type 0} (f : M → Record) (till n : ℕ) where
+  -- a cell in which nothing is due before the end is as it was
+  idle_cell : (c d : Cell M) (rows : List Row) → RanAlone f till c rows d → ((u : ℕ) → due (own_cell f c) ≡ Some u → till ≤ u)
+      → own_cell f c ≡ own_cell f d
+  idle_cell c d rows h late =
+      let idle = idle_step till c.number (plain_cell f c) (none_due till (event_of f c) late) in
+      let same = h.run.leaves ∙ after_idle till c.number h.run.steps (plain_cell f c) idle in
+      λ k. record { member = sym h.on.1 k; cell = sym same k }
+
+  none_less : (q : OwnCell) (qs : List OwnCell) → till ≤ least_of due n (q ∷ qs)
+      → (till ≤ least_of due n qs) × ((u : ℕ) → due q ≡ Some u → till ≤ u)
+  none_less q qs late = (
+    (let le = least_with_le (least_of due n qs) (due q) in omega arith),
+    λ u e. let le = least_with_in (least_of due n qs) u (due q) e in omega arith,
+  )
+
+  pub idle_cells : (cs : List (Cell M)) (lists : List (List Row)) (ds : List (Cell M)) → RanEach f till cs lists ds
+      → till ≤ least_of due n (own_cells f cs) → own_cells f cs ≡ own_cells f ds
+  idle_cells [] [] [] h late = refl
+  idle_cells [] [] (d ∷ ds) h late = absurd h
+  idle_cells [] (l ∷ lists) ds h late = absurd h
+  idle_cells (c ∷ cs) [] ds h late = absurd h
+  idle_cells (c ∷ cs) (l ∷ lists) [] h late = absurd h
+  idle_cells (c ∷ cs) (l ∷ lists) (d ∷ ds) h late =
+      let r = none_less (own_cell f c) (own_cells f cs) late in
+      let first = idle_cell c d l h.0 r.1 in
+      let more = idle_cells cs lists ds h.1 r.0 in
+      λ k. first k ∷ more k

@@ -22,10 +22,13 @@ use Rattle.srm_model.specs.World.{World, cells_after, after_step, least_event, s
 use Rattle.srm_model.specs.Schedules.{own_of}
 use Rattle.srm_engine.specs.NextTimes.{least_of_times}
 use Rattle.srm_model.specs.Hearing.{heard_below, all_hear}
-use Rattle.srm_engine.specs.Seen.{AreTimes}
+use Rattle.srm_engine.proofs.SeenLemmas.{shown_times, times_from}
+use Rattle.srm_engine.specs.Seen.{ShowCells}
+use Rattle.srm_engine.specs.declared.cells.Cells.{Cells}
+use Rattle.srm_member.specs.Record.{Record}
 use Rattle.srm_model.specs.Totalled.{MaySend, and_sent}
 use Rattle.srm_engine.proofs.Hearing.{get_heard, if_below}
-use Rattle.srm_model.proofs.RunLemmas.{least_own, run_by, run_first, step_none, step_is, after_stepped, shifted}
+use Rattle.srm_model.proofs.RunLemmas.{least_own, run_by, run_first, step_none, step_is, after_stepped}
 use Rattle.srm_model.proofs.Settled.{at_member, get_after}
 use Rattle.srm_model.proofs.OneStep.{arrival_is}
 use Rattle.srm_model.proofs.Sequential.{good_reached, step_facts, get_below}
@@ -72,24 +75,12 @@ one_more : (i : ℕ) (ts : List (Option ℕ)) (x y : Option Event) → IsOf i x 
     ≡ option_map time_and_member y → least_of_times i (time_of x ∷ ts) ≡ option_map time_and_member (earlier x y)
 one_more i ts x y h g e = grind arith
 
-least_from_on : (i : ℕ) (ts : List (Option ℕ)) (ps : List PlainCell) → length ts ≡ length ps
-    → ((j : ℕ) (p : PlainCell) → slice_get ps j ≡ Some p → slice_get ts j ≡ Some (time_of (next_event (i + j) p))) → least_of_times i ts
-    ≡ option_map time_and_member (least_event i ps)
+least_from_on : (i : ℕ) (ps : List PlainCell) → least_of_times i (times_from i ps) ≡ option_map time_and_member (least_event i ps)
 unfolding least_event
-least_from_on i [] [] len each = refl
-least_from_on i [] (p ∷ ps) len each = absurd (omega arith)
-least_from_on i (t ∷ ts) [] len each = absurd (omega arith)
-least_from_on i (t ∷ ts) (p ∷ ps) len each =
-    let z : i + 0 ≡ i = omega arith in
-    let is : t ≡ time_of (next_event i p) = same_Some _ _ (each 0 p refl) ∙ ap (λ k. time_of (next_event k p)) z in
-    ap (λ u. least_of_times i (u ∷ ts)) is
-    ∙ one_more i ts (next_event i p) (least_event (suc i) ps) (next_event_of i p) (least_event_from (suc i) ps)
-    (least_from_on (suc i) ts ps (omega arith) (λ j q g. each (suc j) q g ∙ ap (λ k. Some (time_of (next_event k q))) (shifted i j)))
-
-pub least_is_event : (ts : List (Option ℕ)) (ps : List PlainCell) → AreTimes ts ps → least_of_times 0 ts
-    ≡ option_map time_and_member (least_event 0 ps)
-least_is_event ts ps h = least_from_on 0 ts ps h.as_many (λ j p g. h.each j p g
-    ∙ ap (λ k. Some (time_of (next_event k p))) (sym (zero-add j)))
+least_from_on i [] = refl
+least_from_on i (p ∷ ps) =
+    one_more i (times_from (suc i) ps) (next_event i p) (least_event (suc i) ps) (next_event_of i p) (least_event_from (suc i) ps)
+    (least_from_on (suc i) ps)
 
 -- ---- the step
 
@@ -100,17 +91,20 @@ FromPair (Some q) o = (e : Event) × (o ≡ Some e) × (e.key.time ≡ q.0) × (
 from_pair : (q : Option (ℕ × ℕ)) (o : Option Event) → q ≡ option_map time_and_member o → FromPair q o
 from_pair q o h = grind arith
 
-module _ (s : Setting) (w : World) (ts : List (Option ℕ)) (times : AreTimes ts w.cells) where
+module _ {M : Type 0} (f : M → Record) (cells : Cells M) (s : Setting) (w : World) (shown : ShowCells f cells w.cells) where
+  least_is_event : least_of_times 0 cells.times ≡ option_map time_and_member (least_event 0 w.cells)
+  least_is_event = ap (least_of_times 0) (shown_times f cells w.cells shown) ∙ least_from_on 0 w.cells
+
   within : s.traffic.until ≤ s.traffic.until
   within = le_refl s.traffic.until
 
-  pub is_over : None ≡ least_of_times 0 ts → step s w ≡ Idle
-  is_over h = let none : least_event 0 w.cells ≡ None = from_pair None (least_event 0 w.cells) (h ∙ least_is_event ts w.cells times) in
+  pub is_over : None ≡ least_of_times 0 cells.times → step s w ≡ Idle
+  is_over h = let none : least_event 0 w.cells ≡ None = from_pair None (least_event 0 w.cells) (h ∙ least_is_event) in
       step_none s s.traffic.until within w (ap (before s.traffic.until) none)
 
-  module _ (t m : ℕ) (h : Some (t, m) ≡ least_of_times 0 ts) where
+  module _ (t m : ℕ) (h : Some (t, m) ≡ least_of_times 0 cells.times) where
     found : FromPair (Some (t, m)) (least_event 0 w.cells)
-    found = from_pair (Some (t, m)) (least_event 0 w.cells) (h ∙ least_is_event ts w.cells times)
+    found = from_pair (Some (t, m)) (least_event 0 w.cells) (h ∙ least_is_event)
 
     pub is_late : s.traffic.until ≤ t → step s w ≡ Idle
     is_late le = grind (arith, found, step_none)
@@ -118,11 +112,11 @@ module _ (s : Setting) (w : World) (ts : List (Option ℕ)) (times : AreTimes ts
     module _ (early : t < s.traffic.until) where
       pub event : Event
       unfolding found
-      event = (from_pair (Some (t, m)) (least_event 0 w.cells) (h ∙ least_is_event ts w.cells times)).0
+      event = (from_pair (Some (t, m)) (least_event 0 w.cells) (h ∙ least_is_event)).0
 
       pub member_is : event.key.member ≡ m
       unfolding event
-      member_is = (from_pair (Some (t, m)) (least_event 0 w.cells) (h ∙ least_is_event ts w.cells times)).3
+      member_is = (from_pair (Some (t, m)) (least_event 0 w.cells) (h ∙ least_is_event)).3
 
       pub is_least : before s.traffic.until (least_event 0 w.cells) ≡ Some event
       unfolding event

@@ -1,5 +1,5 @@
 -- A window of an engine whose rows are watched.
-use Rattle.std.proofs.Common.{◌≡◌, ◌∙◌, ℕ, List, [], ◌∷◌, Ok, All, length, map, refl, ap, subst, length-append, arith}
+use Rattle.std.proofs.Common.{◌≡◌, ◌∙◌, ℕ, List, Ok, All, map, ap, subst}
 use Rattle.std.specs.Global.{Vec}
 use Rattle.srm_member.specs.Record.{Record}
 use Rattle.srm_member.specs.declared.row.Row.{Row}
@@ -8,18 +8,16 @@ use Rattle.srm_cell.specs.declared.job.Done as job
 use Rattle.srm_cell.specs.Setting.{Setting}
 use Rattle.srm_cell.specs.Crossings.{joined, packets_of}
 use Rattle.srm_cell.specs.Hearing.{IsSent, packets_in}
-use Rattle.srm_cell.specs.Jobs as cell
 use Rattle.srm_interfaces.specs.declared.watched.WatchedJob.{WatchedJob}
 use Rattle.srm_interfaces.specs.declared.watched.WatchedDone.{WatchedDone}
-use Rattle.srm_interfaces.specs.Crews.{AreJobs}
+use Rattle.srm_interfaces.specs.Crews.{AreDone}
 use Rattle.srm_interfaces.specs.Watches.{KeepEach, MapsWatched, jobs_in}
 use Rattle.srm_model.specs.World.{World}
-use Rattle.srm_model.specs.WindowRuns.{jobs_of}
 use Rattle.srm_engine.specs.declared.watch_engine.WatchEngine.{WatchEngine}
 use Rattle.srm_engine.specs.Groups.{all_in, sizes, jobs_with, groups_of, lists_of, some_of}
 use Rattle.srm_engine.specs.WatchedGroups.{watched_with, groups_in, kept_of, sent_of}
 use Rattle.srm_engine.specs.WatchEngines.{IsWatching, kept_by}
-use Rattle.srm_engine.specs.WindowEngines.{ComesTo, EndsNext, setting_by}
+use Rattle.srm_engine.specs.WindowEngines.{ComesTo, EndsNext}
 use Rattle.srm_engine.specs.declared.window_fault.WindowFault.{WindowFault}
 use Rattle.srm_engine.specs.declared.window_fault.WindowFault.TheVariants as window
 use Rattle.srm_engine.specs.Faults.{run_fault_of}
@@ -42,9 +40,6 @@ pub record WatchRan {M K : Type 0} (f : M → Record) (keeps : K → List Row �
 module _ {M K : Type 0} (f : M → Record) (keeps : K → List Row → Type 0) (e : WatchEngine M K) (is : IsWatching f e) (seed : ℕ)
     (begins : List World) (w : World) (comes : ComesTo f seed e.engine begins w) (till : ℕ) (at : EndsNext f e.engine till)
     (js : List (WatchedJob M K)) (same : js ≡ watched_with till 0 e.engine.groups.groups.items e.kept.items) where
-  abbrev upcoming : List cell.PlainJob
-  upcoming = jobs_of e.engine.groups.cut till w
-
   jobs_are : jobs_in js ≡ jobs_with till 0 e.engine.groups.groups.items
   jobs_are = ap jobs_in same ∙ their_jobs till 0 e.engine.groups.groups.items e.kept.items is.each
 
@@ -65,12 +60,12 @@ module _ {M K : Type 0} (f : M → Record) (keeps : K → List Row → Type 0) (
       let ds = maps.0 in
       let es = r.0.items in
       let left = maps.3 in
-      let done = maps.1.are upcoming watched_tell.seen in
-      let own = subst (λ l. AreJobs f l upcoming) jobs_are watched_tell.seen in record {
-        ran = window_ran f e.engine is.under_way seed begins w comes till at ds done;
+      let ran = window_ran f e.engine is.under_way seed begins w comes till at ds
+      (subst (λ l. AreDone f k net l ds) jobs_are maps.1) in record {
+        ran = ran;
         groups = groups_left keeps k net js ds es left;
         each = as_many_left keeps k net js ds es left ∙ ap sizes kept_are ∙ is.each
-            ∙ sizes_kept f (setting_by e.engine seed).traffic till e.engine.groups.groups.items upcoming ds own done;
+            ∙ sizes_kept f till e.engine.groups.groups.items (groups_of ds) ran.ran;
         kept = subst (λ l. KeepEach keeps (all_in l) (lists_of ds) (all_in (kept_of es))) kept_are (all_kept keeps k net js ds es left);
         packets = ap packets_of (joined_some (lists_of ds)) ∙ all_packets keeps k net js ds es left;
         sent = all_sent keeps k net js ds es left;
@@ -88,18 +83,6 @@ module _ {M K : Type 0} (f : M → Record) (keeps : K → List Row → Type 0) (
       → WatchRan f keeps e is.under_way.seed till is.under_way.world maps.0 r.0.items
   watch_ran_now r maps =
       watch_ran f keeps e is is.under_way.seed is.under_way.begins is.under_way.world is.under_way.comes till at js same r maps
-
--- ---- how many
-
-pub all_long : {A B : Type 0} (xs : List (Vec A)) (ys : List (Vec B)) → sizes xs ≡ sizes ys → length (all_in xs) ≡ length (all_in ys)
-all_long [] [] e = refl
-all_long [] (y ∷ ys) e = cc
-all_long (x ∷ xs) [] e = cc
-all_long (x ∷ xs) (y ∷ ys) e =
-    let first : length x.items ≡ length y.items = cc in
-    let rest : sizes xs ≡ sizes ys = cc in
-    let more = all_long xs ys rest in
-    omega (arith, first, more, length-append x.items (all_in xs), length-append y.items (all_in ys))
 
 -- ---- a run
 

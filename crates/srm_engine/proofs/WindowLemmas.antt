@@ -5,7 +5,7 @@ use Rattle.std.proofs.Common.{All, IsSorted, IsPermutation, length, map, drop, s
 use Rattle.std.proofs.lemmas.List.{length-map}
 use Rattle.std.proofs.lemmas.Option.{same_Some}
 use Rattle.std.proofs.lemmas.List.Sorted.{IsPermutation-refl}
-use Rattle.std.specs.List.{AllZip, range_with_len}
+use Rattle.std.specs.List.{range_with_len}
 use Rattle.std.specs.Global.{Vec}
 use Rattle.srm_net.specs.Network.{Network}
 use Rattle.srm_scenario.specs.Plain.{PlainScenario, network_of}
@@ -28,7 +28,7 @@ use Rattle.srm_cell.proofs.FitSettings.{settings_are_fit}
 use Rattle.srm_interfaces.specs.declared.fault.CrewFault.{CrewFault}
 use Rattle.srm_interfaces.specs.declared.fault.CrewFault.TheVariants as crew
 use Rattle.srm_interfaces.specs.Watches.{KeepEach, KeepMembers}
-use Rattle.srm_interfaces.specs.Crews.{AreJobs, AnyEnds, AreRowsOfSome, TellsMap, HasGrown, IsPast, rows_of, counted_in}
+use Rattle.srm_interfaces.specs.Crews.{AreDone, AnyEnds, AreRowsOfSome, Maps, HasGrown, IsPast, rows_of, counted_in, plain_jobs}
 use Rattle.srm_engine.specs.declared.window_engine.WindowEngine.{WindowEngine}
 use Rattle.srm_engine.specs.declared.window_fault.WindowFault.{WindowFault}
 use Rattle.srm_engine.specs.declared.window_fault.WindowFault.TheVariants as window
@@ -44,13 +44,16 @@ use Rattle.srm_interfaces.specs.declared.sink.Stage.{Stage}
 use Rattle.srm_interfaces.specs.Sinks.{stage_after}
 use Rattle.srm_model.specs.World.{World, row_cmp, IsReached, IsLast, opening}
 use Rattle.srm_model.specs.Schedules.{IsSafe, HasNoResult}
-use Rattle.srm_model.specs.WindowRuns.{OwnResult, own_cells, AreOwnRuns, rows_in, cells_in, IsMerge, AreNewInTurn, each_hears}
+use Rattle.srm_model.specs.WindowRuns.{OwnResult, AreOwnRuns, AreRunsOf, jobs_from, rows_in, cells_in, IsMerge, AreNewInTurn, each_hears}
 use Rattle.srm_model.specs.WindowRuns.{IsWindow, after_window, jobs_of}
 use Rattle.srm_model.specs.WindowChains.{IsNext, start_of, IsEndRule, AreWindows}
 use Rattle.srm_engine.proofs.KeptLemmas.{kept_goes_on}
-use Rattle.srm_engine.specs.Groups.{AreGrouped, all_in, jobs_with, groups_of, lists_of, some_of}
+use Rattle.srm_engine.specs.Groups.{AreCuts, AreGrouped, RanGroups, all_in, jobs_with, groups_of, lists_of, some_of}
 use Rattle.srm_engine.specs.declared.ends.Ends.{Ends}
-use Rattle.srm_engine.specs.Ends.{BeginsAt, MayEnd, TellsCutting, ends_rule}
+use Rattle.srm_engine.specs.Ends.{MayEnd, TellsCutting, end_from, ends_rule}
+use Rattle.srm_engine.specs.declared.ends.Ends.TheVariants.{After, Promised}
+use Rattle.srm_engine.specs.Seen.{plain_cells}
+use Rattle.srm_engine.specs.Soonest.{first_promise}
 use Rattle.srm_engine.specs.Faults.{window_fault_of, run_fault_of}
 use Rattle.srm_engine.specs.Streams.{sink_in, TellsHalt, stream_fault_of, run_fault_in}
 use Rattle.srm_scenario.specs.declared.session.Session.{Session}
@@ -59,8 +62,10 @@ use Rattle.srm_engine.specs.RowRuns.{MayLackWindow, UndoneAfter}
 use Rattle.srm_engine.specs.WindowStreams.{MeetsWindowRefusal, TellsStreamAsked, RefusedAtWindow}
 use Rattle.srm_engine.specs.Windowed.{IsCounted, MayCome, MayRefuseWindow, TellsRunAsked, rule_of}
 use Rattle.srm_engine.specs.WindowEngines.{ComesTo, IsUnderWay, BeginsNext, EndsNext, frame_of, setting_by, rule_by}
-use Rattle.srm_engine.proofs.CellLists.{from_seen, seen_from, few_groups}
-use Rattle.srm_engine.proofs.JobLemmas.{any_cell, are_jobs, may_advance, as_many_jobs, places_with, job_results, cuts_kept, joined_some}
+use Rattle.srm_engine.proofs.CellLists.{as_many, few_groups, own_all, still_from}
+use Rattle.srm_engine.proofs.SoonLemmas.{promised_by}
+use Rattle.srm_engine.proofs.JobLemmas.{any_cell, seen_jobs, may_advance, as_many_jobs, places_with, job_results, ran_groups, sizes_kept}
+use Rattle.srm_engine.proofs.JobLemmas.{joined_some}
 use Rattle.srm_engine.proofs.JobLemmas.{counted_more, counted_merged, rows_joined}
 use Rattle.srm_model.proofs.LawProofs.{never_spent}
 use Rattle.srm_model.proofs.OneWindow.{as_many_results}
@@ -87,7 +92,7 @@ pub record JobsTell {M : Type 0} (f : M → Record) (e : WindowEngine M) (seed t
   pub may : All (λ (j : Job M). cell.MayAdvance f (length e.session.net.now.hosts) j) js
   pub few : length js ≤ most_nodes
   pub placed : map (λ (j : Job M). j.place) js ≡ range_with_len 0 (length js)
-  pub seen : AreJobs f js (jobs_of e.groups.cut till w)
+  pub seen : plain_jobs f js ≡ jobs_of e.groups.cut till w
   pub not_spent : AnyEnds Spent (jobs_of e.groups.cut till w) → ⊥
   pub full : AnyEnds Full (jobs_of e.groups.cut till w)
       → MayRefuseWindow (setting_by e seed) (rule_by e seed w) e.groups.cut w window.CountFull
@@ -106,7 +111,7 @@ of_a_window crew.Spent ne = absurd (ne refl)
 -- what a crew's refusal tells of the window
 pub map_refused : {M : Type 0} (f : M → Record) (e : WindowEngine M) (seed till : ℕ) (w : World)
     (js : List (Job M)) → JobsTell f e seed till w js → (x : CrewFault) (y : WindowFault) → window_fault_of x ≡ Some y
-    → TellsMap f (setting_by e seed).traffic e.seat (jobs_of e.groups.cut till w) (Err x)
+    → Maps f e.session.scenario.now e.session.net.now e.seat js (Err x)
     → MayRefuseWindow (setting_by e seed) (rule_by e seed w) e.groups.cut w y
 map_refused f e seed till w js j x y is h = grind arith
 
@@ -115,9 +120,10 @@ pub record WindowRan {M : Type 0} (f : M → Record) (e : WindowEngine M) (seed 
     (ds : List (job.Done M)) : Type 0 where
   pub results : List OwnResult
   pub alone : AreOwnRuns till 0 w.cells results
-  pub grouped : AreGrouped f e.groups.cut (groups_of ds) (cells_in results)
+  pub grouped : AreGrouped f e.groups.cut (groups_of ds)
+  pub shown : plain_cells f (all_in (groups_of ds)) ≡ cells_in results
+  pub ran : RanGroups f till e.groups.groups.items (groups_of ds)
   pub rows : lists_of ds ≡ rows_in results
-  pub as_many : length (cells_in results) ≡ length w.cells
   pub members : length (cells_in results) ≡ length e.session.scenario.now.members
 
 -- ---- the next window
@@ -138,8 +144,8 @@ module _ {M : Type 0} (f : M → Record) (e : WindowEngine M) (is : IsUnderWay f
   pub reached : IsReached s w
   reached = (windows_are_reached s (rule_by e seed) begins w comes.windows).0
 
-  pub members_are : length w.cells ≡ length e.session.scenario.now.members
-  members_are = (good_reached s fit reached.0 w reached.1).members
+  pub members_are : length (all_in e.groups.groups.items) ≡ length e.session.scenario.now.members
+  members_are = as_many f (all_in e.groups.groups.items) w.cells comes.shown ∙ (good_reached s fit reached.0 w reached.1).members
 
   -- where something is pending
   module _ (begin : ℕ) (at : BeginsNext f e begin) (early : begin < e.session.scenario.now.until) where
@@ -149,8 +155,13 @@ module _ {M : Type 0} (f : M → Record) (e : WindowEngine M) (is : IsUnderWay f
     pub next : (v : Event) × IsNext s w v
     next = let v = (starts_tell s w).0 (let b = begin_is in omega arith) in (v.0, v.1)
 
-    pub begins_at : BeginsAt s w e.groups.cut e.groups.soon.items begin e.session.scenario.now.until
-    begins_at = record { fit = fit; reached = reached; soon = comes.kept.soon; begin_is = begin_is; until_is = refl }
+    pub ends_at : end_from e.ends e.groups.soon.items begin e.session.scenario.now.until ≡ rule_by e seed w
+    ends_at = by e.ends
+      where
+        by : (ends : Ends) → end_from ends e.groups.soon.items begin e.session.scenario.now.until ≡ ends_rule s ends w
+        by (After n) = ap (λ k. min (k + n) e.session.scenario.now.until) begin_is
+        by Promised = ap (first_promise e.session.scenario.now.until) comes.kept.soon
+            ∙ promised_by f s e.groups.groups.items w comes.kept.grouped.order comes.shown
 
   -- nothing is pending
   pub is_last : (begin : ℕ) → BeginsNext f e begin → e.session.scenario.now.until ≤ begin → IsLast s w
@@ -165,7 +176,7 @@ module _ {M : Type 0} (f : M → Record) (e : WindowEngine M) (is : IsUnderWay f
     abbrev cut : ℕ
     cut = e.groups.cut
 
-    grouped : AreGrouped f cut gs w.cells
+    grouped : AreGrouped f cut gs
     grouped = comes.kept.grouped
 
     abbrev upcoming : List cell.PlainJob
@@ -190,8 +201,9 @@ module _ {M : Type 0} (f : M → Record) (e : WindowEngine M) (is : IsUnderWay f
     hosts_are = ap (λ (n : Network). length n.hosts) e.session.network ∙ length-map e.session.scenario.now.members
         (λ (k : MemberSpec). k.node)
 
-    own_jobs : AreJobs f (jobs_with till 0 gs) upcoming
-    own_jobs = are_jobs f cut till 0 gs (own_cells 0 w.cells) comes.kept.cut.0 grouped.cuts (from_seen f (all_in gs) w.cells grouped.cells)
+    own_jobs : plain_jobs f (jobs_with till 0 gs) ≡ upcoming
+    own_jobs = seen_jobs f cut till 0 gs comes.kept.cut.0 grouped.cuts
+        ∙ ap (jobs_from cut till 0) (own_all f (all_in gs) w.cells grouped.order comes.shown)
 
     -- what is known of the jobs of a window, before and after the crew's call
     pub jobs_tell : (js : List (Job M)) → js ≡ jobs_with till 0 gs → JobsTell f e seed till w js
@@ -204,15 +216,14 @@ module _ {M : Type 0} (f : M → Record) (e : WindowEngine M) (is : IsUnderWay f
               let cuts = comes.kept.cut in
               let b = within in
               subst (All (λ (j : Job M). cell.MayAdvance f (length e.session.net.now.hosts) j)) (sym same)
-              (may_advance f cut till (length e.session.net.now.hosts) gs w.cells cuts.0 cuts.1 (omega arith) (omega arith) grouped.cuts
-              (from_seen f (all_in gs) w.cells grouped.cells));
+              (may_advance f cut till (length e.session.net.now.hosts) 0 0 gs cuts.0 cuts.1 (omega arith) grouped.order (omega arith)
+              grouped.cuts);
           few =
               let b = few_groups cut gs comes.kept.cut.0 grouped.cuts in
-              let c = grouped.cells.as_many in
               let most = few_members e.session.scenario.now is.accepted in
               omega (arith, a);
           placed = ap (map (λ (j : Job M). j.place)) same ∙ places_with f till 0 gs ∙ ap (range_with_len 0) (sym a);
-          seen = subst (λ l. AreJobs f l upcoming) (sym same) own_jobs;
+          seen = ap (plain_jobs f) same ∙ own_jobs;
           not_spent = λ h.
               let r = any_cell Spent cut till w h in
               (never_spent s w fit reached).1 till r.0 r.3.0 r.1 r.2 r.3.1;
@@ -232,19 +243,23 @@ module _ {M : Type 0} (f : M → Record) (e : WindowEngine M) (is : IsUnderWay f
         }
 
     -- what the crew did
-    pub window_ran : (ds : List (job.Done M)) → AllZip (λ p d. cell.IsDone f s.traffic p d) upcoming ds → WindowRan f e seed till w ds
+    pub window_ran : (ds : List (job.Done M)) → AreDone f e.session.scenario.now e.session.net.now (jobs_with till 0 gs) ds
+        → WindowRan f e seed till w ds
     window_ran ds h =
-        let r = job_results f s.traffic cut till w ds comes.kept.cut.0 h in
-        let many = as_many_results till 0 w.cells r.0 r.1 in record {
-          results = r.0;
-          alone = r.1;
+        let r = job_results f e.session.scenario.now e.session.net.now till gs ds h in
+        let ran = ran_groups f e.session.scenario.now e.session.net.now till 0 gs ds h in
+        let alone = subst (λ qs. AreRunsOf till qs r.results) (own_all f (all_in gs) w.cells grouped.order comes.shown) r.alone in
+        let many = as_many_results till 0 w.cells r.results alone in record {
+          results = r.results;
+          alone = alone;
           grouped = record {
-            cells = seen_from f (all_in (groups_of ds)) (cells_in r.0) r.2;
-            cuts = cuts_kept f s.traffic cut till gs upcoming ds grouped.cuts own_jobs h;
+            order = still_from f 0 (all_in gs) (all_in (groups_of ds)) grouped.order r.sound r.numbers;
+            cuts = subst (AreCuts cut) (sizes_kept f till gs (groups_of ds) ran) grouped.cuts;
           };
-          rows = r.3;
-          as_many = many;
-          members = many ∙ members_are;
+          shown = r.shown;
+          ran = ran;
+          rows = r.rows;
+          members = many ∙ sym (as_many f (all_in gs) w.cells comes.shown) ∙ members_are;
         }
 
     -- ---- its rows

@@ -5,15 +5,15 @@ use Rattle.srm_member.specs.declared.row.Row.{Row}
 use Rattle.srm_member.specs.Record.{Record}
 use Rattle.srm_cell.specs.Setting.{Traffic, Setting, traffic_of, setting_of}
 use Rattle.srm_cell.specs.Crossings.{packets_of}
-use Rattle.srm_cell.specs.Cells.{PlainCell, StepOutcome, Idle, Full, Done}
+use Rattle.srm_cell.specs.Cells.{StepOutcome, Idle, Full, Done}
 use Rattle.srm_cell.specs.Tallies.{Tallies}
 use Rattle.srm_cell.specs.Views.{HasWork}
 use Rattle.srm_engine.specs.declared.engine.Engine.{Engine}
 use Rattle.srm_engine.specs.declared.step_fault.StepFault.{StepFault}
 use Rattle.srm_engine.specs.declared.step_fault.StepFault.TheVariants as fault
 use Rattle.srm_model.specs.World.{World, IsReached, step, opening}
-use Rattle.srm_model.specs.Hearing.{IsUnheard, all_hear, heard_below}
-use Rattle.srm_engine.specs.Seen.{ShowCells}
+use Rattle.srm_model.specs.Hearing.{IsUnheard, all_hear}
+use Rattle.srm_engine.specs.Seen.{AreWhole, ShowCells, shown_in}
 use Rattle.srm_model.specs.Totalled.{and_sent, MaySend}
 use Rattle.srm_net.specs.Limits.{end_of_time}
 
@@ -59,29 +59,28 @@ module _ {M : Type 0} where
   -- a packet, if any, may be sent: it is new to all cells, and the packets so far are few enough to be counted
   abbrev pub MaySendNow : (M → Record) → Engine M → Option Packet → Type 0
   MaySendNow f e sent =
-      (ps : List PlainCell) × (qs : List Packet) × ShowCells f e.cells ps × HasCounted e qs
-      × MaySend (length e.session.scenario.now.members) ps qs sent
+      (ps : List Packet) × AreWhole f e.cells × HasCounted e ps
+      × MaySend (length e.session.scenario.now.members) (shown_in f e.cells) ps sent
 
   -- after a packet was sent, if any was: all cells have heard it, and it is counted
   abbrev pub Sends : (M → Record) → Option Packet → Engine M → Engine M → Type 0
   Sends f sent old new =
-      (ps : List PlainCell) (qs : List Packet) → ShowCells f old.cells ps → HasCounted old qs
-      → ShowCells f new.cells (all_hear (traffic_in old) sent ps) × HasCounted new (and_sent sent qs)
+      (ps : List Packet) → AreWhole f old.cells → HasCounted old ps
+      → ShowCells f new.cells (all_hear (traffic_in old) sent (shown_in f old.cells))
+      × HasCounted new (and_sent sent ps)
 
   -- a packet may be handed out: members sent it before the latest end of all, and it is new to the cells of all members
   pub record MayDeliver (f : M → Record) (p : Packet) (e : Engine M) : Type 0 where
     pub sent : p.sent < end_of_time
     pub sender : p.id.sender < length e.session.scenario.now.members
-    pub members : length e.cells.cells.items ≡ length e.session.scenario.now.members
-    pub cells : List PlainCell
-    pub seen : ShowCells f e.cells cells
-    pub new : IsUnheard p.id cells
+    pub members : length (shown_in f e.cells) ≡ length e.session.scenario.now.members
+    pub whole : AreWhole f e.cells
+    pub new : IsUnheard p.id (shown_in f e.cells)
 
   -- after a packet was handed out: every cell has heard it
   abbrev pub Delivers : (M → Record) → Packet → Engine M → Engine M → Type 0
   Delivers f p old new =
-      (ps : List PlainCell) → ShowCells f old.cells ps
-      → ShowCells f new.cells (heard_below (traffic_in old) p (length ps) 0 ps)
+      AreWhole f old.cells → ShowCells f new.cells (all_hear (traffic_in old) (Some p) (shown_in f old.cells))
 
   -- the engine is seen as the opening world with a seed
   abbrev pub IsOpened : (M → Record) → ℕ → Engine M → Type 0

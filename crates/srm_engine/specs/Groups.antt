@@ -1,6 +1,7 @@
 -- The cells of all members, those of each job together.
 use Rattle.std.specs.Prelude.{◌≡◌, ◌<◌, ◌≤◌, ℕ, suc, List, [], ◌∷◌, ◌++◌, length, map}
 use Rattle.std.specs.Prelude.{IsPermutation}
+use Rattle.std.specs.List.{AllZip}
 use Rattle.std.specs.Global.{Vec}
 use Rattle.srm_member.specs.declared.row.Row.{Row}
 use Rattle.srm_member.specs.Record.{Record}
@@ -11,10 +12,11 @@ use Rattle.srm_cell.specs.Setting.{Setting}
 use Rattle.srm_cell.specs.Cells.{PlainCell}
 use Rattle.srm_cell.specs.Crossings.{packets_of}
 pub use Rattle.srm_interfaces.specs.Grouped.{all_in, sizes}
-use Rattle.srm_engine.specs.Seen.{AreCellsInOrder}
+use Rattle.srm_cell.specs.Jobs.{RanEach}
+use Rattle.srm_engine.specs.Seen.{AreInOrder, plain_cells}
 use Rattle.srm_engine.specs.declared.groups.Groups.{Groups}
-use Rattle.srm_engine.specs.Soonest.{AreSoonest}
-use Rattle.srm_model.specs.WindowRuns.{OwnResult, AreOwnRuns, cells_in, AreNewInTurn, each_hears}
+use Rattle.srm_engine.specs.Soonest.{soon_in}
+use Rattle.srm_model.specs.WindowRuns.{AreNewInTurn, each_hears}
 
 -- ---- rows
 
@@ -42,10 +44,9 @@ AreFull cut [] = Unit {0}
 AreFull cut (n ∷ ns) = (n ≡ cut) × AreFull cut ns
 
 module _ {M : Type 0} where
-  -- the groups are those of all these plain cells, in runs of `cut`
-  pub record AreGrouped (f : M → Record) (cut : ℕ) (gs : List (Vec (Cell M)))
-      (ps : List PlainCell) : Type 0 where
-    pub cells : AreCellsInOrder f (all_in gs) ps
+  -- the cells of all groups stand in the order of their members' numbers, in runs of `cut`
+  pub record AreGrouped (f : M → Record) (cut : ℕ) (gs : List (Vec (Cell M))) : Type 0 where
+    pub order : AreInOrder f (all_in gs)
     pub cuts : AreCuts cut (sizes gs)
 
   -- the jobs that have these groups, from a place on
@@ -63,12 +64,15 @@ module _ {M : Type 0} where
   lists_of [] = []
   lists_of (d ∷ ds) = d.rows.items ++ lists_of ds
 
-  -- the groups are those of all these plain cells, and what is kept of them is how soon something is due in each
-  pub record AreKept (f : M → Record) (s : Setting) (e : Groups M)
-      (ps : List PlainCell) : Type 0 where
+  -- all cells as they are seen
+  abbrev pub cells_of : (M → Record) → Groups M → List PlainCell
+  cells_of f e = plain_cells f (all_in e.groups.items)
+
+  -- the groups are those of all members, and what is kept of them is how soon something is due in each
+  pub record AreKept (f : M → Record) (s : Setting) (e : Groups M) : Type 0 where
     pub cut : IsCut e.cut
-    pub grouped : AreGrouped f e.cut e.groups.items ps
-    pub soon : AreSoonest s e.cut e.soon.items ps
+    pub grouped : AreGrouped f e.cut e.groups.items
+    pub soon : e.soon.items ≡ soon_in f s e.groups.items
 
   -- groups may be looked through again in a run with n members: they are runs of `cut` cells, of no more members, and
   -- something is kept of each
@@ -78,24 +82,28 @@ module _ {M : Type 0} where
     pub members : length (all_in e.groups.items) ≤ n
     pub many : length e.groups.items ≤ length e.soon.items
 
+  -- each group's cells are those of another after their own runs to a tick
+  abbrev pub RanGroups : (M → Record) → ℕ → List (Vec (Cell M)) → List (Vec (Cell M)) → Type 0
+  RanGroups f till gs hs = AllZip (λ g h. (lists : List (List Row)) × RanEach f till g.items lists h.items) gs hs
+
   -- after groups were looked through again: where what was kept is how soon something was due before the own runs of
   -- all cells to a tick, what is kept is how soon something is due after them
   abbrev pub LooksAgain : (M → Record) → Setting → ℕ → Groups M → Groups M → Type 0
   LooksAgain f s till old new =
-      (ps : List PlainCell) (results : List OwnResult) → AreOwnRuns till 0 ps results
-      → AreGrouped f old.cut old.groups.items (cells_in results) → AreSoonest s old.cut old.soon.items ps
-      → AreKept f s new (cells_in results)
+      (before : List (Vec (Cell M))) → RanGroups f till before old.groups.items → old.soon.items ≡ soon_in f s before
+      → AreGrouped f old.cut old.groups.items → AreKept f s new
 
   -- after the packets of rows were handed out, one after the other: every cell has heard them
   abbrev pub Hears : (M → Record) → Setting → List Row → Groups M → Groups M → Type 0
   Hears f s rows old new =
-      (ps : List PlainCell) → AreKept f s old ps → AreKept f s new (each_hears s.traffic 0 rows ps)
+      AreKept f s old → AreKept f s new × (cells_of f new ≡ each_hears s.traffic 0 rows (cells_of f old))
 
   -- the packets of rows may be handed out in any order
-  abbrev pub MayHearInAnyOrder : (M → Record) → Setting → List Row → Groups M → Type 0
-  MayHearInAnyOrder f s rows e =
-      (ps : List PlainCell) × AreKept f s e ps × (length ps ≡ s.traffic.members)
-      × ((others : List Row) → IsPermutation (packets_of rows) (packets_of others) → AreNewInTurn s.traffic others ps)
+  pub record MayHearInAnyOrder (f : M → Record) (s : Setting) (rows : List Row) (e : Groups M) : Type 0 where
+    pub kept : AreKept f s e
+    pub members : length (all_in e.groups.items) ≡ s.traffic.members
+    pub new : (others : List Row) → IsPermutation (packets_of rows) (packets_of others)
+        → AreNewInTurn s.traffic others (cells_of f e)
 
   -- after that every cell has heard them in some order
   abbrev pub HearsInSomeOrder : (M → Record) → Setting → List Row → Groups M → Groups M → Type 0

@@ -1,13 +1,13 @@
 -- What a run is given, and what it tells.
-use Rattle.std.specs.Prelude.{◌≡◌, ◌≢◌, ◌⊎◌, ℕ, List, [], ◌∷◌, Option, None, Result, MatchResult}
+use Rattle.std.specs.Prelude.{◌≡◌, ◌≢◌, ◌⊎◌, ℕ, All, List, map, Option, Some, None, Result, MatchResult}
 use Rattle.srm_net.specs.Network.{Network}
 use Rattle.srm_scenario.specs.Plain.{PlainScenario}
 use Rattle.srm_member.specs.declared.exit.Exit.{Exit}
-use Rattle.srm_member.specs.Record.{Record, Active, Gone}
+use Rattle.srm_member.specs.Record.{Record, MemberState}
 use Rattle.srm_cell.specs.declared.cell.Cell.{Cell}
 use Rattle.srm_cell.specs.Setting.{Setting, setting_of}
 use Rattle.srm_cell.specs.Cells.{PlainCell}
-use Rattle.srm_cell.specs.Views.{IsCell}
+use Rattle.srm_cell.specs.Views.{plain_cell}
 use Rattle.srm_engine.specs.declared.fault.RunFault.{RunFault}
 use Rattle.srm_engine.specs.declared.fault.RunFault.TheVariants as fault
 use Rattle.srm_engine.specs.declared.outcome.Outcome.{Outcome}
@@ -26,19 +26,20 @@ TellsOutcome s r = MatchResult r (λ v. IsOutcome s v.trace.items v.exits.items 
 abbrev pub RunsFrom : PlainScenario → Network → List Record → Result Outcome RunFault → Type 0
 RunsFrom p net rs r = (seed : ℕ) → HoldOpeningRecords p net seed rs → TellsOutcome (setting_of p net seed) r
 
--- a member whose record is gone has left its exit
-abbrev pub HasEnd : Record → Option Exit → Type 0
-HasEnd (Active m) x = Unit {0}
-HasEnd (Gone f) x = x ≢ None
+-- a member that is gone has left its exit
+abbrev pub HasEnd : Option MemberState → Option Exit → Type 0
+HasEnd (Some m) x = Unit {0}
+HasEnd None x = x ≢ None
+
+-- what the cell ends with, as its member left or as it is
+abbrev pub end_of : PlainCell → Exit
+end_of p = exit_at p.holds p.exit
 
 module _ {M : Type 0} where
-  -- each cell may be seen as one whose member is there, or has left its exit
+  -- the member of each cell is there, or has left its exit
   abbrev pub AllEnd : (M → Record) → List (Cell M) → Type 0
-  AllEnd f [] = Unit {0}
-  AllEnd f (c ∷ cs) = ((m : ℕ) × (p : PlainCell) × IsCell f m c p × HasEnd p.holds p.exit) × AllEnd f cs
+  AllEnd f cs = All (λ c. HasEnd (plain_cell f c).holds (plain_cell f c).exit) cs
 
-  -- each exit is what the cell's member ends with, as it left or as it is
-  abbrev pub EndAs : (M → Record) → List (Cell M) → List Exit → Type 0
-  EndAs f [] [] = Unit {0}
-  EndAs f (c ∷ cs) (x ∷ xs) = ((m : ℕ) (p : PlainCell) → IsCell f m c p → x ≡ exit_at p.holds p.exit) × EndAs f cs xs
-  EndAs f cs xs = ⊥
+  -- what each cell ends with
+  abbrev pub ends_of : (M → Record) → List (Cell M) → List Exit
+  ends_of f cs = map (λ c. end_of (plain_cell f c)) cs

@@ -16,7 +16,7 @@ use Rattle.srm_engine.specs.declared.halt.Halt.{Halt}
 use Rattle.srm_engine.specs.declared.window_engine.WindowEngine.{WindowEngine}
 use Rattle.srm_engine.specs.declared.window_fault.WindowFault.{WindowFault}
 use Rattle.srm_engine.specs.Ends.{ends_rule, MayEnd}
-use Rattle.srm_engine.specs.Groups.{AreKept}
+use Rattle.srm_engine.specs.Groups.{AreKept, cells_of}
 use Rattle.srm_engine.specs.Starts.{setting_on}
 use Rattle.srm_engine.specs.Streams.{TellsHalt}
 use Rattle.srm_engine.specs.Windowed.{IsCounted, MayCome}
@@ -39,7 +39,8 @@ module _ {M : Type 0} where
   pub record ComesTo (f : M → Record) (seed : ℕ) (e : WindowEngine M) (begins : List World)
       (w : World) : Type 0 where
     pub windows : AreWindows (setting_by e seed) (rule_by e seed) begins w
-    pub kept : AreKept f (setting_by e seed) e.groups w.cells
+    pub kept : AreKept f (setting_by e seed) e.groups
+    pub shown : cells_of f e.groups ≡ w.cells
     pub counted : IsCounted (setting_by e seed).traffic e.ledger w.trace e.seat
 
   -- the run is under way: its scenario is accepted, the ledger has the network's links, windows may end so, and some of

@@ -1,9 +1,8 @@
 //! A crew that keeps rows, as one that keeps what a watch keeps of them.
-ghost use Rattle.std.specs.Prelude.{◌≡◌, ◌∷◌, [], List, map, All, IfOk};
+ghost use Rattle.std.specs.Prelude.{◌≡◌, ◌∷◌, [], map, All, IfOk};
 ghost use Rattle.srm_cell.specs.Setting.{traffic_of};
-ghost use Rattle.srm_cell.specs.Jobs.{PlainJob};
 ghost use Rattle.srm_cell.specs.Hearing.{IsSent, packets_in};
-ghost use Rattle.srm_interfaces.specs.Crews.{AreJobs};
+ghost use Rattle.srm_interfaces.specs.Crews.{plain_jobs};
 ghost use Rattle.srm_interfaces.specs.Hearers.{GroupsMayHear, TellsHeard};
 ghost use Rattle.srm_interfaces.specs.Watches.{jobs_in, MayMap, MapsWatched};
 ghost use Rattle.srm_engine.specs.ByRows.{kept_in, LeftEach, MayLeave};
@@ -78,7 +77,7 @@ impl<'a, M: Participant, K: Drop, W: Watch<K> + Drop, C: Crew<M>> WatchCrew<M, K
 
     ghost ready = { λ c. C.ready c.crew.now };
 
-    ghost serves = { λ c k net. C.serves c.crew.now k net };
+    ghost serves = { λ _ _ _. Unit {0} };
 
     ghost same = { λ a b. b.crew.ghost_name ≡ a.crew.ghost_name };
 
@@ -102,15 +101,15 @@ impl<'a, M: Participant, K: Drop, W: Watch<K> + Drop, C: Crew<M>> WatchCrew<M, K
         jobs: Vec<WatchedJob<M, K>>,
     ) -> Result<(Vec<WatchedDone<M, K>>, Seat), CrewFault>
         requires ready { C.ready self.old.crew.now }
-        requires serves { C.serves self.old.crew.now session.scenario.now session.net.now }
+        requires serves { Unit {0} }
         requires may { MayMap M.plain session.net.now ledger.now seat jobs.items }
         ensures ready { C.ready self.new.crew.now }
-        ensures serves { C.serves self.new.crew.now session.entry.scenario.now session.entry.net.now }
+        ensures serves { Unit {0} }
         ensures same { self.new.crew.ghost_name ≡ self.old.crew.ghost_name }
         ensures done { MapsWatched M.plain (W.keeps watch) session.entry.scenario.now session.entry.net.now seat
             jobs.items result }
-        ensures handed { IfOk result (λ _. (ps : List PlainJob) → AreJobs M.plain (jobs_in jobs.items) ps
-            → C.handed self.old.crew.now (ps ∷ []) self.new.crew.now) }
+        ensures handed { IfOk result (λ _.
+            C.handed self.old.crew.now (plain_jobs M.plain (jobs_in jobs.items) ∷ []) self.new.crew.now) }
     {
         let Ok((jobs, kept)) = jobs_and_kept(alloc, jobs) else {
             return Err(CrewFault::NoMemory);
@@ -136,12 +135,12 @@ impl<'a, M: Participant, K: Drop, W: Watch<K> + Drop, C: Crew<M>> WatchCrew<M, K
         groups: Vec<Vec<Cell<M>>>,
     ) -> Result<Vec<Vec<Cell<M>>>, AllocError>
         requires ready { C.ready self.old.crew.now }
-        requires serves { C.serves self.old.crew.now session.scenario.now session.net.now }
+        requires serves { Unit {0} }
         requires sent { All (λ x. IsSent session.scenario.now session.net.now x) sent.items }
         requires groups { GroupsMayHear M.plain (traffic_of session.scenario.now session.net.now)
             (packets_in sent.items) groups.items }
         ensures ready { C.ready self.new.crew.now }
-        ensures serves { C.serves self.new.crew.now session.entry.scenario.now session.entry.net.now }
+        ensures serves { Unit {0} }
         ensures same { self.new.crew.ghost_name ≡ self.old.crew.ghost_name }
         ensures heard { TellsHeard M.plain (traffic_of session.entry.scenario.now session.entry.net.now)
             (packets_in sent.items) groups.items result }

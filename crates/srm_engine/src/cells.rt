@@ -4,7 +4,7 @@ ghost use Rattle.srm_net.specs.Limits.{end_of_time};
 ghost use Rattle.srm_cell.specs.PutRows.{PutsStep};
 ghost use Rattle.srm_engine.specs.Seen.{AreNextTimes, HandsTo, TakesStep, IsIndexOf, IsNewAt};
 ghost use Rattle.srm_engine.specs.Openings.{MayOpen, Opens};
-ghost use Rattle.srm_engine.specs.Outcomes.{AllEnd, EndAs};
+ghost use Rattle.srm_engine.specs.Outcomes.{AllEnd, ends_of};
 
 use crate::next_times::NextTimes;
 use srm_cell::cell::Cell;
@@ -42,7 +42,7 @@ pub(crate) fn finish_cells<M: Participant>(
     cells: Vec<Cell<M>>,
 ) -> Result<Vec<Exit>, AllocError>
     requires { AllEnd M.plain cells.items }
-    ensures { IfOk result (λ exits. EndAs M.plain cells.items exits.items) }
+    ensures { IfOk result (λ exits. exits.items ≡ ends_of M.plain cells.items) }
 {
     let mut exits = Vec::with_capacity(alloc, cells.len())?;
     for cell in cells {

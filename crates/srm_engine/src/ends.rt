@@ -1,11 +1,10 @@
 //! Where windows end.
-ghost use Rattle.std.specs.Prelude.{◌≡◌, ◌<◌, ◌≤◌, ◌+◌, ◌↔◌, ℕ, IsTrue, min, length};
-ghost use Rattle.srm_cell.specs.Setting.{Setting, setting_of};
-ghost use Rattle.srm_model.specs.World.{World};
+ghost use Rattle.std.specs.Prelude.{◌≡◌, ◌<◌, ◌+◌, ◌↔◌, ℕ, IsTrue, min, length};
+ghost use Rattle.srm_cell.specs.Setting.{setting_of};
 ghost use Rattle.srm_model.specs.Windows.{IsWidth, way_of};
 ghost use Rattle.srm_model.specs.WindowChains.{least_width};
 ghost use Rattle.srm_engine.specs.Starts.{setting_on};
-ghost use Rattle.srm_engine.specs.Ends.{ends_rule, BeginsAt, TellsRule};
+ghost use Rattle.srm_engine.specs.Ends.{end_from, TellsRule};
 
 use crate::soonest::{Soonest, least_promise};
 use crate::width::Width;
@@ -44,8 +43,7 @@ impl Ends {
     /// When the window ends that begins at tick `begin`, where something is due in the groups so soon.
     pub(crate) fn end(&self, soon: &[Soonest], begin: u64, until: u64) -> u64
         requires early { begin < until }
-        ensures { (s : Setting) (w : World) (cut : ℕ) → BeginsAt s w cut soon.now begin until
-            → result ≡ ends_rule s self.now w }
+        ensures { result ≡ end_from self.now soon.now begin until }
     {
         match self {
             Ends::After(width) => after(begin, *width, until),

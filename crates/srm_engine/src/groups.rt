@@ -1,11 +1,10 @@
 //! The cells of all members, those of each job together.
 ghost use Rattle.std.specs.Prelude.{◌≡◌, ◌<◌, ◌≤◌, [], ℕ, List, All, IfOk, length};
-ghost use Rattle.srm_cell.specs.Cells.{PlainCell};
 ghost use Rattle.srm_member.specs.declared.row.Row.{Row as OneRow};
 ghost use Rattle.srm_cell.specs.Crossings.{packets_of};
 ghost use Rattle.srm_cell.specs.Hearing.{IsSent, packets_in};
 ghost use Rattle.srm_engine.specs.Starts.{setting_on};
-ghost use Rattle.srm_engine.specs.Seen.{AreCellsInOrder};
+ghost use Rattle.srm_engine.specs.Seen.{AreInOrder};
 ghost use Rattle.srm_engine.specs.Groups.{AreCuts, sizes, all_in};
 ghost use Rattle.srm_engine.specs.Groups.{IsCut, AreKept, MayLookAgain, LooksAgain};
 ghost use Rattle.srm_engine.specs.Groups.{MayHearInAnyOrder, HearsInSomeOrder};
@@ -41,9 +40,9 @@ impl<M: Participant> Groups<M> {
         requires cut { IsCut cut }
         requires members { length cells.items ≤ length session.scenario.now.members }
         ensures cut { IfOk result (λ all. all.cut ≡ cut) }
-        ensures kept { IfOk result (λ all. (seed : ℕ) (ps : List PlainCell)
-            → AreCellsInOrder M.plain cells.items ps
-            → AreKept M.plain (setting_on session.entry seed) all ps) }
+        ensures same { IfOk result (λ all. all_in all.groups.items ≡ cells.items) }
+        ensures kept { IfOk result (λ all. (seed : ℕ) → AreInOrder M.plain cells.items
+            → AreKept M.plain (setting_on session.entry seed) all) }
     {
         let groups = group(alloc, cells, cut)?;
         let soon = soonest_of_each(alloc, session, groups.as_slice(), cut)?;

@@ -1,14 +1,11 @@
 //! How soon something is due in the cells of each group.
-ghost use Rattle.std.specs.Prelude.{◌≡◌, ◌+◌, ◌<◌, ◌≤◌, ℕ, List, IfOk, min, length};
-ghost use Rattle.srm_cell.specs.Cells.{PlainCell};
-ghost use Rattle.srm_cell.specs.Setting.{Setting};
-ghost use Rattle.srm_model.specs.Windows.{promise_by, least_with as lesser, least_promise as least_promised};
+ghost use Rattle.std.specs.Prelude.{◌≡◌, ◌+◌, ◌<◌, ◌≤◌, ℕ, IfOk, length};
+ghost use Rattle.srm_cell.specs.Jobs.{own_cells};
+ghost use Rattle.srm_model.specs.Windows.{promise_by, least_with as lesser};
 ghost use Rattle.srm_engine.specs.Starts.{setting_on};
-ghost use Rattle.srm_engine.specs.Ends.{KeepFixed};
+ghost use Rattle.srm_engine.specs.Seen.{AreFrom};
 ghost use Rattle.srm_engine.specs.Groups.{AreCuts, AreGrouped, sizes, all_in};
-ghost use Rattle.srm_model.specs.World.{World};
-ghost use Rattle.srm_model.specs.WindowChains.{start_of};
-ghost use Rattle.srm_engine.specs.Soonest.{IsInRange, IsSoonest, AreSoonest, AreThose};
+ghost use Rattle.srm_engine.specs.Soonest.{first_promise, first_time, soon_in, soonest_of};
 
 use crate::ends::way;
 use srm_cell::cell::Cell;
@@ -68,9 +65,8 @@ pub(crate) fn soonest_in<M: Participant>(
     requires until { until ≡ session.scenario.now.until }
     requires members { first + length cells.now ≤ length session.scenario.now.members }
     requires few { length session.scenario.now.members < 65536 }
-    ensures { (seed : ℕ) (ps : List PlainCell)
-        → AreThose M.plain first cells.now ps
-        → IsSoonest (setting_on session.entry seed) (IsInRange first (length cells.now)) ps result }
+    ensures { (seed : ℕ) → AreFrom M.plain first cells.now
+        → result ≡ soonest_of (setting_on session.entry seed) (own_cells M.plain cells.now) }
 {
     let mut soonest = Soonest {
         time: until,
@@ -93,9 +89,8 @@ pub(crate) fn soonest_of_each<M: Participant>(
     requires cut { 0 < cut }
     requires cuts { AreCuts cut (sizes groups.now) }
     requires members { length (all_in groups.now) ≤ length session.scenario.now.members }
-    ensures { IfOk result (λ xs. (seed : ℕ) (ps : List PlainCell)
-        → AreGrouped M.plain cut groups.now ps
-        → AreSoonest (setting_on session.entry seed) cut xs.items ps) }
+    ensures { IfOk result (λ xs. (seed : ℕ) → AreGrouped M.plain cut groups.now
+        → xs.items ≡ soon_in M.plain (setting_on session.entry seed) groups.now) }
 {
     let until = session.scenario.until();
     let mut soonest = Vec::new(alloc);
@@ -107,8 +102,7 @@ pub(crate) fn soonest_of_each<M: Participant>(
 
 /// When the next window begins, or the run ends: the least of the end of the run and of the next times of all cells.
 pub(crate) fn least(soon: &[Soonest], until: u64) -> u64
-    ensures { (s : Setting) (cut : ℕ) (w : World) → AreSoonest s cut soon.now w.cells → until ≡ s.traffic.until
-        → result ≡ min until (start_of s w) }
+    ensures { result ≡ first_time until soon.now }
 {
     let mut best = until;
     for soonest in soon {
@@ -119,8 +113,7 @@ pub(crate) fn least(soon: &[Soonest], until: u64) -> u64
 
 /// The least of the end of the run and of the promises of all cells.
 pub(crate) fn least_promise(soon: &[Soonest], until: u64) -> u64
-    ensures { (s : Setting) (cut : ℕ) (ps : List PlainCell) → AreSoonest s cut soon.now ps → KeepFixed s ps
-        → until ≡ s.traffic.until → result ≡ least_promised s 0 ps }
+    ensures { result ≡ first_promise until soon.now }
 {
     let mut best = until;
     for soonest in soon {

@@ -39,11 +39,9 @@ pub fn window_run<M: Participant, C: Crew<M>>(
     asked: Windows,
 ) -> Result<Outcome, RunFault>
     requires ready { C.ready crew.old }
-    requires serves { C.serves crew.old scenario.now net.now }
     requires network { net.now ≡ network_of scenario.now }
     requires boxes { (seed : ℕ) × HoldOpeningRecords scenario.now net.now seed (map M.plain members.items) }
     ensures ready { C.ready crew.new }
-    ensures serves { C.serves crew.new scenario.now net.now }
     ensures asked { TellsRunAsked net.now asked result }
     ensures outcome { InRuns scenario.now net.now (map M.plain members.items)
         (λ s. IfOk result (λ v. IsOutcome s v.trace.items v.exits.items v.totals)) }

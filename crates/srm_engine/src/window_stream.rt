@@ -51,13 +51,11 @@ pub fn window_stream<M: Participant, C: Crew<M>, S: RowSink>(
     sink: &mut S,
 ) -> Result<(Vec<Exit>, Totals), StreamFault>
     requires ready { C.ready crew.old }
-    requires serves { C.serves crew.old scenario.now net.now }
     requires network { net.now ≡ network_of scenario.now }
     requires boxes { (seed : ℕ) × HoldOpeningRecords scenario.now net.now seed (map M.plain members.items) }
     requires open { IsOpen (S.stage sink.old) }
     requires failures { S.failures sink.old < 2 ^ 64 - 1 }
     ensures ready { C.ready crew.new }
-    ensures serves { C.serves crew.new scenario.now net.now }
     ensures device { S.same sink.old sink.new }
     ensures stands { StandsAs result (S.stage sink.new) }
     ensures failures { S.failures sink.new ≡ S.failures sink.old + stopped_in result }

@@ -4,10 +4,10 @@ use Rattle.srm_member.specs.Record.{Record}
 use Rattle.srm_member.specs.declared.row.Row.{Row}
 use Rattle.srm_cell.specs.declared.cell.Cell.{Cell}
 use Rattle.srm_cell.specs.declared.job.Done as job
-use Rattle.srm_cell.specs.Jobs.{IsDone, MayAdvance, OwnCell, RanEach}
+use Rattle.srm_cell.specs.Jobs.{IsDone, MayAdvance, RanEach}
 use Rattle.srm_cell.specs.Setting.{Traffic}
 use Rattle.srm_cell.specs.Totalled.{IsSentBelow}
-use Rattle.srm_cell.proofs.SentRows.{as_many_seen, rows_below}
+use Rattle.srm_cell.proofs.SentRows.{rows_below}
 use Rattle.srm_interfaces.specs.declared.watched.WatchedJob.{WatchedJob}
 use Rattle.srm_interfaces.specs.Watches.{HaveKept, KeepEach, job_in}
 
@@ -24,21 +24,18 @@ module _ {K : Type 0} (keeps : K → List Row → Type 0) where
 
 -- what is done of a job may be left: its cells have as many lists of rows as something is kept of, and their packets are of members
 module _ {M K : Type 0} (f : M → Record) (members : ℕ) (t : Traffic) (j : WatchedJob M K) (d : job.Done M) where
-  lists_many : (till : ℕ) (qs : List OwnCell) (rows : List (List Row)) (cs : List (Cell M)) → RanEach f till qs rows cs
-      → length rows ≡ length qs
+  lists_many : (till : ℕ) (cs : List (Cell M)) (rows : List (List Row)) (ds : List (Cell M)) → RanEach f till cs rows ds
+      → length rows ≡ length cs
   lists_many till [] [] [] h = refl
-  lists_many till [] [] (c ∷ cs) h = absurd h
-  lists_many till [] (r ∷ rs) cs h = absurd h
-  lists_many till (q ∷ qs) [] cs h = absurd h
-  lists_many till (q ∷ qs) (r ∷ rs) [] h = absurd h
-  lists_many till (q ∷ qs) (r ∷ rs) (c ∷ cs) h = ap suc (lists_many till qs rs cs h.1)
+  lists_many till [] [] (d ∷ ds) h = absurd h
+  lists_many till [] (r ∷ rs) ds h = absurd h
+  lists_many till (c ∷ cs) [] ds h = absurd h
+  lists_many till (c ∷ cs) (r ∷ rs) [] h = absurd h
+  lists_many till (c ∷ cs) (r ∷ rs) (d ∷ ds) h = ap suc (lists_many till cs rs ds h.1)
 
-  pub as_many_kept : (h : MayAdvance f members (job_in j)) → HaveKept j → IsDone f t h.plain_job d
-      → length d.rows.items ≡ length j.kept.items
-  as_many_kept h kept done =
-      lists_many h.plain_job.till h.plain_job.cells d.rows.items d.cells.items done.runs
-      ∙ sym (as_many_seen f j.cells.items h.plain_job.cells h.is.cells) ∙ sym kept
+  pub as_many_kept : HaveKept j → IsDone f t (job_in j) d → length d.rows.items ≡ length j.kept.items
+  as_many_kept kept done = lists_many j.till j.cells.items d.rows.items d.cells.items done.runs ∙ sym kept
 
-  pub sent_below : (h : MayAdvance f members (job_in j)) → IsDone f t h.plain_job d
+  pub sent_below : MayAdvance f members (job_in j) → IsDone f t (job_in j) d
       → All (λ rs. All (λ r. IsSentBelow members r.sent) rs) d.rows.items
-  sent_below h done = rows_below f h.plain_job.till members h.plain_job.cells d.rows.items d.cells.items h.till h.of_members done.runs
+  sent_below h done = rows_below f j.till members j.cells.items d.rows.items d.cells.items h.till h.of_members done.runs

@@ -1,5 +1,5 @@
 -- What crews are handed, and what they tell.
-use Rattle.std.specs.Prelude.{◌≡◌, ◌⊎◌, ◌<◌, ◌+◌, ◌^◌, ℕ, List, [], ◌∷◌, ◌++◌, slice_index, Result, Ok, Err}
+use Rattle.std.specs.Prelude.{◌≡◌, ◌⊎◌, ◌<◌, ◌+◌, ◌^◌, ℕ, List, [], ◌∷◌, ◌++◌, map, slice_index, Result, Ok, Err}
 use Rattle.std.specs.List.{AllZip, Contains}
 use Rattle.std.specs.Global.{Vec}
 use Rattle.srm_net.specs.Network.{Network}
@@ -11,11 +11,11 @@ use Rattle.srm_cell.specs.declared.job.Job.{Job}
 use Rattle.srm_cell.specs.declared.job.Done as job
 use Rattle.srm_cell.specs.declared.fault.CellFault.{CellFault}
 use Rattle.srm_cell.specs.declared.fault.CellFault.TheVariants as cell
-use Rattle.srm_cell.specs.Setting.{Traffic, traffic_of}
-use Rattle.srm_cell.specs.Cells.{PlainCell, StepOutcome, Full, Spent, Stepped}
+use Rattle.srm_cell.specs.Setting.{traffic_of}
+use Rattle.srm_cell.specs.Cells.{OwnCell, PlainCell, StepOutcome, Full, Spent, Stepped}
 use Rattle.srm_cell.specs.OwnRuns.{IsOwnRun}
 use Rattle.srm_cell.specs.Crossings.{joined, crossings}
-use Rattle.srm_cell.specs.Jobs.{OwnCell, PlainJob, FirstEnds, IsJob, IsDone}
+use Rattle.srm_cell.specs.Jobs.{PlainJob, FirstEnds, IsDone, plain_job}
 use Rattle.srm_interfaces.specs.declared.fault.CrewFault.{CrewFault}
 use Rattle.srm_interfaces.specs.declared.fault.CrewFault.TheVariants as fault
 
@@ -67,9 +67,9 @@ AreRowsOfSome (p ∷ ps) rows =
     × AreRowsOfSome ps more)
 
 module _ {M : Type 0} where
-  -- the jobs are seen as these, where f is what is seen of a box
-  abbrev pub AreJobs : (M → Record) → List (Job M) → List PlainJob → Type 0
-  AreJobs f js ps = AllZip (λ j p. IsJob f j p) js ps
+  -- the jobs as they are seen, where f is what is seen of a box
+  abbrev pub plain_jobs : (M → Record) → List (Job M) → List PlainJob
+  plain_jobs f js = map (plain_job f) js
 
   -- the rows of all that is done
   abbrev pub rows_of : List (job.Done M) → List Row
@@ -81,32 +81,27 @@ module _ {M : Type 0} where
   sum_at k [] = 0
   sum_at k (d ∷ ds) = counted_in d.crossings k + sum_at k ds
 
-  -- what advancing each job tells
-  abbrev pub TellsEach : (M → Record) → Traffic → List PlainJob
-      → Result (Vec (job.Done M)) CellFault → Type 0
-  TellsEach f t ps (Ok v) = AllZip (λ p d. IsDone f t p d) ps v.items
-  TellsEach f t ps (Err cell.NoMemory) = Unit {0}
-  TellsEach f t ps (Err cell.Spent) = AnyEnds Spent ps
-  TellsEach f t ps (Err cell.CountFull) = AnyEnds Full ps
+  -- this is done of the jobs
+  abbrev pub AreDone : (M → Record) → PlainScenario → Network → List (Job M) → List (job.Done M) → Type 0
+  AreDone f k net js ds = AllZip (λ j d. IsDone f (traffic_of k net) j d) js ds
 
-  -- the same, of all jobs that they may be seen as
-  pub record AdvanceEach (f : M → Record) (k : PlainScenario) (net : Network) (js : List (Job M))
-      (r : Result (Vec (job.Done M)) CellFault) : Type 0 where
-    pub tells : (ps : List PlainJob) → AreJobs f js ps → TellsEach f (traffic_of k net) ps r
+  -- what advancing each job tells
+  abbrev pub AdvanceEach : (M → Record) → PlainScenario → Network → List (Job M)
+      → Result (Vec (job.Done M)) CellFault → Type 0
+  AdvanceEach f k net js (Ok v) = AreDone f k net js v.items
+  AdvanceEach f k net js (Err cell.NoMemory) = Unit {0}
+  AdvanceEach f k net js (Err cell.Spent) = AnyEnds Spent (plain_jobs f js)
+  AdvanceEach f k net js (Err cell.CountFull) = AnyEnds Full (plain_jobs f js)
 
   -- what a crew's call tells: what is done of each job, and a seat grown by the crossings of all rows; or why not. A
   -- share is full where the crossings of some of the jobs' rows are too many for it
-  abbrev pub TellsMap : (M → Record) → Traffic → SeatView → List PlainJob
+  abbrev pub Maps : (M → Record) → PlainScenario → Network → SeatView → List (Job M)
       → Result (Vec (job.Done M) × SeatView) CrewFault → Type 0
-  TellsMap f t seat ps (Ok v) =
-      AllZip (λ p d. IsDone f t p d) ps v.0.items × HasGrown (counted_in (crossings t (rows_of v.0.items))) seat v.1
-  TellsMap f t seat ps (Err fault.NoMemory) = Unit {0}
-  TellsMap f t seat ps (Err fault.Spent) = AnyEnds Spent ps
-  TellsMap f t seat ps (Err fault.ShareFull) =
-      (rows : List Row) × AreRowsOfSome ps rows × IsPast (counted_in (crossings t rows)) seat
-  TellsMap f t seat ps (Err fault.CountFull) = AnyEnds Full ps
-
-  -- the same, of all jobs that they may be seen as
-  pub record Maps (f : M → Record) (k : PlainScenario) (net : Network) (seat : SeatView) (js : List
-      (Job M)) (r : Result (Vec (job.Done M) × SeatView) CrewFault) : Type 0 where
-    pub tells : (ps : List PlainJob) → AreJobs f js ps → TellsMap f (traffic_of k net) seat ps r
+  Maps f k net seat js (Ok v) =
+      AreDone f k net js v.0.items × HasGrown (counted_in (crossings (traffic_of k net) (rows_of v.0.items))) seat v.1
+  Maps f k net seat js (Err fault.NoMemory) = Unit {0}
+  Maps f k net seat js (Err fault.Spent) = AnyEnds Spent (plain_jobs f js)
+  Maps f k net seat js (Err fault.ShareFull) =
+      (rows : List Row) × AreRowsOfSome (plain_jobs f js) rows
+      × IsPast (counted_in (crossings (traffic_of k net) rows)) seat
+  Maps f k net seat js (Err fault.CountFull) = AnyEnds Full (plain_jobs f js)

@@ -1,6 +1,6 @@
 -- What is kept of the rows of jobs.
 use Rattle.std.specs.Prelude.{◌≡◌, ◌≤◌, ℕ, suc, List, [], ◌∷◌, ◌++◌, All, length, map, Result, Ok, Err}
-use Rattle.std.specs.List.{AllZip, range_with_len}
+use Rattle.std.specs.List.{range_with_len}
 use Rattle.std.specs.Global.{Vec}
 use Rattle.srm_net.specs.Limits.{most_nodes}
 use Rattle.srm_net.specs.Network.{Network}
@@ -14,12 +14,12 @@ use Rattle.srm_cell.specs.declared.job.Done as job
 use Rattle.srm_cell.specs.declared.fault.CellFault.{CellFault}
 use Rattle.srm_cell.specs.Crossings.{crossings, joined, packets_of}
 use Rattle.srm_cell.specs.Hearing.{IsSent, packets_in}
-use Rattle.srm_cell.specs.Jobs.{IsDone, MayAdvance, PlainJob}
+use Rattle.srm_cell.specs.Jobs.{MayAdvance}
 use Rattle.srm_cell.specs.Setting.{traffic_of}
 use Rattle.srm_interfaces.specs.declared.fault.CrewFault.{CrewFault}
 use Rattle.srm_interfaces.specs.declared.watched.WatchedJob.{WatchedJob}
 use Rattle.srm_interfaces.specs.declared.watched.WatchedDone.{WatchedDone}
-use Rattle.srm_interfaces.specs.Crews.{AdvanceEach, AreJobs, HasGrown, Maps, counted_in, rows_of}
+use Rattle.srm_interfaces.specs.Crews.{AdvanceEach, AreDone, HasGrown, Maps, counted_in, rows_of}
 
 -- of each cell this is kept: what was kept before, of whichever rows, and these rows
 abbrev pub KeepEach : {K : Type 0} → (K → List Row → Type 0) → List K → List (List Row) → List K → Type 0
@@ -32,12 +32,6 @@ KeepEach keeps old more new = ⊥
 abbrev pub KeepMembers : {K : Type 0} → (K → List Row → Type 0) → ℕ → List K → List Row → Type 0
 KeepMembers keeps m [] rows = Unit {0}
 KeepMembers keeps m (k ∷ ks) rows = keeps k (rows_of_member m rows) × KeepMembers keeps (suc m) ks rows
-
-module _ {M : Type 0} where
-  -- this is done of the jobs, of all jobs that they may be seen as
-  pub record AreDone
-      (f : M → Record) (k : PlainScenario) (net : Network) (js : List (Job M)) (ds : List (job.Done M)) : Type 0 where
-    pub are : (ps : List PlainJob) → AreJobs f js ps → AllZip (λ p d. IsDone f (traffic_of k net) p d) ps ds
 
 module _ {M K : Type 0} where
   -- the job without what is kept

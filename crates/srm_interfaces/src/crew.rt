@@ -1,11 +1,9 @@
 //! What a crew is.
-ghost use Rattle.std.specs.Prelude.{◌≡◌, ◌≤◌, ◌∷◌, ◌++◌, [], ℕ, List, length, map, All, IfOk};
+ghost use Rattle.std.specs.Prelude.{◌≡◌, ◌≤◌, ◌∷◌, ◌++◌, [], List, length, map, All, IfOk};
 ghost use Rattle.std.specs.List.{range_with_len};
 ghost use Rattle.srm_net.specs.Limits.{most_nodes};
-ghost use Rattle.srm_net.specs.Network.{Network};
-ghost use Rattle.srm_scenario.specs.Plain.{PlainScenario};
 ghost use Rattle.srm_cell.specs.Jobs.{PlainJob, MayAdvance};
-ghost use Rattle.srm_interfaces.specs.Crews.{AreJobs, Maps};
+ghost use Rattle.srm_interfaces.specs.Crews.{Maps, plain_jobs};
 
 use crate::fault::CrewFault;
 use srm_cell::job::{Done, Job};
@@ -19,9 +17,6 @@ use std::alloc::Global;
 pub trait Crew<M: Participant> {
     // It may be called.
     ghost ready: { Self → Type 0 };
-
-    // It serves runs of this scenario on this network. A crew may serve one alone, and keep both for as long as it lives.
-    ghost serves: { Self → PlainScenario → Network → Type 0 };
 
     // Between these two values it was handed exactly these calls of `map`, each the list of its jobs.
     ghost handed: { Self → List (List PlainJob) → Self → Type 0 };
@@ -44,17 +39,14 @@ pub trait Crew<M: Participant> {
         jobs: Vec<Job<M>>,
     ) -> Result<(Vec<Done<M>>, Seat), CrewFault>
         requires ready { ready self.old }
-        requires serves { serves self.old scenario.now net.now }
         requires jobs { All (λ j. MayAdvance M.plain (length net.now.hosts) j) jobs.items }
         requires many { length jobs.items ≤ most_nodes }
         requires places { map (λ j. j.place) jobs.items ≡ range_with_len 0 (length jobs.items) }
         requires links { ledger.now.links ≡ length net.now.links }
         requires seat { seat.ledger ≡ ledger.now.name }
         ensures ready { ready self.new }
-        ensures serves { serves self.new scenario.now net.now }
         ensures done { Maps M.plain scenario.now net.now seat jobs.items result }
-        ensures handed { IfOk result (λ _. (ps : List PlainJob) → AreJobs M.plain jobs.items ps
-            → handed self.old (ps ∷ []) self.new) };
+        ensures handed { IfOk result (λ _. handed self.old (plain_jobs M.plain jobs.items ∷ []) self.new) };
 
     ghost handed_none: { (c : Self) → handed c [] c };
 

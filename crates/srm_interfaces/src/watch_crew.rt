@@ -5,7 +5,7 @@ ghost use Rattle.srm_scenario.specs.Plain.{PlainScenario};
 ghost use Rattle.srm_cell.specs.Setting.{traffic_of};
 ghost use Rattle.srm_cell.specs.Jobs.{PlainJob};
 ghost use Rattle.srm_cell.specs.Hearing.{IsSent, packets_in};
-ghost use Rattle.srm_interfaces.specs.Crews.{AreJobs};
+ghost use Rattle.srm_interfaces.specs.Crews.{plain_jobs};
 ghost use Rattle.srm_interfaces.specs.Hearers.{GroupsMayHear, TellsHeard};
 ghost use Rattle.srm_interfaces.specs.Watches.{jobs_in, MayMap, MapsWatched};
 
@@ -54,8 +54,7 @@ pub trait WatchCrew<M: Participant, K, W: Watch<K>> {
         ensures same { same self.old self.new }
         ensures done { MapsWatched M.plain (W.keeps watch) session.entry.scenario.now session.entry.net.now seat
             jobs.items result }
-        ensures handed { IfOk result (λ _. (ps : List PlainJob) → AreJobs M.plain (jobs_in jobs.items) ps
-            → handed self.old (ps ∷ []) self.new) };
+        ensures handed { IfOk result (λ _. handed self.old (plain_jobs M.plain (jobs_in jobs.items) ∷ []) self.new) };
 
     /// The groups after each of their cells heard what was sent, one packet after the other. Groups and cells stay in their order.
     ///

@@ -4,7 +4,6 @@ use Rattle.std.proofs.Common.{slice_get, zero-add, add-zero, ◌⊎◌}
 use Rattle.std.proofs.lemmas.Option.{same_Some}
 use Rattle.srm_net.specs.declared.packet.Packet.{Packet}
 use Rattle.srm_member.specs.declared.row.Row.{Row}
-use Rattle.srm_member.specs.Record.{Record, Active, Gone}
 use Rattle.srm_cell.specs.Setting.{Setting, IsFit, arrival_of}
 use Rattle.srm_cell.specs.Cells.{PlainCell, hear_at, hear, Event, next_event, before, Spent, Done, Stepped, step_at}
 use Rattle.srm_cell.specs.OwnRuns.{told_to}
@@ -18,26 +17,27 @@ use Rattle.srm_model.proofs.RunLemmas.{Seq, rest, next, shifted, least_from}
 use Rattle.srm_model.proofs.Sequential.{Good, StepFacts, step_facts, good_step, above_after, above_time}
 use Rattle.srm_model.proofs.Settled.{EachCell, each_after}
 use Rattle.srm_model.proofs.Sequential.{member_below, good_opening, run_seq}
+use Rattle.srm_member.specs.Record.{MemberState}
 
 module _ (s : Setting) (fit : IsFit s) where
   -- a member that is gone left at a time before which nothing is pending
-  abbrev Past : List PlainCell → ℕ → Record → Type 0
-  Past cs j (Active m) = Unit {0}
-  Past cs j (Gone f) = (t : ℕ) × (s.traffic.leave j ≡ Some t) × EachCell (Above (λ k. t ≤ k.time)) cs
+  abbrev Past : List PlainCell → ℕ → Option MemberState → Type 0
+  Past cs j (Some m) = Unit {0}
+  Past cs j None = (t : ℕ) × (s.traffic.leave j ≡ Some t) × EachCell (Above (λ k. t ≤ k.time)) cs
 
   pub record Stable (cs : List PlainCell) : Type 0 where
     pub good : Good s fit cs
     pub stays : EachCell (λ j c. Stays (s.traffic.leave j) c) cs
     pub past : EachCell (λ j c. Past cs j c.holds) cs
 
-  past_active : (cs : List PlainCell) (j : ℕ) (r : Record) → IsActive r → Past cs j r
-  past_active cs j (Active m) h = tt
-  past_active cs j (Gone f) h = absurd h
+  past_active : (cs : List PlainCell) (j : ℕ) (r : Option MemberState) → IsActive r → Past cs j r
+  past_active cs j (Some m) h = tt
+  past_active cs j None h = absurd h
 
-  past_gone : (cs : List PlainCell) (j : ℕ) (r : Record) → (t : ℕ) × (s.traffic.leave j ≡ Some t)
+  past_gone : (cs : List PlainCell) (j : ℕ) (r : Option MemberState) → (t : ℕ) × (s.traffic.leave j ≡ Some t)
       × EachCell (Above (λ k. t ≤ k.time)) cs → Past cs j r
-  past_gone cs j (Active m) h = tt
-  past_gone cs j (Gone f) h = h
+  past_gone cs j (Some m) h = tt
+  past_gone cs j None h = h
 
   hear_at_holds : (p : Packet) (o : Option ℕ) (c : PlainCell) → (hear_at p o c).holds ≡ c.holds
   hear_at_holds p None c = refl
@@ -82,12 +82,12 @@ module _ (s : Setting) (fit : IsFit s) where
     mine_past (inl a) = past_active after m d.cell.holds a
     mine_past (inr left) = past_gone after m d.cell.holds (e.key.time, left, all_after)
 
-    kept_past : (j : ℕ) (r : Record) → Past cs j r → Past after j r
-    kept_past j (Active k) p = tt
-    kept_past j (Gone f) p = (p.0, p.1, still_after p.0 p.2)
+    kept_past : (j : ℕ) (r : Option MemberState) → Past cs j r → Past after j r
+    kept_past j (Some k) p = tt
+    kept_past j None p = (p.0, p.1, still_after p.0 p.2)
 
     -- a member that is gone is handed nothing more
-    handed_active : (j : ℕ) (r : Record) → Past cs j r → (p : Packet) → p.id.sender ≡ m → p.sent ≡ e.key.time → (at : ℕ)
+    handed_active : (j : ℕ) (r : Option MemberState) → Past cs j r → (p : Packet) → p.id.sender ≡ m → p.sent ≡ e.key.time → (at : ℕ)
         → arrival_of s.traffic p j ≡ Some at → IsActive r
     handed_active j r past p by sent at a = grind (arith, below, event_after)
 

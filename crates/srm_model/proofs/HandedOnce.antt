@@ -13,7 +13,6 @@ use Rattle.srm_net.proofs.Basics.{one_if, count_last}
 use Rattle.srm_member.specs.declared.cause.Cause.{Cause}
 use Rattle.srm_member.specs.declared.row.About.TheVariants.{Of}
 use Rattle.srm_member.specs.declared.row.Row.{Row}
-use Rattle.srm_member.specs.Record.{due_of}
 use Rattle.srm_member.specs.React.{react}
 use Rattle.srm_member.proofs.AllIn.{AllIn, AllIn-place, AllIn-weaker}
 use Rattle.srm_cell.specs.declared.flight.Flight.{Flight}
@@ -30,6 +29,7 @@ use Rattle.srm_model.proofs.OneStep.{there_after, each_after, length_after, leng
 use Rattle.srm_model.proofs.TraceRows.{contains_none, contains_cases, sent_more, sent_cases, sent_now, count_first}
 use Rattle.srm_model.proofs.TraceRows.{count_none, count_place, not_same, not_arrival, here, IsSplit, no_split, split_cases}
 use Rattle.srm_model.proofs.Settled.{EachCell}
+use Rattle.srm_cell.specs.Cells.{due_in}
 
 about_other : (cause : Option Cause) (body : Option Body) → NoArrival cause → (k : Packet) → about_of cause body ≢ Of k
 about_other cause body none k h = grind arith
@@ -484,7 +484,7 @@ module _ (s : Setting) where
 
   first_late : (k : ℕ) (c : PlainCell) → Late (next_event k c) → Late (first_arrival k c c.inbox)
   unfolding next_event
-  first_late k c h = (late_earlier (first_arrival k c c.inbox) (earlier (first_mark k c c.script) (next_timer k c (due_of c.holds))) h).0
+  first_late k c h = (late_earlier (first_arrival k c c.inbox) (earlier (first_mark k c c.script) (next_timer k c (due_in c.holds))) h).0
 
   empty_inbox : (k j : ℕ) (trace : List Row) (c : PlainCell) (fs : List Flight) → Late (first_arrival k c fs) → AllIn (IsFlight trace j) fs
       → fs ≡ []

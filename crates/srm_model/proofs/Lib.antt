@@ -30,3 +30,4 @@ pub mod Fronts
 pub mod StandAlike
 pub mod RepairTimers
 pub mod SentForLost
+pub mod FixedParts

@@ -16,7 +16,9 @@ use Rattle.srm_net.proofs.LawProofs.{lesser_each}
 use Rattle.srm_net.proofs.PathLaws.{host_below, hosts_apart, along_first}
 use Rattle.srm_scenario.specs.declared.parts.MemberSpec.{MemberSpec}
 use Rattle.srm_scenario.specs.Plain.{network_of}
-use Rattle.srm_member.specs.Record.{Record, Active, Gone, fixed_part}
+use Rattle.srm_member.specs.Record.{MemberState}
+use Rattle.srm_member.specs.declared.fixed.Fixed.{Fixed as FixedPart}
+use Rattle.srm_model.proofs.FixedParts.{HasFixed, KeepFixed, kept_reached}
 use Rattle.srm_net.specs.Roles.{is_listener}
 use Rattle.srm_member.proofs.AllIn.{AllIn}
 use Rattle.srm_member.proofs.FewerTimers.{In}
@@ -29,7 +31,7 @@ use Rattle.srm_cell.proofs.FitSettings.{settings_are_fit}
 use Rattle.srm_net.specs.Keys.{key_cmp}
 use Rattle.srm_net.proofs.TotalOrders.{key_total}
 use Rattle.srm_model.specs.World.{World, least_event}
-use Rattle.srm_model.specs.Windows.{IsWidth, least_distance, least_with, promise_by, promise_of, least_promise, promise_end}
+use Rattle.srm_model.specs.Windows.{IsWidth, least_distance, least_with, promise_by, promise_of, least_promise, promise_end, way_of}
 use Rattle.srm_model.specs.Laws.{LinkDelaysAreSafe, PromiseEndsAreSafe}
 use Rattle.srm_model.proofs.LawProofs.{windows_are_safe, promises_are_safe}
 use Rattle.srm_model.proofs.Sequential.{good_reached, least_of_all}
@@ -152,21 +154,22 @@ module _ (s : Setting) where
       let first = least_with_le (least_promise s (i + 1) cs) (promise_of s i x) in
       omega arith
 
-  silent_listener : (r : Record) → is_listener (fixed_part r).role ≡ true → Silent r
-  silent_listener (Active m) h = h
-  silent_listener (Gone f) h = tt
+  silent_listener : (m : ℕ) (o : Option MemberState) → HasFixed (s.fixed m) o → is_listener (s.fixed m).role ≡ true → Silent o
+  silent_listener m (Some k) is h = ap (λ (f : FixedPart). is_listener f.role) is ∙ h
+  silent_listener m None is h = tt
 
-  promise_is : (m : ℕ) (c : PlainCell) (e : Event) (k : ℕ) → is_listener (fixed_part c.holds).role ≡ false → next_event m c ≡ Some e
+  promise_is : (m : ℕ) (c : PlainCell) (e : Event) (k : ℕ) → is_listener (s.fixed m).role ≡ false → next_event m c ≡ Some e
       → least_distance s m ≡ Some k → promise_of s m c ≡ Some (e.key.time + k)
   promise_is m c e k role next way =
-      ap (λ b. cond b None (promise_by (time_of (next_event m c)) (least_distance s m))) role ∙ (λ i. promise_by (time_of (next i)) (way i))
+      ap (λ b. promise_by (time_of (next_event m c)) (cond b None (least_distance s m))) role ∙ (λ i. promise_by (time_of (next i)) (way i))
 
-  promised : (w : World) (m : ℕ) (c : PlainCell) (e : Event) → slice_get w.cells m ≡ Some c → next_event m c ≡ Some e → Silent c.holds
+  promised : (w : World) → KeepFixed s w.cells → (m : ℕ) (c : PlainCell) (e : Event) → slice_get w.cells m ≡ Some c
+      → next_event m c ≡ Some e → Silent c.holds
       ⊎ ((b : ℕ) → b < s.traffic.members → b ≢ m → promise_end s w ≤ e.key.time + s.traffic.distance m b)
-  promised w m c e g next = elim (is_listener (fixed_part c.holds).role) as
-      (λ q. is_listener (fixed_part c.holds).role ≡ q → Silent c.holds
+  promised w kept m c e g next = elim (is_listener (s.fixed m).role) as
+      (λ q. is_listener (s.fixed m).role ≡ q → Silent c.holds
       ⊎ ((b : ℕ) → b < s.traffic.members → b ≢ m → promise_end s w ≤ e.key.time + s.traffic.distance m b)) [
-        | true ↦ λ q. inl (silent_listener c.holds q)
+        | true ↦ λ q. inl (silent_listener m c.holds (kept m c g) q)
         | false ↦ λ q. inr (λ b lt ne.
             let way = out_near m b lt ne in
             let at : promise_of s (0 + m) c ≡ Some (e.key.time + way.0) = rw zero-add (promise_is m c e way.0 q next way.1) in
@@ -217,13 +220,13 @@ module _ (s : Setting) where
       g (let k : (i + 1) + j ≡ i + suc j = omega arith in subst (λ n. next_event n b ≡ Some e) k h))
       (λ m le l k h. away m (omega arith) (omega arith) k h) in
       with_later t (least_promise s (i + 1) cs) (promise_of s i c) rest
-      (λ k h. later_by t (time_of (next_event i c)) (least_distance s i) k (from_cond (is_listener (fixed_part c.holds).role) _ k h)
+      (λ k h. later_by t (time_of (next_event i c)) (way_of s i) k h
       (time_from t i c (next_event i c) (λ e q. from 0 c e refl (rw add-zero q)))
-      (λ b q. away i (omega arith) (omega arith) b q))
+      (λ b q. away i (omega arith) (omega arith) b (from_cond (is_listener (s.fixed i).role) _ b q)))
 
 pub promise_ends_are_safe : PromiseEndsAreSafe
 promise_ends_are_safe s w fit reached = (
-  promises_are_safe s w (promise_end s w) fit reached (promised s w),
+  promises_are_safe s w (promise_end s w) fit reached (promised s w (kept_reached s fit reached.0 w reached.1)),
   λ e h.
       let good = good_reached s fit reached.0 w reached.1 in
       let b = before_some s.traffic.until (least_event 0 w.cells) e h in

@@ -17,7 +17,6 @@ use Rattle.srm_member.specs.declared.due.Due.{Due}
 use Rattle.srm_member.specs.declared.row.Word.TheVariants as word
 use Rattle.srm_member.specs.declared.row.Row.{Row}
 use Rattle.srm_member.specs.Orderly.{IsOnce}
-use Rattle.srm_member.specs.Record.{Record}
 use Rattle.srm_member.proofs.AllIn.{AllIn}
 use Rattle.srm_cell.specs.declared.flight.Flight.{Flight}
 use Rattle.srm_cell.specs.Setting.{Traffic, cause_of_mark}
@@ -28,6 +27,7 @@ use Rattle.srm_model.specs.World.{row_cmp}
 use Rattle.srm_model.proofs.OneStep.{Does}
 use Rattle.srm_model.proofs.SortedRows.{rows_total}
 use Rattle.srm_model.proofs.TraceRows.{contains_none}
+use Rattle.srm_member.specs.Record.{MemberState}
 
 -- ---- rows in order
 
@@ -94,7 +94,7 @@ module _ (Q : Mark → Type 0) (m : ℕ) (c : PlainCell) (all : AllIn Q c.script
 abbrev SameScript : Event → Stepped → Type 0
 SameScript e d = d.cell.script ≡ e.rest.script
 
-script_handle : (e : Event) (holds : Record) (cause : Option Cause) → OnStep (SameScript e) (handle e holds cause)
+script_handle : (e : Event) (holds : Option MemberState) (cause : Option Cause) → OnStep (SameScript e) (handle e holds cause)
 unfolding handle
 script_handle e holds cause = grind arith
 

@@ -19,7 +19,7 @@ use Rattle.srm_member.specs.declared.fixed.Fixed.{Fixed as FixedPart}
 use Rattle.srm_member.specs.declared.row.About.TheVariants.{Of}
 use Rattle.srm_member.specs.declared.row.Row.{Row}
 use Rattle.srm_member.specs.declared.entries.Missing.{Missing}
-use Rattle.srm_member.specs.Record.{MemberState, Record, Active, Gone, exit_of}
+use Rattle.srm_member.specs.Record.{MemberState, exit_of}
 use Rattle.srm_member.specs.React.{Reaction, react}
 use Rattle.srm_member.proofs.TableChanges.{Has, names_apart, put_here, put_there, has_put, has_more, without_less, without_there}
 use Rattle.srm_member.proofs.TableChanges.{sorted_put, sorted_without, has_some, ascend, contained_found, found_contained, named, has_name}
@@ -59,11 +59,11 @@ pub record Knows (rows : List Row) (j : ℕ) (m : MemberState) : Type 0 where
   pub plans : (n : Name) → Has n m.repairs → Has n m.held
 
 -- of a cell: its record, and its exit, if it left
-abbrev pub CellKnows : List Row → ℕ → Record → Option Exit → Type 0
-CellKnows rows j (Active m) None = Knows rows j m
-CellKnows rows j (Active m) (Some x) = ⊥
-CellKnows rows j (Gone f) None = ⊥
-CellKnows rows j (Gone f) (Some x) = (m : MemberState) × (x ≡ exit_of m) × (m.fixed.member ≡ j) × Keeps rows j m.held m.missing
+abbrev pub CellKnows : List Row → ℕ → Option MemberState → Option Exit → Type 0
+CellKnows rows j (Some m) None = Knows rows j m
+CellKnows rows j (Some m) (Some x) = ⊥
+CellKnows rows j None None = ⊥
+CellKnows rows j None (Some x) = (m : MemberState) × (x ≡ exit_of m) × (m.fixed.member ≡ j) × Keeps rows j m.held m.missing
 
 -- ---- packets and names
 
@@ -223,8 +223,9 @@ module _ (s : Setting) (fit : IsFit s) where
       none_lost : (j : ℕ) → j ≢ m → (n : Name) → ¬ LosesNow j n
       none_lost j ne n h = row_of_other j ne h.0
 
-      knows_on : (j : ℕ) → j ≢ m → (holds : Record) (exit : Option Exit) → CellKnows trace j holds exit → CellKnows rows j holds exit
-      knows_on j ne (Active k) None h = record {
+      knows_on : (j : ℕ) → j ≢ m → (holds : Option MemberState) (exit : Option Exit) → CellKnows trace j holds exit
+          → CellKnows rows j holds exit
+      knows_on j ne (Some k) None h = record {
         member = h.member;
         keeps = keeps_on j k.held k.missing (none_got j ne) (none_lost j ne) h.keeps;
         drew = λ n ink q. elim (drew_cases j n ink q) [ inl g ↦ h.drew n ink g | inr g ↦ absurd (row_of_other j ne g.member) ];
@@ -232,9 +233,9 @@ module _ (s : Setting) (fit : IsFit s) where
         fixed = λ n q. elim (told_cases Fixed j n q) [ inl g ↦ h.fixed n g | inr g ↦ absurd (row_of_other j ne g.member) ];
         plans = h.plans;
       }
-      knows_on j ne (Active k) (Some x) h = absurd h
-      knows_on j ne (Gone f) None h = absurd h
-      knows_on j ne (Gone f) (Some x) h = (h.0, h.1, h.2, keeps_on j h.0.held h.0.missing (none_got j ne) (none_lost j ne) h.3)
+      knows_on j ne (Some k) (Some x) h = absurd h
+      knows_on j ne None None h = absurd h
+      knows_on j ne None (Some x) h = (h.0, h.1, h.2, keeps_on j h.0.held h.0.missing (none_got j ne) (none_lost j ne) h.3)
 
       hear_at_holds : (p : Packet) (o : Option ℕ) (c : PlainCell) → ((hear_at p o c).holds ≡ c.holds) × ((hear_at p o c).exit ≡ c.exit)
       hear_at_holds p None c = (refl, refl)
@@ -268,11 +269,11 @@ module _ (s : Setting) (fit : IsFit s) where
       cell_knew : CellKnows trace m facts.cell.holds facts.cell.exit
       cell_knew = was.knows m facts.cell facts.here
 
-      active_knew : (exit : Option Exit) (k : MemberState) → CellKnows trace m (Active k) exit → (exit ≡ None) × Knows trace m k
+      active_knew : (exit : Option Exit) (k : MemberState) → CellKnows trace m (Some k) exit → (exit ≡ None) × Knows trace m k
       active_knew None k h = (refl, h)
       active_knew (Some x) k h = absurd h
 
-      knew : (k : MemberState) → e.rest.holds ≡ Active k → (e.rest.exit ≡ None) × Knows trace m k
+      knew : (k : MemberState) → e.rest.holds ≡ Some k → (e.rest.exit ≡ None) × Knows trace m k
       knew k h =
           let r = active_knew facts.cell.exit k (subst (λ r. CellKnows trace m r facts.cell.exit) (sym facts.pending.holds ∙ h) cell_knew)
           in
@@ -303,7 +304,7 @@ module _ (s : Setting) (fit : IsFit s) where
           let loses : (n : Name) → ¬ LosesNow m n = λ n h. contains_none n (subst (λ ns. Contains ns n) l.lost h.1) in
           record {
             knows = subst (λ r. CellKnows rows m r d.cell.exit) (sym l.holds_then)
-                (subst (CellKnows rows m (Gone l.state.fixed)) (sym l.exit)
+                (subst (CellKnows rows m None) (sym l.exit)
                 (l.state, refl, k.member, keeps_on m l.state.held l.state.missing none loses k.keeps));
             source = λ j n ink h. absurd (no_draw j n ink h);
             one = one_still no_draw;
@@ -329,7 +330,7 @@ module _ (s : Setting) (fit : IsFit s) where
 
         known : Knows rows m r.state → CellKnows rows m d.cell.holds d.cell.exit
         known h = subst (λ x. CellKnows rows m x d.cell.exit) (sym a.holds_then)
-            (subst (CellKnows rows m (Active r.state)) (sym no_exit) h)
+            (subst (CellKnows rows m (Some r.state)) (sym no_exit) h)
 
         sent_is : (p : Packet) → d.row.sent ≡ Some p → (r.answer.body ≡ Some p.body) × (p.id.sender ≡ m)
         sent_is p q = sent_body e r.answer.body d p a.sends q
@@ -712,12 +713,12 @@ module _ (s : Setting) (fit : IsFit s) where
     missing_rise = ascend m.missing k.missing_sorted;
   }
 
-  ends : (w : World) → Names w.cells w.trace → (j : ℕ) (holds : Record) (exit : Option Exit) → CellKnows w.trace j holds exit
+  ends : (w : World) → Names w.cells w.trace → (j : ℕ) (holds : Option MemberState) (exit : Option Exit) → CellKnows w.trace j holds exit
       → EndsHolding w.trace j (exit_at holds exit)
-  ends w names j (Active m) None h = ends_by w names j m h.member h.keeps
-  ends w names j (Active m) (Some x) h = absurd h
-  ends w names j (Gone f) None h = absurd h
-  ends w names j (Gone f) (Some x) h = subst (EndsHolding w.trace j) (sym h.1) (ends_by w names j h.0 h.2 h.3)
+  ends w names j (Some m) None h = ends_by w names j m h.member h.keeps
+  ends w names j (Some m) (Some x) h = absurd h
+  ends w names j None None h = absurd h
+  ends w names j None (Some x) h = subst (EndsHolding w.trace j) (sym h.1) (ends_by w names j h.0 h.2 h.3)
 
 get_map : {A B : Type 0} (f : A → B) (xs : List A) (j : ℕ) (y : B) → slice_get (map f xs) j ≡ Some y → (x : A) × (slice_get xs j ≡ Some x)
     × (f x ≡ y)

@@ -8,7 +8,7 @@ use Rattle.srm_scenario.specs.declared.mark.Mark.{Mark}
 use Rattle.srm_member.specs.declared.cause.Cause.{Cause}
 use Rattle.srm_member.specs.declared.cause.Cause.TheVariants.{Arrival}
 use Rattle.srm_member.specs.declared.due.Due.{Due}
-use Rattle.srm_member.specs.Record.{MemberState, Record, Active, Gone, due_of, exit_of}
+use Rattle.srm_member.specs.Record.{MemberState, exit_of}
 use Rattle.srm_member.specs.React.{react}
 use Rattle.srm_cell.specs.declared.flight.Flight.{Flight}
 use Rattle.srm_cell.specs.Setting.{Setting, arrival_of, cause_of_mark}
@@ -19,9 +19,10 @@ use Rattle.srm_cell.specs.OwnRuns.{told_to}
 use Rattle.srm_cell.proofs.Rising.{OnEvent, earlier_on, OnStep}
 use Rattle.srm_cell.proofs.CellSteps.{some_not_idle}
 use Rattle.srm_model.proofs.Settled.{get_after}
-pub use Rattle.srm_model.proofs.Settled.{each_after, length_after}
 use Rattle.srm_model.proofs.RunLemmas.{least_from, run_by, run_first, step_none, step_is}
 use Rattle.srm_model.specs.World.{World, cells_after, after_step, least_event, step, run, opening_cells}
+use Rattle.srm_cell.specs.Cells.{due_in}
+pub use Rattle.srm_model.proofs.Settled.{each_after, length_after}
 
 -- ---- what a cell's least event is
 
@@ -62,8 +63,8 @@ timer_pends m c d = grind arith
 next_pends : (m : ℕ) (c : PlainCell) → OnEvent (IsPending m c) (next_event m c)
 unfolding next_event
 next_pends m c = earlier_on (IsPending m c) (first_arrival m c c.inbox) _ (arrival_pends m c c.inbox refl)
-    (earlier_on (IsPending m c) (first_mark m c c.script) (next_timer m c (due_of c.holds)) (mark_pends m c c.script)
-    (timer_pends m c (due_of c.holds)))
+    (earlier_on (IsPending m c) (first_mark m c c.script) (next_timer m c (due_in c.holds)) (mark_pends m c c.script)
+    (timer_pends m c (due_in c.holds)))
 
 -- ---- what a step does
 
@@ -76,9 +77,9 @@ Sends e (Some body) d = (d.row.sent ≡ Some (packet_of e body)) × (d.cell.sent
 pub record Answers (e : Event) (d : Stepped) : Type 0 where
   pub state : MemberState
   pub cause : Cause
-  pub holds : e.rest.holds ≡ Active state
+  pub holds : e.rest.holds ≡ Some state
   pub is : e.cause ≡ Some cause
-  pub holds_then : d.cell.holds ≡ Active (react state e.key.time cause).state
+  pub holds_then : d.cell.holds ≡ Some (react state e.key.time cause).state
   pub exit : d.cell.exit ≡ e.rest.exit
   pub told : d.row.told ≡ (react state e.key.time cause).answer.told
   pub lost : d.row.lost ≡ (react state e.key.time cause).answer.lost
@@ -88,9 +89,9 @@ pub record Answers (e : Event) (d : Stepped) : Type 0 where
 -- the member leaves
 pub record Leaves (e : Event) (d : Stepped) : Type 0 where
   pub state : MemberState
-  pub holds : e.rest.holds ≡ Active state
+  pub holds : e.rest.holds ≡ Some state
   pub is : e.cause ≡ None
-  pub holds_then : d.cell.holds ≡ Gone state.fixed
+  pub holds_then : d.cell.holds ≡ None
   pub exit : d.cell.exit ≡ Some (exit_of state)
   pub told : d.row.told ≡ parting.told
   pub lost : d.row.lost ≡ []
@@ -103,7 +104,7 @@ pub record Does (e : Event) (d : Stepped) : Type 0 where
   pub inbox : d.cell.inbox ≡ e.rest.inbox
   pub how : Answers e d ⊎ Leaves e d
 
-does_handle : (e : Event) (holds : Record) (cause : Option Cause) → e.rest.holds ≡ holds → e.cause ≡ cause
+does_handle : (e : Event) (holds : Option MemberState) (cause : Option Cause) → e.rest.holds ≡ holds → e.cause ≡ cause
     → OnStep (Does e) (handle e holds cause)
 unfolding handle
 does_handle e holds cause h c = grind arith

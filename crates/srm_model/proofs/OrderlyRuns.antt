@@ -22,7 +22,7 @@ use Rattle.srm_member.specs.declared.exit.Exit.{Exit}
 use Rattle.srm_member.specs.declared.row.About.{About}
 use Rattle.srm_member.specs.declared.row.About.TheVariants.{Nothing, Of, Named}
 use Rattle.srm_member.specs.declared.row.Row.{Row}
-use Rattle.srm_member.specs.Record.{MemberState, Record, Active, Gone}
+use Rattle.srm_member.specs.Record.{MemberState}
 use Rattle.srm_member.specs.React.{Reaction, react}
 use Rattle.srm_member.specs.Orderly.{carried, brought, LostIn, FixedIn, IsAmong, AreLostOnce, AreFixedAfterLoss, IsOrderly}
 use Rattle.srm_member.proofs.AllIn.{AllIn, AllIn-weaker, AllIn-places, AllIn-at_places}
@@ -70,9 +70,9 @@ module _ (s : Setting) (fit : IsFit s) (own : (j : ℕ) → j < s.traffic.member
   abbrev members : ℕ
   members = s.traffic.members
 
-  abbrev RecordOf : Record → Type 0
-  RecordOf (Active m) = PagesOf members m.progress
-  RecordOf (Gone f) = Unit {0}
+  abbrev RecordOf : Option MemberState → Type 0
+  RecordOf (Some m) = PagesOf members m.progress
+  RecordOf None = Unit {0}
 
   -- of a world: the marks that are left, the pages of which members heard, the rows and the packets sent
   record Runs (cs : List PlainCell) (trace : List Row) : Type 0 where
@@ -160,10 +160,10 @@ module _ (s : Setting) (fit : IsFit s) (own : (j : ℕ) → j < s.traffic.member
       abbrev r : Reaction
       r = react a.state e.key.time a.cause
 
-      holds : facts.cell.holds ≡ Active state
+      holds : facts.cell.holds ≡ Some state
       holds = sym facts.pending.holds ∙ a.holds
 
-      active_knew : (exit : Option Exit) → CellKnows trace m (Active state) exit → Knows trace m state
+      active_knew : (exit : Option Exit) → CellKnows trace m (Some state) exit → Knows trace m state
       active_knew None h = h
       active_knew (Some x) h = absurd h
 

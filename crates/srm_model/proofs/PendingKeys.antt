@@ -4,7 +4,6 @@ use Rattle.std.proofs.Common.{Some, slice_get, add-zero, zero-add, le_refl, Cont
 use Rattle.std.proofs.lemmas.List.Elements.{All-contains, All-contains_itself}
 use Rattle.srm_net.specs.declared.key.Key.{Key}
 use Rattle.srm_member.specs.declared.row.Row.{Row}
-use Rattle.srm_member.specs.Record.{timers}
 use Rattle.srm_member.proofs.AllIn.{AllIn, AllIn-append, AllIn-at_places, AllIn-each, AllIn-first, AllIn-map, AllIn-places, AllIn-second}
 use Rattle.srm_member.proofs.AllIn.{AllIn-unmap, AllIn-weaker}
 use Rattle.srm_cell.specs.Setting.{Setting, IsFit}
@@ -20,16 +19,17 @@ use Rattle.srm_model.proofs.RunLemmas.{Seq, rest, next, shifted, step_is, after_
 use Rattle.srm_model.proofs.Sequential.{Good, step_facts, good_step, above_step, run_seq, good_opening, good_reached}
 use Rattle.srm_model.proofs.StrictRuns.{Strict, strict_step, strict_opening}
 use Rattle.srm_model.proofs.Settled.{EachCell}
+use Rattle.srm_cell.specs.Cells.{timers_in}
 
 -- ---- keys of different cells
 
 member_keys : (m : ℕ) (c : PlainCell) → AllIn (λ k. k.member ≡ m) (pending_keys m c)
 member_keys m c = AllIn-append (λ (k : Key). k.member ≡ m) (map (arrival_key m) c.inbox)
-    (map (mark_key m) c.script ++ map (timer_key m) (timers c.holds))
+    (map (mark_key m) c.script ++ map (timer_key m) (timers_in c.holds))
     (AllIn-map (λ (k : Key). k.member ≡ m) (arrival_key m) c.inbox (AllIn-each _ (λ f. refl) c.inbox))
-    (AllIn-append (λ (k : Key). k.member ≡ m) (map (mark_key m) c.script) (map (timer_key m) (timers c.holds))
+    (AllIn-append (λ (k : Key). k.member ≡ m) (map (mark_key m) c.script) (map (timer_key m) (timers_in c.holds))
     (AllIn-map (λ (k : Key). k.member ≡ m) (mark_key m) c.script (AllIn-each _ (λ f. refl) c.script))
-    (AllIn-map (λ (k : Key). k.member ≡ m) (timer_key m) (timers c.holds) (AllIn-each _ (λ f. refl) (timers c.holds))))
+    (AllIn-map (λ (k : Key). k.member ≡ m) (timer_key m) (timers_in c.holds) (AllIn-each _ (λ f. refl) (timers_in c.holds))))
 
 members_from : (i : ℕ) (cs : List PlainCell) → AllIn (λ k. i ≤ k.member) (keys_from i cs)
 members_from i [] = tt
@@ -74,10 +74,10 @@ module _ (P : Key → Type 0) where
   cell_above m c h = grind (arith, AllIn-second, AllIn-unmap, AllIn-first)
 
   above_keys : (m : ℕ) (c : PlainCell) → Above P m c → AllIn P (pending_keys m c)
-  above_keys m c a = AllIn-append P (map (arrival_key m) c.inbox) (map (mark_key m) c.script ++ map (timer_key m) (timers c.holds))
+  above_keys m c a = AllIn-append P (map (arrival_key m) c.inbox) (map (mark_key m) c.script ++ map (timer_key m) (timers_in c.holds))
       (AllIn-map P (arrival_key m) c.inbox a.flights)
-      (AllIn-append P (map (mark_key m) c.script) (map (timer_key m) (timers c.holds)) (AllIn-map P (mark_key m) c.script a.marks)
-      (AllIn-map P (timer_key m) (timers c.holds) a.dues))
+      (AllIn-append P (map (mark_key m) c.script) (map (timer_key m) (timers_in c.holds)) (AllIn-map P (mark_key m) c.script a.marks)
+      (AllIn-map P (timer_key m) (timers_in c.holds) a.dues))
 
   pub each_above : (i : ℕ) (cs : List PlainCell) → AllIn P (keys_from i cs) → (j : ℕ) (c : PlainCell) → slice_get cs j ≡ Some c
       → Above P (i + j) c

@@ -16,7 +16,7 @@ use Rattle.srm_member.specs.declared.row.Word.{Word}
 use Rattle.srm_member.specs.declared.row.Word.TheVariants as word
 use Rattle.srm_member.specs.declared.told.Told.TheVariants.{Parted, Sent}
 use Rattle.srm_member.specs.Orderly.{LostIn}
-use Rattle.srm_member.specs.Record.{MemberState, Record, Active, Gone}
+use Rattle.srm_member.specs.Record.{MemberState}
 use Rattle.srm_member.specs.React.{react}
 use Rattle.srm_member.proofs.TableChanges.{Has}
 use Rattle.srm_cell.specs.Setting.{Setting, IsFit}
@@ -37,9 +37,9 @@ abbrev Lost : Name → List Row → Type 0
 Lost n rows = (m : ℕ) × LostIn m n rows
 
 -- each repair timer of the record is for a name that some member lost
-abbrev Plans : List Row → Record → Type 0
-Plans rows (Active m) = (n : Name) → Has n m.repairs → Lost n rows
-Plans rows (Gone f) = Unit {0}
+abbrev Plans : List Row → Option MemberState → Type 0
+Plans rows (Some m) = (n : Name) → Has n m.repairs → Lost n rows
+Plans rows None = Unit {0}
 
 -- ---- rows of timers
 
@@ -88,9 +88,9 @@ module _ (s : Setting) (fit : IsFit s) where
       row_still r h cause told =
           let f = h cause told in let all = still f.0 (f.2, f.3) in (f.0, f.1, all.0, all.1)
 
-      plans_still : (holds : Record) → Plans trace holds → Plans after holds
-      plans_still (Active k) h = λ n has. still n (h n has)
-      plans_still (Gone f) h = tt
+      plans_still : (holds : Option MemberState) → Plans trace holds → Plans after holds
+      plans_still (Some k) h = λ n has. still n (h n has)
+      plans_still None h = tt
 
       -- ---- the stepping member
 
@@ -118,18 +118,18 @@ module _ (s : Setting) (fit : IsFit s) where
             ),
           )
 
-      state_plans : (k : MemberState) → e.rest.holds ≡ Active k → (n : Name) → Has n k.repairs → Lost n trace
+      state_plans : (k : MemberState) → e.rest.holds ≡ Some k → (n : Name) → Has n k.repairs → Lost n trace
       state_plans k h = subst (Plans trace) (sym facts.pending.holds ∙ h) (was.plans m facts.cell facts.here)
 
-      state_lacks : (k : MemberState) → e.rest.holds ≡ Active k → (n : Name) → Has n k.missing → LostIn m n trace
+      state_lacks : (k : MemberState) → e.rest.holds ≡ Some k → (n : Name) → Has n k.missing → LostIn m n trace
       state_lacks k h n has = by facts.cell.exit (subst (λ r. CellKnows trace m r facts.cell.exit) (sym facts.pending.holds ∙ h)
           (was.names.knows m facts.cell facts.here))
         where
-          by : (exit : Option Exit) → CellKnows trace m (Active k) exit → LostIn m n trace
+          by : (exit : Option Exit) → CellKnows trace m (Some k) exit → LostIn m n trace
           by None knows = (knows.keeps.lacks n has).0
           by (Some x) knows = absurd knows
 
-      answer_plans : (a : Answers e d) → Plans after (Active (react a.state e.key.time a.cause).state)
+      answer_plans : (a : Answers e d) → Plans after (Some (react a.state e.key.time a.cause).state)
       answer_plans a n has = still n (elim (timers_caused a.state e.key.time a.cause n has) [
         | inl g ↦ state_plans a.state a.holds n g
         | inr g ↦ requested g.0 n (arrived g.0 (a.is ∙ ap Some g.1)) g.2

@@ -20,7 +20,6 @@ use Rattle.srm_model.proofs.OneStep.{length_opening, run_begins}
 use Rattle.srm_model.proofs.Settled.{EachCell, each_after, length_after}
 use Rattle.srm_model.specs.Schedules.{AllSendLate, SendsLate}
 use Rattle.srm_model.specs.World.{World, least_event, opening, opening_cells, row_cmp, run, cells_after}
-use Rattle.srm_member.proofs.FewerTimers.{SoundRecord}
 use Rattle.srm_member.proofs.OrderLemmas.{from_refl, rises}
 use Rattle.srm_member.specs.declared.row.Row.{Row}
 use Rattle.srm_net.specs.Keys.{key_cmp}
@@ -30,6 +29,7 @@ use Rattle.srm_net.specs.declared.packet.Packet.{Packet}
 use Rattle.srm_net.proofs.TotalOrders.{key_total}
 use Rattle.srm_scenario.proofs.ScriptLemmas.{mark_total}
 use Rattle.srm_scenario.specs.Plain.{mark_cmp}
+use Rattle.srm_cell.proofs.Rising.{SoundHeld}
 
 pub get_below : (cs : List PlainCell) (j : ℕ) (c : PlainCell) → slice_get cs j ≡ Some c → j < length cs
 get_below [] j c h = cc
@@ -48,11 +48,11 @@ least_of_all k i (x ∷ cs) h (suc j) c g =
     rw same (least_of_all k (suc i) cs (least_earlier k (next_event i x) (least_event (suc i) cs) h).1 j c g)
 
 module _ (s : Setting) (fit : IsFit s) where
-  hear_at_sound : (p : Packet) (o : Option ℕ) (c : PlainCell) → SoundRecord c.holds → SoundRecord (hear_at p o c).holds
+  hear_at_sound : (p : Packet) (o : Option ℕ) (c : PlainCell) → SoundHeld c.holds → SoundHeld (hear_at p o c).holds
   hear_at_sound p None c h = h
   hear_at_sound p (Some at) c h = h
 
-  pub told_sound : (x : Option Packet) (m : ℕ) (c : PlainCell) → SoundRecord c.holds → SoundRecord (told_to s.traffic x m c).holds
+  pub told_sound : (x : Option Packet) (m : ℕ) (c : PlainCell) → SoundHeld c.holds → SoundHeld (told_to s.traffic x m c).holds
   unfolding hear
   told_sound None m c h = h
   told_sound (Some p) m c h = hear_at_sound p (arrival_of s.traffic p m) c h
@@ -60,7 +60,7 @@ module _ (s : Setting) (fit : IsFit s) where
   pub record Good (cs : List PlainCell) : Type 0 where
     pub members : length cs ≡ s.traffic.members
     pub tidy : EachCell (λ j c. IsTidy c) cs
-    pub sound : EachCell (λ j c. SoundRecord c.holds) cs
+    pub sound : EachCell (λ j c. SoundHeld c.holds) cs
 
   module _ (till : ℕ) where
     -- what is known of a step of the sequential run
@@ -100,8 +100,8 @@ module _ (s : Setting) (fit : IsFit s) where
           members = length_after s e.key.member d 0 cs ∙ good.members;
           tidy = each_after s (λ j c. IsTidy c) cs e.key.member d (subst (OnStep (λ d. IsTidy d.cell)) x (tidy_step e t))
               (λ j c g ne. tidy_told s.traffic d.row.sent j c (good.tidy j c g));
-          sound = each_after s (λ j c. SoundRecord c.holds) cs e.key.member
-              d (subst (OnStep (λ d. SoundRecord d.cell.holds)) x
+          sound = each_after s (λ j c. SoundHeld c.holds) cs e.key.member
+              d (subst (OnStep (λ d. SoundHeld d.cell.holds)) x
               (sound_step e (rest_sound f.cell e taken (good.sound e.key.member f.cell f.here))))
               (λ j c g ne. told_sound d.row.sent j c (good.sound j c g));
         }
@@ -219,10 +219,10 @@ module _ (s : Setting) (fit : IsFit s) where
       (record { flights = tt; marks = rises mark_cmp mark_total (s.script i) (fit.scripts i (omega arith)) })
   opening_tidy (suc n) i e (suc j) c h = opening_tidy n (suc i) (omega arith) j c h
 
-  opening_sound : (n i j : ℕ) (c : PlainCell) → slice_get (opening_cells s n i) j ≡ Some c → SoundRecord c.holds
+  opening_sound : (n i j : ℕ) (c : PlainCell) → slice_get (opening_cells s n i) j ≡ Some c → SoundHeld c.holds
   unfolding opening_cells
   opening_sound zero i j c h = cc
-  opening_sound (suc n) i zero c h = subst (λ (b : PlainCell). SoundRecord b.holds) (same_Some _ _ h)
+  opening_sound (suc n) i zero c h = subst (λ (b : PlainCell). SoundHeld b.holds) (same_Some _ _ h)
       (record { asks = tt; answers = tt; listener = λ l. (refl, refl) })
   opening_sound (suc n) i (suc j) c h = opening_sound n (suc i) j c h
 

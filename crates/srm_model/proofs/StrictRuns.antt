@@ -26,7 +26,6 @@ use Rattle.srm_model.proofs.Settled.{at_member, get_after}
 use Rattle.srm_model.specs.Laws.{KeysRise}
 use Rattle.srm_model.specs.World.{World, least_event, opening, opening_cells, row_cmp, run, cells_after}
 use Rattle.srm_member.proofs.AllIn.{AllIn, AllIn-both, AllIn-each, AllIn-place, AllIn-weaker}
-use Rattle.srm_member.specs.Record.{timers}
 use Rattle.srm_member.specs.declared.row.Row.{Row}
 use Rattle.srm_net.specs.Keys.{key_cmp}
 use Rattle.srm_net.specs.Orders.{AllAfter, Ascends, place}
@@ -35,6 +34,7 @@ use Rattle.srm_net.specs.declared.packet.Packet.{Packet}
 use Rattle.srm_net.proofs.Basics.{is_Less, same_numbers, nth_number, after_place, after_less}
 use Rattle.srm_net.proofs.TotalOrders.{key_total}
 use Rattle.srm_scenario.specs.Plain.{mark_cmp}
+use Rattle.srm_cell.specs.Cells.{timers_in}
 
 -- ---- lists that ascend
 
@@ -178,7 +178,7 @@ module _ (s : Setting) (fit : IsFit s) where
     other_member k j c ne = record {
       flights = AllIn-each (λ f. Differs k (arrival_key j f)) (λ f. differ_member k (arrival_key j f) ne) c.inbox;
       marks = AllIn-each (λ l. Differs k (mark_key j l)) (λ l. differ_member k (mark_key j l) ne) c.script;
-      dues = AllIn-each (λ d. Differs k (timer_key j d)) (λ d. differ_member k (timer_key j d) ne) (timers c.holds);
+      dues = AllIn-each (λ d. Differs k (timer_key j d)) (λ d. differ_member k (timer_key j d) ne) (timers_in c.holds);
     }
 
     both : (k : Key) (j : ℕ) (c : PlainCell) → Above (NotBefore k) j c → Above (Differs k) j c → Above (After k) j c
@@ -188,7 +188,7 @@ module _ (s : Setting) (fit : IsFit s) where
       marks = AllIn-both (λ f. NotBefore k (mark_key j f)) (λ f. Differs k (mark_key j f)) (λ f. After k (mark_key j f))
           (λ f u v. then_after k (mark_key j f) u v) c.script a.marks b.marks;
       dues = AllIn-both (λ f. NotBefore k (timer_key j f)) (λ f. Differs k (timer_key j f)) (λ f. After k (timer_key j f))
-          (λ f u v. then_after k (timer_key j f) u v) (timers c.holds) a.dues b.dues;
+          (λ f u v. then_after k (timer_key j f) u v) (timers_in c.holds) a.dues b.dues;
     }
 
     strictly_after : EachCell (Above (After e.key)) after

@@ -20,21 +20,22 @@ use Rattle.srm_ledger.specs.declared.kind.Kind.{Kind}
 use Rattle.srm_ledger.specs.declared.kind.Kind.TheVariants.{Drawop, Request, Repair, Session}
 use Rattle.srm_ledger.specs.Counts.{place_of}
 use Rattle.srm_cell.specs.Crossings.{packets_of, kind_of, crossings_at, crossings, added_each, joined}
-use Rattle.srm_cell.specs.Jobs.{OwnCell, PlainJob}
+use Rattle.srm_cell.specs.Cells.{OwnCell}
+use Rattle.srm_cell.specs.Jobs.{PlainJob}
 use Rattle.srm_cell.proofs.CrossingLemmas.{crossings_add}
 use Rattle.srm_cell.proofs.RowPackets.{joined-append}
-use Rattle.srm_model.specs.WindowRuns.{OwnResult, own_cells, AreRunsOf, rows_in, crossings_of_all, jobs_within, jobs_of, AreJobRuns}
+use Rattle.srm_model.specs.WindowRuns.{OwnResult, cells_from, AreRunsOf, rows_in, crossings_of_all, jobs_within, jobs_of, AreJobRuns}
 use Rattle.srm_model.specs.WindowRuns.{job_rows, SomeMeetsFull, SomeJobMeetsFull}
 use Rattle.srm_model.specs.WindowLaws.{JobsAreRuns, JobsAreInPlace, JobsRunAll, JobsRefuse, CrossingsKeep, CrossingsAreTotals}
 
 -- ---- cells with their members
 
-pub length_own_cells : (i : ℕ) (cs : List PlainCell) → length (own_cells i cs) ≡ length cs
+pub length_own_cells : (i : ℕ) (cs : List PlainCell) → length (cells_from i cs) ≡ length cs
 length_own_cells i [] = refl
 length_own_cells i (c ∷ cs) = ap suc (length_own_cells (suc i) cs)
 
 -- each is the cell of its member
-pub own_cell_at : (i : ℕ) (cs : List PlainCell) (j : ℕ) (q : OwnCell) → slice_get (own_cells i cs) j ≡ Some q → (c : PlainCell)
+pub own_cell_at : (i : ℕ) (cs : List PlainCell) (j : ℕ) (q : OwnCell) → slice_get (cells_from i cs) j ≡ Some q → (c : PlainCell)
     × (slice_get cs j ≡ Some c) × (record { member = i + j; cell = c } ≡ q)
 own_cell_at i [] j q h = cc
 own_cell_at i (c ∷ cs) zero q h =
@@ -93,7 +94,7 @@ all_cells (suc n) cut till place (q ∷ qs) pos le = ap (λ l. take cut (q ∷ q
 
 pub jobs_are_in_place : JobsAreInPlace
 jobs_are_in_place cut till w pos =
-    let all = own_cells 0 w.cells in (
+    let all = cells_from 0 w.cells in (
       subst (λ n. length (jobs_of cut till w) ≤ n) (length_own_cells 0 w.cells) (few_jobs (length all) cut till 0 all pos),
       λ k j h. nth_job (length all) cut till 0 all k j h ∙
           ap (λ p. record { place = p; till = till; cells = take cut (drop (k * cut) all) }) (zero-add k),
@@ -117,7 +118,7 @@ jobs_run (suc n) cut till place (q ∷ qs) (rs ∷ rss) pos le h =
 
 pub jobs_run_all : JobsRunAll
 jobs_run_all w cut till rss pos h =
-    let all = own_cells 0 w.cells in
+    let all = cells_from 0 w.cells in
     jobs_run (length all) cut till 0 all rss pos (le_refl (length all)) h
 
 -- ---- jobs that meet a step without a result
@@ -153,7 +154,7 @@ jobs_full (suc n) cut till place (q ∷ qs) (inr h) =
 
 pub jobs_refuse : JobsRefuse
 jobs_refuse w cut till h =
-    let all = own_cells 0 w.cells in
+    let all = cells_from 0 w.cells in
     let r = jobs_full (length all) cut till 0 all h in
     let own = own_cell_at 0 w.cells r.0 r.1 r.2 in
     let met = subst (λ (q : OwnCell). MeetsFull till q.member q.cell) (sym own.2) r.3 in

@@ -6,13 +6,14 @@ use Rattle.srm_scenario.specs.Accepted.{IsAccepted}
 use Rattle.srm_member.specs.declared.row.Row.{Row}
 use Rattle.srm_cell.specs.Setting.{Setting, IsFit, setting_of}
 use Rattle.srm_cell.specs.Cells.{PlainCell, Event}
-use Rattle.srm_cell.specs.Jobs.{OwnCell, PlainJob}
+use Rattle.srm_cell.specs.Cells.{OwnCell}
+use Rattle.srm_cell.specs.Jobs.{PlainJob}
 use Rattle.srm_cell.specs.Crossings.{crossings, added_each, joined}
 use Rattle.srm_model.specs.World.{World, row_cmp, IsReached, IsLast, RunMeetsFull}
 use Rattle.srm_model.specs.Schedules.{IsSafe, HasResult, HasNoResult}
 use Rattle.srm_model.specs.Windows.{IsWidth, promise_end, IsFirstQuiet}
 use Rattle.srm_model.specs.Hearing.{all_hear}
-use Rattle.srm_model.specs.WindowRuns.{OwnResult, own_cells, AreOwnRuns, rows_in, cells_in, IsMerge, each_hears}
+use Rattle.srm_model.specs.WindowRuns.{OwnResult, cells_from, AreOwnRuns, rows_in, cells_in, IsMerge, each_hears}
 use Rattle.srm_model.specs.WindowRuns.{StandAlike, AreNewInTurn, IsWindow, crossings_of_all, jobs_from, jobs_of}
 use Rattle.srm_model.specs.WindowRuns.{AreJobRuns, job_rows, SomeJobMeetsFull}
 use Rattle.srm_model.specs.WindowChains.{IsNext, IsOver, start_of, IsEndRule, width_rule, least_width, AreWindows}
@@ -87,8 +88,8 @@ JobsAreInPlace =
     (cut till : ℕ) (w : World) → 0 < cut
     → (length (jobs_of cut till w) ≤ length w.cells)
     × ((k : ℕ) (j : PlainJob) → slice_get (jobs_of cut till w) k ≡ Some j → j
-    ≡ record { place = k; till = till; cells = take cut (drop (k * cut) (own_cells 0 w.cells)) })
-    × (joined (map (λ (j : PlainJob). j.cells) (jobs_of cut till w)) ≡ own_cells 0 w.cells)
+    ≡ record { place = k; till = till; cells = take cut (drop (k * cut) (cells_from 0 w.cells)) })
+    × (joined (map (λ (j : PlainJob). j.cells) (jobs_of cut till w)) ≡ cells_from 0 w.cells)
 
 -- the results of a window's jobs, job after job, are those of all its cells
 abbrev pub JobsRunAll : Type 0

@@ -8,7 +8,8 @@ use Rattle.srm_member.specs.ByMember.{AreAlike}
 use Rattle.srm_cell.specs.Setting.{Traffic, Setting}
 use Rattle.srm_cell.specs.Cells.{PlainCell}
 use Rattle.srm_cell.specs.OwnRuns.{IsOwnRun, MeetsFull, hear_rows}
-use Rattle.srm_cell.specs.Jobs.{OwnCell, PlainJob}
+use Rattle.srm_cell.specs.Cells.{OwnCell}
+use Rattle.srm_cell.specs.Jobs.{PlainJob}
 use Rattle.srm_cell.specs.Crossings.{crossings, added_each, joined}
 use Rattle.srm_model.specs.World.{World, row_cmp}
 use Rattle.srm_model.specs.Hearing.{IsUnheard}
@@ -19,9 +20,9 @@ pub record OwnResult : Type 0 where
   pub cell : PlainCell
 
 -- the cells of member i, member i + 1 and so on, each with its member
-abbrev pub own_cells : ℕ → List PlainCell → List OwnCell
-own_cells i [] = []
-own_cells i (c ∷ cs) = record { member = i; cell = c } ∷ own_cells (suc i) cs
+abbrev pub cells_from : ℕ → List PlainCell → List OwnCell
+cells_from i [] = []
+cells_from i (c ∷ cs) = record { member = i; cell = c } ∷ cells_from (suc i) cs
 
 -- the results of the own runs to an end of these cells
 abbrev pub AreRunsOf : ℕ → List OwnCell → List OwnResult → Type 0
@@ -29,7 +30,7 @@ AreRunsOf till qs rs = AllZip (λ q r. IsOwnRun till q.member q.cell r.rows r.ce
 
 -- the results of the own runs to an end of the cells of member i and on
 abbrev pub AreOwnRuns : ℕ → ℕ → List PlainCell → List OwnResult → Type 0
-AreOwnRuns till i cs rs = AreRunsOf till (own_cells i cs) rs
+AreOwnRuns till i cs rs = AreRunsOf till (cells_from i cs) rs
 
 -- the rows of each result
 abbrev pub rows_in : List OwnResult → List (List Row)
@@ -96,7 +97,7 @@ jobs_from cut till place qs = jobs_within (length qs) cut till place qs
 
 -- the jobs of a window: its cells, as they are when it begins, in consecutive runs of `cut`
 abbrev pub jobs_of : ℕ → ℕ → World → List PlainJob
-jobs_of cut till w = jobs_from cut till 0 (own_cells 0 w.cells)
+jobs_of cut till w = jobs_from cut till 0 (cells_from 0 w.cells)
 
 -- the results of the jobs' cells, job after job
 abbrev pub AreJobRuns : List PlainJob → List (List OwnResult) → Type 0

@@ -4,7 +4,6 @@ use Rattle.std.specs.Prelude.{if◌then◌else◌}
 use Rattle.std.specs.List.{range_with_len}
 use Rattle.srm_net.specs.Network.{Network}
 use Rattle.srm_net.specs.Least.{least, least_delay}
-use Rattle.srm_member.specs.Record.{fixed_part}
 use Rattle.srm_net.specs.Roles.{is_listener}
 use Rattle.srm_cell.specs.Setting.{Setting}
 use Rattle.srm_cell.specs.Cells.{PlainCell, time_of, next_event, Done}
@@ -40,16 +39,15 @@ abbrev pub promise_by : Option ℕ → Option ℕ → Option ℕ
 promise_by (Some time) (Some way) = Some (time + way)
 promise_by _ _ = None
 
--- before which time no packet of member m's arrives anywhere, if it is no listener, has an event pending and there is
--- another member
-abbrev pub promise_of : Setting → ℕ → PlainCell → Option ℕ
-promise_of s m c =
-    if is_listener (fixed_part c.holds).role then None else promise_by (time_of (next_event m c)) (least_distance s m)
-
 -- the least way that member m's packets have before them: that to the nearest other member, if m may send any and there
 -- is one
 abbrev pub way_of : Setting → ℕ → Option ℕ
 way_of s m = if is_listener (s.fixed m).role then None else least_distance s m
+
+-- before which time no packet of member m's arrives anywhere, if it is no listener, has an event pending and there is
+-- another member
+abbrev pub promise_of : Setting → ℕ → PlainCell → Option ℕ
+promise_of s m c = promise_by (time_of (next_event m c)) (way_of s m)
 
 -- the least of `until` and of the promises of the members from i on
 abbrev pub least_promise : Setting → ℕ → List PlainCell → ℕ

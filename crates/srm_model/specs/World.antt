@@ -4,7 +4,7 @@ use Rattle.std.specs.declared.cmp.Ordering.{Ordering}
 use Rattle.srm_net.specs.Keys.{key_cmp}
 use Rattle.srm_member.specs.declared.row.Row.{Row}
 use Rattle.srm_member.specs.declared.exit.Exit.{Exit}
-use Rattle.srm_member.specs.Record.{Record, Active, Gone, exit_of}
+use Rattle.srm_member.specs.Record.{MemberState, exit_of}
 use Rattle.srm_cell.specs.Setting.{Setting}
 use Rattle.srm_cell.specs.Cells.{PlainCell, opening_cell, Event, earlier, next_event, before, StepOutcome, Idle, Full}
 use Rattle.srm_cell.specs.Cells.{Spent, Done, Stepped, step_at}
@@ -89,15 +89,11 @@ RunMeetsFull s = (n : ℕ) × (run s n (opening s) ≡ Full)
 
 -- ---- what a run ends with
 
--- of a record: what an active member would end with
-abbrev pub exit_of_record : Record → Exit
-exit_of_record (Active m) = exit_of m
-exit_of_record (Gone f) = record { member = f.member; held = []; missing = [] }
-
--- a member's exit: as it left, or else as it is
-abbrev pub exit_at : Record → Option Exit → Exit
-exit_at r (Some e) = e
-exit_at r None = exit_of_record r
+-- a member's exit: as it left, or else as it is. In no world of a run a member is gone and left none
+abbrev pub exit_at : Option MemberState → Option Exit → Exit
+exit_at o (Some e) = e
+exit_at (Some m) None = exit_of m
+exit_at None None = record { member = 0; held = []; missing = [] }
 
 -- the exits of all members, in order of their numbers
 abbrev pub exits_of : World → List Exit

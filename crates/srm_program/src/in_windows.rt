@@ -2,7 +2,7 @@
 ghost use Rattle.std.specs.Prelude.{◌≡◌, ◌<◌, ◌-◌, ◌^◌, map};
 ghost use Rattle.srm_engine.specs.Starts.{AreOpening};
 ghost use Rattle.srm_options.specs.declared.options.Engine.TheVariants.{Window};
-ghost use Rattle.srm_program.specs.Askings.{MayLead, MayTabulate, Reports};
+ghost use Rattle.srm_program.specs.Askings.{MayTabulate, Reports};
 
 use crate::asked::Asked;
 use crate::by_watch::by_watch;
@@ -119,7 +119,7 @@ pub(crate) fn by_rows<
     outlet: &mut O,
 ) -> Result<(), LabFault>
     requires opening { AreOpening task.session (map M.plain members.items) }
-    requires lead { MayLead C.ready C.serves crew task.session }
+    requires ready { C.ready crew }
     requires may { MayTabulate O.Outlet W.show task outlet.old }
     ensures { Reports O.Outlet task.entry (map M.plain members.items) outlet.old result outlet.new }
 {

@@ -1,5 +1,5 @@
 -- Whole runs, and a short form of their rows.
-use Rattle.std.specs.Prelude.{◌≡◌, ℕ, zero, suc, List, map, Option, Some, None, length}
+use Rattle.std.specs.Prelude.{◌≡◌, ℕ, suc, List, [], ◌∷◌, map, Option, Some, None, length}
 use Rattle.srm_net.specs.declared.packet.PacketId.{PacketId}
 use Rattle.srm_net.specs.declared.packet.Name.{Name}
 use Rattle.srm_net.specs.declared.packet.Packet.{Packet}
@@ -11,9 +11,10 @@ use Rattle.srm_member.specs.declared.row.About.TheVariants as about
 use Rattle.srm_member.specs.declared.row.Row.{Row}
 use Rattle.srm_member.specs.declared.told.Told.{Told}
 use Rattle.srm_member.specs.declared.exit.Exit.{Exit}
-use Rattle.srm_member.specs.Record.{Record, Active, Gone}
+use Rattle.srm_member.specs.Record.{MemberState}
+use Rattle.srm_member.specs.declared.fixed.Fixed.{Fixed}
 use Rattle.srm_cell.specs.Setting.{Setting, traffic_of, setting_of}
-use Rattle.srm_cell.specs.Cells.{Idle, Full, Spent, Done}
+use Rattle.srm_cell.specs.Cells.{PlainCell, Idle}
 use Rattle.srm_cell.specs.Crossings.{crossings}
 use Rattle.srm_model.specs.World.{World, step, last_world, opening, exits_of}
 
@@ -82,16 +83,21 @@ whole_totals p seed = crossings (traffic_of p (network_of p)) (world_at_end p se
 unfoldable pub whole_exits : PlainScenario → ℕ → List Exit
 whole_exits p seed = exits_of (world_at_end p seed)
 
--- the constants of a member's timers; of one that is gone the first ones
-abbrev pub constants_in : Record → Constants
-constants_in (Active m) = record {
+-- the constants of a member's timers; of one that is gone its first ones
+abbrev pub constants_at : Fixed → Option MemberState → Constants
+constants_at f (Some m) = record {
   c1 = m.request_interval.start;
   c2 = m.request_interval.width;
   d1 = m.repair_interval.start;
   d2 = m.repair_interval.width;
 }
-constants_in (Gone f) = record { c1 = f.c1.first; c2 = f.c2.first; d1 = f.d1.first; d2 = f.d2.first }
+constants_at f None = record { c1 = f.c1.first; c2 = f.c2.first; d1 = f.d1.first; d2 = f.d2.first }
 
--- those of its members at its end
+-- those of member m, of member m + 1 and so on, in these cells
+abbrev pub constants_from : Setting → ℕ → List PlainCell → List Constants
+constants_from s m [] = []
+constants_from s m (c ∷ cs) = constants_at (s.fixed m) c.holds ∷ constants_from s (suc m) cs
+
+-- those of the members of a run at its end
 unfoldable pub whole_constants : PlainScenario → ℕ → List Constants
-whole_constants p seed = map (λ c. constants_in c.holds) (world_at_end p seed).cells
+whole_constants p seed = constants_from (setting_of p (network_of p) seed) 0 (world_at_end p seed).cells

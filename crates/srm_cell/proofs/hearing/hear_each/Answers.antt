@@ -1,22 +1,12 @@
-use Rattle.std.proofs.Common.{◌≡◌, ◌∙◌, ◌<◌, ◌+◌, ℕ, List, length, take, drop, get_or, refl, sym, ap, subst, arith}
+use Rattle.std.proofs.Common.{◌≡◌, ◌∙◌, ◌<◌, ◌+◌, length, take, get_or, refl, sym, ap, subst, arith}
 use Rattle.std.proofs.Math.Seq.{take-length}
-use Rattle.std.proofs.lemmas.List.{drop_more, take_more, take_more_set, drop-set-lt, length-set}
+use Rattle.std.proofs.lemmas.List.{take_more, take_more_set, drop-set-lt, length-set}
 use Rattle.std.proofs.lemmas.List.Elements.{All-get_or, AllZip-push}
 use Rattle.srm_cell.specs.declared.cell.Cell.{Cell}
 use Rattle.srm_cell.specs.Setting.{traffic_of}
 use Rattle.srm_cell.specs.Hearing.{packets_in, MayHearAll, HearsAll, EachHearsAll}
+use Rattle.srm_cell.proofs.Fronts.{at_front, after_front}
 use Rattle.srm_cell.proofs.hearing.hear_each.Goals as goal
-
--- lists that are the same from a place on have the same there, and after it
-at_front : {A : Type 0} (xs ys : List A) (i : ℕ) (d : A) → i < length xs → i < length ys → drop i xs ≡ drop i ys
-    → get_or xs i d ≡ get_or ys i d
-at_front xs ys i d lt less h =
-    sym (ap (λ l. get_or l 0 d) (drop_more xs i d lt)) ∙ ap (λ l. get_or l 0 d) h ∙ ap (λ l. get_or l 0 d) (drop_more ys i d less)
-
-after_front : {A : Type 0} (xs ys : List A) (i : ℕ) (d : A) → i < length xs → i < length ys → drop i xs ≡ drop i ys
-    → drop (i + 1) xs ≡ drop (i + 1) ys
-after_front xs ys i d lt less h =
-    sym (ap (drop 1) (drop_more xs i d lt)) ∙ ap (drop 1) h ∙ ap (drop 1) (drop_more ys i d less)
 
 pub loop-cell-init : goal.loop-cell-init
 loop-cell-init g c = (refl, refl, tt)

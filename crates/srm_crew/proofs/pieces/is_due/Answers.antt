@@ -1,7 +1,8 @@
 use Rattle.std.proofs.Common.{◌≡◌, ◌∙◌, Bool, true, false, cond, ℕ, Option, Some, None, nat_lt, refl, sym, ap}
 use Rattle.std.proofs.lemmas.Option.{same_Some}
 use Rattle.std.specs.Option.{is_some}
-use Rattle.srm_cell.specs.Cells.{Event, before, next_event, time_of}
+use Rattle.srm_cell.specs.Cells.{Event, before, time_of}
+use Rattle.srm_cell.specs.Views.{event_of}
 use Rattle.srm_crew.proofs.pieces.is_due.Goals as goal
 
 at_time : (till t : ℕ) (o : Option Event) → Some t ≡ time_of o → nat_lt t till ≡ is_some (before till o)
@@ -17,7 +18,8 @@ at_none till None h = refl
 at_none till (Some e) h = cc
 
 pub returns-in-Some : goal.returns-in-Some
-returns-in-Some g c = λ m p is. at_time c.args.till c.in-Some.time (next_event m p) (sym c.in-Some.is ∙ c.next_time.ensures m p is)
+returns-in-Some g c = λ h. at_time c.args.till c.in-Some.time (event_of g.M.Participant.plain c.args.cell.now) (sym c.in-Some.is
+    ∙ c.next_time.ensures h)
 
 pub returns-in-None : goal.returns-in-None
-returns-in-None g c = λ m p is. at_none c.args.till (next_event m p) (sym c.in-None.is ∙ c.next_time.ensures m p is)
+returns-in-None g c = λ h. at_none c.args.till (event_of g.M.Participant.plain c.args.cell.now) (sym c.in-None.is ∙ c.next_time.ensures h)

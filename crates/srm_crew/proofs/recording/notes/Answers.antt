@@ -13,9 +13,9 @@ loop-job-preserved g c =
     ∙ notes_more c.args.jobs.now c.loop-job.job-index c.job-item.result c.loop-job-test.true c.job-item.is
 
 pub returns : goal.returns
-returns g c = λ ps h.
+returns g c =
     let past = c.loop-job-test.false in
     let within = c.loop-job.auto.job-index-end in
     let at : c.loop-job.job-index ≡ length c.args.jobs.now = omega arith in
     c.loop-job.invariant ∙ ap (λ i. map own_note (take i c.args.jobs.now)) at ∙ ap (map own_note) (take-length c.args.jobs.now)
-    ∙ notes_seen g.M.Participant.plain c.args.jobs.now ps h
+    ∙ notes_seen g.M.Participant.plain c.args.jobs.now

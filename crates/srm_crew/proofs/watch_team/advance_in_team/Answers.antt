@@ -41,6 +41,3 @@ returns-clause-advanced g c =
     c.in-Ok.pieces.items c.in-Ok-to_advance.given.items c.in-Ok-work_in_team.all.items
     c.in-Ok-advanced_of.results.items c.in-Ok-to_advance.ensures c.in-Ok-work_in_team.ensures.given c.in-Ok-advanced_of.ensures)
     c.put_together.ensures)
-
-pub returns-in_default-clause-advanced : goal.returns-in_default-clause-advanced
-returns-in_default-clause-advanced g c = record { tells = λ ps h. tt }

@@ -28,7 +28,7 @@ loop-cell-init g c =
       refl,
       refl,
       subst (All (IsOfMember f (length net.hosts))) (sym shown)
-          (are_of_members f (length net.hosts) job.cells.items may.plain_job.cells may.is.cells may.of_members),
+          (are_of_members f (length net.hosts) job.cells.items may.sound may.of_members),
       subst (λ xs. CellsSoFar f keeps k net job [] xs [] [] c.new-sent.result.items) (sym shown)
           (subst (λ xs. CellsSoFar f keeps k net job [] job.cells.items [] [] xs) (sym c.new-sent.ensures.items)
           (cells_none f keeps k net job)),
@@ -36,7 +36,7 @@ loop-cell-init g c =
     )
 
 pub run_watched-requires-clause-till : goal.run_watched-requires-clause-till
-run_watched-requires-clause-till g c = let till = c.requires.job.is.till in let most = c.requires.job.till in omega arith
+run_watched-requires-clause-till g c = c.requires.job.till
 
 pub run_watched-requires-clause-member : goal.run_watched-requires-clause-member
 run_watched-requires-clause-member g c =
@@ -56,11 +56,13 @@ returns-in-Err g c =
     let same = c.loop-cell.auto.cell-items in
     let test = c.loop-cell-test.true in
     let within : i < length cells = omega arith in
+    let own = All-head (IsOfMember g.M.Participant.plain (length c.args.work.now.session.net.now.hosts)) _ _
+    (rw (drop_more cells i c.cell-item.result within) at c.loop-cell.invariant.4) in
     cells_fault g.M.Participant.plain (g.W.Watch.keeps c.args.work.now.watch) c.args.work.now.session.scenario.now
     c.args.work.now.session.net.now c.args.job (take i cells) (drop (i + 1) cells) (take i c.args.job.kept.items)
     (take i c.loop-cell.kept.items) c.loop-cell.sent.items cell
     c.run_watched.new.cell c.in-Err.fault (rw (drop_more cells i c.cell-item.result within) at c.loop-cell.invariant.5)
-    c.in-Err.ensures.refused
+    (λ ne. c.in-Err.ensures.refused ne own.0)
 
 pub loop-cell-preserved : goal.loop-cell-preserved
 loop-cell-preserved g c =
@@ -86,6 +88,8 @@ loop-cell-preserved g c =
     let within : i < length cells = omega arith in
     let before : i < length was = omega arith in
     let there : i < length now = omega arith in
+    let own = All-head (IsOfMember f (length net.hosts)) _ _ (rw (drop_more cells i c.cell-item.result within) at c.loop-cell.invariant.4)
+    in
     let others : get_or now i d ∷ drop (i + 1) now ≡ get_or was i d ∷ drop (i + 1) was =
     sym (drop_more now i d there) ∙ c.loop-cell.invariant.3 ∙ drop_more was i d before in
     let first : get_or was i d ≡ get_or now i d = cc in
@@ -108,7 +112,7 @@ loop-cell-preserved g c =
       )
           (cells_more f keeps k net c.args.job (take i cells) (drop (i + 1) cells) (take i was) (take i now) sent
           c.run_watched.new.sent.items cell after ran.0 (get_or was i d) new
-          (rw (drop_more cells i c.cell-item.result within) at c.loop-cell.invariant.5) ran.1 kept ran.3),
+          (rw (drop_more cells i c.cell-item.result within) at c.loop-cell.invariant.5) (ran.1 own.0) kept ran.3),
       c.in-Ok.ensures.sent,
     )
 

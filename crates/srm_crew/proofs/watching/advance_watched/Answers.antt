@@ -48,9 +48,6 @@ returns-in-Err g c =
     c.args.work.now.session.net.now c.args.jobs.items c.loop-job.all.items c.in-Some.job (into_iter_items c.next.new.self)
     c.in-Err.fault (rw c.in-Some.ensures.steps.0 at c.loop-job.invariant.4) c.in-Err.ensures
 
-pub returns-then-is_err : goal.returns-then-is_err
-returns-then-is_err g c = record { tells = λ ps h. tt }
-
 pub returns : goal.returns
 returns g c =
     let ok = c.loop-job.job-iterator.rest.ok in

@@ -11,7 +11,7 @@ use Rattle.srm_crew.proofs.watching.run_watched.Goals as goal
 pub returns-then-not-is_due-clause-ran : goal.returns-then-not-is_due-clause-ran
 returns-then-not-is_due-clause-ran g c = (
   [],
-  runs_idle g.M.Participant.plain c.args.till c.args.cell.now (λ m p is. sym (c.is_due.ensures m p is) ∙ c.if-not-is_due.true),
+  runs_idle g.M.Participant.plain c.args.till c.args.cell.now (λ is. sym (c.is_due.ensures is) ∙ c.if-not-is_due.true),
   λ before h. subst (g.W.Watch.keeps c.args.work.now.watch c.args.kept.now) (sym (append-nil before)) h,
   sym (append-nil (packets_in c.args.sent.now.items)),
 )

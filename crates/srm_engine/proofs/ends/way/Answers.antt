@@ -1,5 +1,5 @@
 use Rattle.std.proofs.Common.{◌∙◌}
-use Rattle.srm_engine.proofs.Promises.{way_of_other}
+use Rattle.srm_engine.proofs.Ways.{way_of_other}
 use Rattle.srm_engine.proofs.ends.way.Goals as goal
 
 pub returns-in_default : goal.returns-in_default

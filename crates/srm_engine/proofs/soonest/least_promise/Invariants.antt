@@ -1,6 +1,6 @@
-use Rattle.srm_engine.specs.declared.soonest.Soonest.{Soonest}
-use Rattle.srm_engine.proofs.SoonLemmas.{BestOf}
+use Rattle.std.proofs.Common.{◌≡◌, take}
+use Rattle.srm_engine.specs.Soonest.{first_promise}
 use Rattle.srm_engine.proofs.soonest.least_promise.Given as goal
 
 abbrev pub invariant-loop-soonest : goal.invariant-loop-soonest
-invariant-loop-soonest l = BestOf l.until (λ (x : Soonest). x.promise) l.soon l.soonest-index l.best
+invariant-loop-soonest l = l.best ≡ first_promise l.until (take l.soonest-index l.soon)

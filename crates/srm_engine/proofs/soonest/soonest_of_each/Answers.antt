@@ -1,9 +1,12 @@
-use Rattle.std.proofs.Common.{◌≡◌, ◌∙◌, ◌+◌, ◌/◌, ◌∷◌, [], sym, ap, subst, arith, length, length-append, get_or}
+use Rattle.std.proofs.Common.{◌≡◌, ◌∙◌, ◌++◌, ◌∷◌, [], sym, ap, arith, length, get_or, take_all}
+use Rattle.std.proofs.lemmas.List.{length-map, take_more}
+use Rattle.std.specs.Global.{Vec}
 use Rattle.srm_scenario.proofs.Members.{few_members}
+use Rattle.srm_cell.specs.declared.cell.Cell.{Cell}
+use Rattle.srm_cell.specs.Jobs.{own_cells}
 use Rattle.srm_engine.specs.Starts.{setting_on}
-use Rattle.srm_engine.specs.declared.soonest.Soonest.{Soonest}
-use Rattle.srm_engine.specs.Soonest.{IsSoonest}
-use Rattle.srm_engine.proofs.SoonGroups.{looked_at, group_within, group_below, pushed_each}
+use Rattle.srm_engine.specs.Soonest.{soon_in, soonest_of}
+use Rattle.srm_engine.proofs.SoonGroups.{looked_at, group_within}
 use Rattle.srm_engine.proofs.soonest.soonest_of_each.Goals as goal
 
 pub overflow_mul-index : goal.overflow_mul-index
@@ -29,32 +32,25 @@ pub soonest_in-requires-clause-few : goal.soonest_in-requires-clause-few
 soonest_in-requires-clause-few g c = let few = few_members c.args.session.scenario.now c.until-until.ensures.accepted in omega arith
 
 pub loop-index-preserved : goal.loop-index-preserved
-loop-index-preserved g c =
-    let old = c.loop-index.soonest.items in
+loop-index-preserved g c = λ seed h.
+    let f = g.M.Participant.plain in
+    let s = setting_on c.args.session seed in
     let k = c.loop-index.index in
     let gs = c.args.groups.now in
-    let group = c.index-groups-index.result in
     let y = c.soonest_in.result in
-    let pushed = c.in_ok-push.ensures.items in
-    let i = c.loop-index.invariant in (
-      ap length pushed ∙ length-append old (y ∷ []) ∙ ap (λ n. n + 1) i.0,
-      λ seed ps h j x get.
-          let s = setting_on c.args.session seed in
-          let new = looked_at g.M.Participant.plain c.args.cut gs ps c.requires.cut h s k group
-          c.as_slice.result.now y c.loop-index-test.true c.index-groups-index.is c.as_slice.ensures.value
-          (c.soonest_in.ensures seed ps) in
-          pushed_each (λ n (z : Soonest). IsSoonest s (λ m. m / c.args.cut ≡ n) ps z) old y (i.1 seed ps h)
-          (subst (λ n. IsSoonest s (λ m. m / c.args.cut ≡ n) ps y) (sym i.0) new) j x
-          (rw pushed at get),
-    )
+    let here = looked_at f s c.args.cut gs k c.index-groups-index.result c.as_slice.result.now y c.requires.cut h c.loop-index-test.true
+    c.index-groups-index.is c.as_slice.ensures.value (c.soonest_in.ensures seed) in
+    let within = length-map gs (λ (v : Vec (Cell _)). soonest_of s (own_cells f v.items)) in
+    let lt = c.loop-index-test.true in
+    c.in_ok-push.ensures.items
+    ∙ (λ i. c.loop-index.invariant seed h i ++ here i ∷ [])
+    ∙ sym (take_more (soon_in f s gs) k y (omega (arith, within, lt)))
 
 pub returns : goal.returns
-returns g c = λ seed ps h.
+returns g c = λ seed h.
+    let f = g.M.Participant.plain in
+    let s = setting_on c.args.session seed in
+    let gs = c.args.groups.now in
     let past = c.loop-index-test.false in
-    let i = c.loop-index.invariant in
-    let long = i.0 in
-    record {
-      many = λ m lt. let below = group_below g.M.Participant.plain c.args.cut c.args.groups.now ps
-          c.requires.cut h m lt in omega arith;
-      each = i.1 seed ps h;
-    }
+    let within = length-map gs (λ (v : Vec (Cell _)). soonest_of s (own_cells f v.items)) in
+    c.loop-index.invariant seed h ∙ take_all c.loop-index.index (soon_in f s gs) (omega (arith, within, past))

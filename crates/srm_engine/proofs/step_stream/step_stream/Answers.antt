@@ -10,7 +10,8 @@ pub finish_cells-requires : goal.finish_cells-requires
 finish_cells-requires g c =
     let seed = c.requires.boxes.0 in
     let t = c.in-Ok.ensures.last seed c.requires.boxes.1 in
-    all_end _ (setting_of c.args.scenario.now c.args.net.now seed) c.in-Ok.ran.cells.cells.items t.0 t.1.reached t.3.seen.cells
+    all_end _ (setting_of c.args.scenario.now c.args.net.now seed) c.in-Ok.ran.cells.cells.items t.0 t.1.reached
+    (t.3.seen.0.order, t.3.seen.1)
 
 pub into_totals-requires : goal.into_totals-requires
 into_totals-requires g c =
@@ -34,7 +35,7 @@ returns-in-Ok-finish_cells-clause-stream g c = λ seed h.
         world = t.0;
         last = t.1;
         trace_is = refl;
-        exits_are = exits_are _ _ t.0 c.in-Ok-finish_cells.exits.items t.3.seen.cells c.in-Ok-finish_cells.ensures;
+        exits_are = exits_are _ _ t.0 c.in-Ok-finish_cells.exits.items (t.3.seen.0.order, t.3.seen.1) c.in-Ok-finish_cells.ensures;
         totals_are = run_totals c.in-Ok.ran _ seed t.0 c.into_totals.result c.in-Ok.ensures.session
             t.3.counted c.into_totals.ensures;
       },

@@ -7,7 +7,8 @@ use Rattle.srm_engine.specs.declared.ends.Ends.{Ends}
 use Rattle.srm_engine.specs.Starts.{setting_on}
 use Rattle.srm_interfaces.specs.Watches.{KeepMembers}
 use Rattle.srm_engine.specs.Windowed.{MayCome, rule_of}
-use Rattle.srm_engine.proofs.WatchWindows.{all_long, refused_so}
+use Rattle.srm_engine.proofs.WatchWindows.{refused_so}
+use Rattle.srm_engine.proofs.CellLists.{all_long}
 use Rattle.srm_engine.proofs.WindowLemmas.{as_asked, members_are}
 use Rattle.srm_engine.proofs.window_watch.window_watch.Goals as goal
 
@@ -29,7 +30,7 @@ returns-clause-kept g c = λ seed h.
     let same = c.in-Ok-windows.ensures.frame ∙ c.in-Ok-open.ensures.frame in
     let t = c.in-Ok-windows.ensures.windows seed (c.in-Ok-open.ensures.opened seed h) c.in-Ok-open.ensures.none in (
       ap length c.in-Ok-in_one.ensures ∙ all_long e.kept.items e.engine.groups.groups.items stands.each
-          ∙ t.2.kept.grouped.cells.as_many ∙ members_are f e.engine stands.under_way seed t.0 t.1 t.2
+          ∙ members_are f e.engine stands.under_way seed t.0 t.1 t.2
           ∙ ap (λ (k : Session × ℕ × Ends). length k.0.scenario.now.members) same,
       (
         t.1.trace,

@@ -1,17 +1,19 @@
 use Rattle.std.proofs.Common.{sym, ◌∙◌, ap, subst}
-use Rattle.srm_member.specs.Record.{due_of}
-use Rattle.srm_cell.specs.Cells.{first_arrival, first_mark, next_timer, earlier, next_event}
+use Rattle.srm_cell.specs.Cells.{first_arrival, first_mark, next_timer, earlier, next_event, due_in}
 use Rattle.srm_cell.specs.Pending.{Stands, sooner_pending}
+use Rattle.srm_cell.specs.Views.{plain_cell}
 use Rattle.srm_cell.proofs.Nexts.{sooner_stands}
 use Rattle.srm_cell.proofs.cell.Cell.least.Goals as goal
 
 pub returns : goal.returns
 unfolding next_event
-returns g c = λ m p h.
+returns g c =
+    let m = c.args.self.now.number in
+    let p = plain_cell g.M.Participant.plain c.args.self.now in
     let a = first_arrival m p p.inbox in
     let k = first_mark m p p.script in
-    let t = next_timer m p (due_of p.holds) in
+    let t = next_timer m p (due_in p.holds) in
     let is = c.take_place_if_any-2.ensures ∙ ap (sooner_pending c.arrival.result) c.take_place_if_any.ensures in
     subst (λ o. Stands m p o (earlier a (earlier k t))) (sym is)
-    (sooner_stands m p c.arrival.result _ a (earlier k t) (c.arrival.ensures m p h)
-    (sooner_stands m p c.mark.result c.timer-next.result k t (c.mark.ensures m p h) (c.timer-next.ensures m p h)))
+    (sooner_stands m p c.arrival.result _ a (earlier k t) c.arrival.ensures
+    (sooner_stands m p c.mark.result c.timer-next.result k t c.mark.ensures c.timer-next.ensures))

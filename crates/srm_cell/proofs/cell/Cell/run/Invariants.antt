@@ -1,13 +1,13 @@
-use Rattle.std.proofs.Common.{ℕ, ◌-◌, ◌^◌, vec_len}
-use Rattle.srm_cell.specs.Cells.{PlainCell}
-use Rattle.srm_cell.specs.Views.{IsCell}
+use Rattle.std.proofs.Common.{◌-◌, ◌^◌, vec_len}
+use Rattle.srm_cell.specs.Views.{IsSoundCell, GoesOn, plain_cell}
 use Rattle.srm_cell.proofs.Leading.{Leads}
 use Rattle.srm_cell.proofs.cell.Cell.run.Given as goal
 
 abbrev pub invariant-loop-rows : goal.invariant-loop-rows
 invariant-loop-rows g l =
-    (m : ℕ) (p : PlainCell) → IsCell g.M.Participant.plain m l.fn.self p
-    → (q : PlainCell) × Leads l.till m p l.rows.items q × IsCell g.M.Participant.plain m l.self q
+    IsSoundCell g.M.Participant.plain l.fn.self
+    → Leads l.till l.fn.self.number (plain_cell g.M.Participant.plain l.fn.self) l.rows.items (plain_cell g.M.Participant.plain l.self)
+    × GoesOn g.M.Participant.plain l.fn.self l.self
 
 abbrev pub decreases-loop-rows : goal.decreases-loop-rows
 decreases-loop-rows g l = 2 ^ 63 - vec_len l.rows

@@ -1,5 +1,7 @@
+use Rattle.srm_cell.specs.Views.{plain_cell}
 use Rattle.srm_cell.proofs.Nexts.{timer_known}
 use Rattle.srm_cell.proofs.cell.Cell.timer.Goals as goal
 
 pub returns : goal.returns
-returns g c = λ m p h. rw c.from.ensures (timer_known m c.args.self.now.number p _ c.in_ok-due.due h.number h.holds c.in_ok-due.ensures)
+returns g c = rw c.from.ensures (timer_known c.args.self.now.number (plain_cell g.M.Participant.plain c.args.self.now) _
+    c.in_ok-due.due c.in_ok-due.ensures)

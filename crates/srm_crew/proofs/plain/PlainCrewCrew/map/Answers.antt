@@ -1,15 +1,10 @@
-use Rattle.std.proofs.Common.{length, sym}
-use Rattle.srm_cell.specs.Setting.{traffic_of}
-use Rattle.srm_crew.proofs.JobsSeen.{some_told}
+use Rattle.std.proofs.Common.{sym}
+use Rattle.srm_crew.proofs.JobsShared.{each_long}
 use Rattle.srm_crew.proofs.plain.PlainCrewCrew.map.Goals as goal
 
-pub settle-requires-clause-known : goal.settle-requires-clause-known
-settle-requires-clause-known g c = some_told g.M.Participant.plain c.args.scenario.now c.args.net.now
-    (length c.args.net.now.hosts) c.args.ledger.now.links c.args.jobs.items c.advance_each-advanced.result c.requires.jobs
-    c.advance_each-advanced.ensures (sym c.requires.links)
+pub settle-requires-clause-long : goal.settle-requires-clause-long
+settle-requires-clause-long g c = each_long g.M.Participant.plain c.args.scenario.now c.args.net.now
+    c.args.ledger.now.links c.args.jobs.items c.advance_each-advanced.result (sym c.requires.links) c.advance_each-advanced.ensures
 
 pub returns-clause-done : goal.returns-clause-done
-returns-clause-done g c = record {
-  tells = λ ps h. c.settle.ensures.told (traffic_of c.args.scenario.now c.args.net.now) ps
-      (sym c.requires.links) (c.advance_each-advanced.ensures.tells ps h);
-}
+returns-clause-done g c = c.settle.ensures.told c.args.scenario.now c.args.net.now c.args.jobs.items c.advance_each-advanced.ensures

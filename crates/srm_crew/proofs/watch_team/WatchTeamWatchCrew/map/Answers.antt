@@ -17,7 +17,7 @@ settle_watched-requires-clause-long g c =
       | else-due-self w ↦ rw w.advanced-is w.advance_in_team-advanced.ensures.advanced
     ]) in
     settled_long g.M.Participant.plain c.args.session.scenario.now c.args.session.net.now keeps c.args.jobs.items
-    c.args.ledger.now.links c.if-due-self.advanced c.requires.may.jobs (sym c.requires.may.links) told
+    c.args.ledger.now.links c.if-due-self.advanced (sym c.requires.may.links) told
 
 pub returns-clause-done : goal.returns-clause-done
 returns-clause-done g c =
@@ -32,4 +32,4 @@ returns-clause-done g c =
       | else-due-self w ↦ rw w.advanced-is w.advance_in_team-advanced.ensures.advanced
     ]) in
     maps_settled g.M.Participant.plain c.args.session.scenario.now c.args.session.net.now keeps c.args.seat c.args.jobs.items
-    c.if-due-self.advanced c.settle_watched.result c.requires.may.jobs told c.settle_watched.ensures
+    c.if-due-self.advanced c.settle_watched.result told c.settle_watched.ensures

@@ -2,17 +2,13 @@ use Rattle.std.proofs.Common.{◌≡◌, ◌∙◌, List, length, map, All, ap, 
 use Rattle.std.specs.List.{range_with_len}
 use Rattle.std.proofs.lemmas.List.{length-map}
 use Rattle.srm_cell.specs.declared.job.Job.{Job}
-use Rattle.srm_cell.specs.Jobs.{MayAdvance, PlainJob}
-use Rattle.srm_cell.specs.Setting.{traffic_of}
-use Rattle.srm_interfaces.specs.Crews.{AreJobs}
+use Rattle.srm_cell.specs.Jobs.{MayAdvance}
+use Rattle.srm_interfaces.specs.Crews.{AreDone}
 use Rattle.srm_interfaces.specs.Watches.{jobs_in, job_in}
 use Rattle.srm_engine.specs.ByRows.{LeftEach}
-use Rattle.srm_engine.proofs.Leaving.{left_of_jobs, may_leave, some_jobs}
+use Rattle.srm_engine.proofs.Leaving.{left_of_jobs, may_leave}
 use Rattle.srm_engine.proofs.WatchedLemmas.{places_in}
 use Rattle.srm_engine.proofs.by_rows.ByRowsWatchCrew.map.Goals as goal
-
-pub returns-in_default-clause-done : goal.returns-in_default-clause-done
-returns-in_default-clause-done g c = record { tells = λ ps h. tt }
 
 pub map-requires-clause-jobs : goal.map-requires-clause-jobs
 map-requires-clause-jobs g c =
@@ -40,13 +36,10 @@ leave-requires g c =
     ap (λ n. length n.hosts) c.args.session.network ∙ length-map k.members (λ m. m.node) in
     record {
       may = rw c.in-Ok.ensures.kept
-          (may_leave f k (traffic_of k c.args.session.net.now) js c.in-Ok-map.done.0.items
+          (may_leave f k c.args.session.net.now js c.in-Ok-map.done.0.items
           (subst (λ n. All (λ j. MayAdvance f n j) (jobs_in js)) hosts c.requires.may.jobs) c.requires.may.kept
-          (λ ps h. (c.in-Ok-map.ensures.done.tells ps (subst (λ l. AreJobs f l ps) (sym c.in-Ok.ensures.jobs) h)).0));
+          (subst (λ l. AreDone f k c.args.session.net.now l c.in-Ok-map.done.0.items) c.in-Ok.ensures.jobs c.in-Ok-map.ensures.done.0));
     }
-
-pub returns-clause-done : goal.returns-clause-done
-returns-clause-done g c = record { tells = λ ps h. tt }
 
 pub returns-in-Ok-leave-clause-done : goal.returns-in-Ok-leave-clause-done
 returns-in-Ok-leave-clause-done g c =
@@ -54,18 +47,14 @@ returns-in-Ok-leave-clause-done g c =
     let f = g.M.Participant.plain in
     let k = c.args.session.scenario.now in
     let net = c.args.session.net.now in
-    let keeps = g.W.Watch.keeps c.args.watch in
     let ds = c.in-Ok-map.done.0.items in
-    let hosts : length net.hosts ≡ length k.members = ap (λ n. length n.hosts) c.args.session.network ∙ length-map k.members (λ m.
-    m.node) in
-    let some = some_jobs f k (traffic_of k net) js (subst (λ n. All (λ j. MayAdvance f n j) (jobs_in js)) hosts c.requires.may.jobs) in
-    let as_crew : (ps : List PlainJob) → AreJobs f (jobs_in js) ps → AreJobs f c.in-Ok.jobs.items ps =
-    λ ps h. subst (λ l. AreJobs f l ps) (sym c.in-Ok.ensures.jobs) h in (
+    let told = c.in-Ok-map.ensures.done in (
       ds,
-      record { are = λ ps h. (c.in-Ok-map.ensures.done.tells ps (as_crew ps h)).0 },
-      (c.in-Ok-map.ensures.done.tells some.0 (as_crew some.0 some.1)).1,
-      left_of_jobs keeps k net js ds c.in-Ok-leave.left.items
-          (subst (λ l. LeftEach keeps k net l ds c.in-Ok-leave.left.items) c.in-Ok.ensures.kept c.in-Ok-leave.ensures),
+      subst (λ l. AreDone f k net l ds) c.in-Ok.ensures.jobs told.0,
+      told.1,
+      left_of_jobs (g.W.Watch.keeps c.args.watch) k net js ds c.in-Ok-leave.left.items
+          (subst (λ l. LeftEach (g.W.Watch.keeps c.args.watch) k net l ds c.in-Ok-leave.left.items) c.in-Ok.ensures.kept
+          c.in-Ok-leave.ensures),
     )
 
 pub map-requires-clause-links : goal.map-requires-clause-links

@@ -1,30 +1,42 @@
-use Rattle.std.proofs.Common.{◌≡◌, sym, ◌∙◌, ap, Some, slice_get, slice_set}
-use Rattle.std.proofs.lemmas.Option.{slice_get-get_or}
+use Rattle.std.proofs.Common.{◌≡◌, sym, ◌∙◌, ap, subst, Ok, Some, slice_get, slice_set}
+use Rattle.std.proofs.lemmas.Option.{slice_get-get_or, same_Some}
+use Rattle.srm_cell.specs.declared.cell.Cell.{Cell}
+use Rattle.srm_cell.specs.Cells.{own_step}
+use Rattle.srm_cell.specs.Views.{Refuses, plain_cell}
+use Rattle.srm_engine.specs.Seen.{TellsOwnStep, plain_cells}
 use Rattle.srm_engine.proofs.PutLemmas.{put_taken}
-use Rattle.srm_engine.proofs.SeenLemmas.{taken, not_taken}
+use Rattle.srm_engine.proofs.SeenLemmas.{number_is, sound_at, taken}
 use Rattle.srm_engine.proofs.cells.Cells.step.Goals as goal
 
 pub returns : goal.returns
 returns g c =
-    let within = c.requires.cell in
-    let at : slice_get c.args.self.now.cells.items c.args.member ≡ Some c.index_mut-cell.result.now =
-    slice_get-get_or c.args.self.now.cells.items c.args.member c.index_mut-cell.result.now within
-    ∙ ap Some (sym (rw c.from.ensures at c.index_mut-cell.ensures.value)) in
-    put_taken g.M.Participant.plain c.args.member c.args.till c.args.self.now
-    c.index_mut-cell.result.now c.step_onto.new.self (slice_set c.args.self.now.cells.items c.from.result c.step_onto.new.self)
+    let f = g.M.Participant.plain in
+    let cs = c.args.self.now.cells.items in
+    let old = c.index_mut-cell.result.now in
+    let m = c.args.member in
+    let at : slice_get cs m ≡ Some old =
+    slice_get-get_or cs m old c.requires.cell ∙ ap Some (sym (rw c.from.ensures at c.index_mut-cell.ensures.value)) in
+    put_taken f m c.args.till c.args.self.now old c.step_onto.new.self (slice_set cs c.from.result c.step_onto.new.self)
     c.set.new.self c.in-Ok.is_event _ _
-    (λ ps p row h k told.
-    let is = h.cells.each c.args.member c.index_mut-cell.result.now p at k in
-    rw c.from.ensures (taken g.M.Participant.plain c.args.self.now.cells.items c.args.self.now.times
-    c.set.new.self ps c.args.member p _ row c.step_onto.new.self c.next_time-next.result
-    h k within c.requires.time (told c.args.member p is) (λ q i. c.next_time-next.ensures c.args.member q i) c.set.ensures))
+    (λ row told x h k.
+    let same : old ≡ x = same_Some old x (sym at ∙ k) in
+    rw c.from.ensures (subst (λ (y : Cell _). TellsOwnStep f m (plain_cells f cs) (own_step c.args.till m (plain_cell f y)) (Ok row)
+    (slice_set cs m c.step_onto.new.self) c.set.new.self) same
+    (subst (λ n. TellsOwnStep f m (plain_cells f cs) (own_step c.args.till n (plain_cell f old)) (Ok row)
+    (slice_set cs m c.step_onto.new.self) c.set.new.self) (number_is f cs m old h.order at)
+    (taken f cs c.args.self.now.times c.set.new.self m old c.step_onto.new.self _ row c.next_time-next.result h at
+    (told (sound_at f 0 cs m old h.order at)) c.next_time-next.ensures c.set.ensures))))
     c.in-Ok.ensures
 
 pub returns-in-Err : goal.returns-in-Err
-returns-in-Err g c = λ ps p h k.
-    let at : slice_get c.args.self.now.cells.items c.args.member ≡ Some c.index_mut-cell.result.now =
-    slice_get-get_or c.args.self.now.cells.items c.args.member c.index_mut-cell.result.now c.requires.cell
-    ∙ ap Some (sym (rw c.from.ensures at c.index_mut-cell.ensures.value)) in
-    let is = h.cells.each c.args.member c.index_mut-cell.result.now p at k in
-    not_taken g.M.Participant.plain c.args.member p ps _ c.in-Err.fault c.step_onto.new.self _
-    c.args.self.now.times (c.in-Err.ensures c.args.member p is)
+returns-in-Err g c = λ h x k.
+    let f = g.M.Participant.plain in
+    let cs = c.args.self.now.cells.items in
+    let old = c.index_mut-cell.result.now in
+    let m = c.args.member in
+    let at : slice_get cs m ≡ Some old =
+    slice_get-get_or cs m old c.requires.cell ∙ ap Some (sym (rw c.from.ensures at c.index_mut-cell.ensures.value)) in
+    let same : old ≡ x = same_Some old x (sym at ∙ k) in
+    subst (λ (y : Cell _). Refuses (own_step c.args.till m (plain_cell f y)) c.in-Err.fault) same
+    (subst (λ n. Refuses (own_step c.args.till n (plain_cell f old)) c.in-Err.fault) (number_is f cs m old h.order at)
+    (c.in-Err.ensures (sound_at f 0 cs m old h.order at)))

@@ -6,7 +6,7 @@ use Rattle.srm_cell.specs.Tallies.{Tallies}
 use Rattle.srm_engine.proofs.engine.Engine.send.Goals as goal
 
 pub returns-clause-sent : goal.returns-clause-sent
-returns-clause-sent g c = λ ps qs seen counted.
+returns-clause-sent g c = λ qs whole counted.
     let old = c.args.self.now in
     let new = c.deliver.new.self in
     let packets = qs ++ c.in-Some.packet ∷ [] in
@@ -15,7 +15,7 @@ returns-clause-sent g c = λ ps qs seen counted.
     (subst (λ ds. IsSpread old.session.net.now ds c.in-Some.packet.id c.in-Some.packet.sent c.in_ok-spread.spread) c.drops.ensures
     c.in_ok-spread.ensures.spread) counted in
     rw c.in-Some.is (
-      c.in_ok-deliver.ensures.heard ps seen,
+      c.in_ok-deliver.ensures.heard whole,
       subst (λ (at : Session). Tallies at.scenario.now at.net.now packets new.tally) (sym same)
           (subst (λ (t : Tally). Tallies old.session.scenario.now old.session.net.now packets t) (sym c.deliver.ensures.tally) is),
     )

@@ -7,10 +7,11 @@ use Rattle.srm_cell.specs.Setting.{traffic_of}
 use Rattle.srm_cell.specs.Crossings.{packets_of}
 use Rattle.srm_cell.specs.Hearing.{IsSent, packets_in}
 use Rattle.srm_interfaces.specs.Hearers.{GroupsMayHear, GroupsHear}
-use Rattle.srm_model.specs.WindowRuns.{each_hears}
-use Rattle.srm_model.proofs.WindowRows.{length-each_hears, packets_are_heard_in_turn}
+use Rattle.srm_model.proofs.WindowRows.{packets_are_heard_in_turn}
 use Rattle.srm_engine.specs.Starts.{setting_on}
-use Rattle.srm_engine.specs.Groups.{AreCuts, AreGrouped, AreKept, sizes, all_in}
+use Rattle.srm_engine.specs.Groups.{AreCuts, AreGrouped, cells_of, sizes, all_in}
+use Rattle.srm_engine.specs.Soonest.{soon_in}
+use Rattle.srm_engine.proofs.CellLists.{all_long}
 use Rattle.srm_engine.proofs.HeardRows.{rows_that_send, groups_may, groups_long, groups_heard}
 use Rattle.srm_engine.proofs.groups.Groups.heard_from.Goals as goal
 
@@ -36,7 +37,7 @@ returns-then-is_empty-clause-heard g c = λ seed rows is.
     (sym c.is_empty.ensures ∙ c.if-is_empty.true) in (
       [],
       subst (λ ps. IsPermutation ps []) (sym (is ∙ ap packets_in none)) (IsPermutation-refl []),
-      λ ps h. subst (AreKept g.M.Participant.plain s c.args.self) (sym (packets_are_heard_in_turn s ps).0) h,
+      λ h. (h, sym (packets_are_heard_in_turn s (cells_of g.M.Participant.plain c.args.self)).0),
     )
 
 pub hear-requires-clause-sent : goal.hear-requires-clause-sent
@@ -46,38 +47,32 @@ hear-requires-clause-sent g c =
 
 pub hear-requires-clause-groups : goal.hear-requires-clause-groups
 hear-requires-clause-groups g c =
-    let n = c.requires.may.3 in
+    let may = c.requires.may.3 in
     let s = setting_on c.args.session c.requires.may.0 in
     let others = in_order c.requires.may.1 c.args.sent.items c.in_ok-sent.sent.items c.requires.may.2 c.in_ok-sent.ensures in
     subst (λ ps. GroupsMayHear g.M.Participant.plain s.traffic ps c.args.self.groups.items) others.2
-    (groups_may g.M.Participant.plain s others.0 c.args.self.groups.items n.0 n.1.grouped.cells n.2 (n.3 others.0 others.1))
+    (groups_may g.M.Participant.plain s others.0 c.args.self.groups.items may.kept.grouped.order may.members (may.new others.0 others.1))
 
 pub soonest_of_each-requires-clause-cut : goal.soonest_of_each-requires-clause-cut
-soonest_of_each-requires-clause-cut g c = c.requires.may.3.1.cut.0
+soonest_of_each-requires-clause-cut g c = c.requires.may.3.kept.cut.0
 
 pub soonest_of_each-requires-clause-cuts : goal.soonest_of_each-requires-clause-cuts
 soonest_of_each-requires-clause-cuts g c =
-    let n = c.requires.may.3 in
     let t = traffic_of c.args.session.scenario.now c.args.session.net.now in
     subst (λ l. AreCuts c.args.self.cut (sizes l)) (sym c.as_slice.ensures.value)
     (subst (AreCuts c.args.self.cut)
     (groups_long g.M.Participant.plain t (packets_in c.in_ok-sent.sent.items) c.args.self.groups.items c.in_ok-groups.groups.items
-    c.in_ok-groups.ensures.heard) n.1.grouped.cuts)
+    c.in_ok-groups.ensures.heard) c.requires.may.3.kept.grouped.cuts)
 
 pub soonest_of_each-requires-clause-members : goal.soonest_of_each-requires-clause-members
 soonest_of_each-requires-clause-members g c =
-    let n = c.requires.may.3 in
-    let s = setting_on c.args.session c.requires.may.0 in
-    let others = in_order c.requires.may.1 c.args.sent.items c.in_ok-sent.sent.items c.requires.may.2 c.in_ok-sent.ensures in
-    let heard = subst (λ (ps : List Packet). GroupsHear g.M.Participant.plain s.traffic ps c.args.self.groups.items
-    c.in_ok-groups.groups.items) (sym others.2) c.in_ok-groups.ensures.heard in
-    let cells = groups_heard g.M.Participant.plain s others.0 c.args.self.groups.items c.in_ok-groups.groups.items n.0 heard
-    n.1.grouped.cells in
-    let as_many = cells.as_many in
-    let long = length-each_hears s 0 others.0 n.0 in
-    let many = n.2 in
+    let t = traffic_of c.args.session.scenario.now c.args.session.net.now in
+    let same = groups_long g.M.Participant.plain t (packets_in c.in_ok-sent.sent.items) c.args.self.groups.items
+    c.in_ok-groups.groups.items c.in_ok-groups.ensures.heard in
+    let long = all_long c.args.self.groups.items c.in_ok-groups.groups.items same in
+    let many = c.requires.may.3.members in
     let all = ap (λ l. length (all_in l)) c.as_slice.ensures.value in
-    omega (arith, all, as_many, long, many)
+    omega (arith, all, long, many)
 
 pub returns-clause-sizes : goal.returns-clause-sizes
 returns-clause-sizes g c =
@@ -87,26 +82,28 @@ returns-clause-sizes g c =
 
 pub returns-clause-heard : goal.returns-clause-heard
 returns-clause-heard g c = λ seed from is.
+    let f = g.M.Participant.plain in
     let s = setting_on c.args.session seed in
     let gs = c.args.self.groups.items in
     let hs = c.in_ok-groups.groups.items in
+    let cut = c.args.self.cut in
     let others = in_order from c.args.sent.items c.in_ok-sent.sent.items is c.in_ok-sent.ensures in
     let rows = others.0 in
-    let heard = subst (λ (ps : List Packet). GroupsHear g.M.Participant.plain s.traffic ps gs hs) (sym others.2)
-    c.in_ok-groups.ensures.heard in (
+    let heard = subst (λ (ps : List Packet). GroupsHear f s.traffic ps gs hs) (sym others.2) c.in_ok-groups.ensures.heard in (
       rows,
       others.1,
-      λ ps h.
-          let grouped : AreGrouped g.M.Participant.plain c.args.self.cut hs (each_hears s.traffic 0 rows ps) = record {
-            cells = groups_heard g.M.Participant.plain s rows gs hs ps heard h.grouped.cells;
-            cuts = subst (AreCuts c.args.self.cut) (groups_long g.M.Participant.plain s.traffic (packets_of rows) gs hs heard)
-                h.grouped.cuts;
-          } in
-          record {
-            cut = h.cut;
-            grouped = grouped;
-            soon = c.in_ok-soon.ensures seed (each_hears s.traffic 0 rows ps)
-                (subst (λ l. AreGrouped g.M.Participant.plain c.args.self.cut l (each_hears s.traffic 0 rows ps))
-                (sym c.as_slice.ensures.value) grouped);
-          },
+      λ h.
+          let told = groups_heard f s.traffic rows gs hs heard h.grouped.order in
+          let grouped : AreGrouped f cut hs = record {
+            order = told.0;
+            cuts = subst (AreCuts cut) (groups_long f s.traffic (packets_of rows) gs hs heard) h.grouped.cuts;
+          } in (
+            record {
+              cut = h.cut;
+              grouped = grouped;
+              soon = c.in_ok-soon.ensures seed (subst (AreGrouped f cut) (sym c.as_slice.ensures.value) grouped)
+                  ∙ ap (soon_in f s) c.as_slice.ensures.value;
+            },
+            told.1,
+          ),
     )

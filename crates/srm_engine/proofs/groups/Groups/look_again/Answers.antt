@@ -1,14 +1,10 @@
-use Rattle.std.proofs.Common.{◌≡◌, ◌∙◌, ◌++◌, ◌∷◌, [], List, ℕ, ◌<◌, ◌≤◌, ◌/◌, Some, refl, sym, ap, subst, arith, length, get_or, slice_get}
-use Rattle.std.proofs.Common.{take, drop, append-nil}
-use Rattle.std.proofs.lemmas.List.{take_all}
-use Rattle.std.proofs.lemmas.Option.{slice_get-get_or, same_Some}
+use Rattle.std.proofs.Common.{◌≡◌, ◌∙◌, ◌++◌, [], List, ℕ, refl, sym, ap, subst, arith, length, get_or}
+use Rattle.std.proofs.Common.{take, drop, append-nil, take_all, ◌∷◌}
 use Rattle.srm_scenario.proofs.Members.{few_members}
 use Rattle.srm_engine.specs.Starts.{setting_on}
-use Rattle.srm_engine.specs.declared.soonest.Soonest.{Soonest}
-use Rattle.srm_model.specs.WindowRuns.{cells_in}
-use Rattle.srm_engine.specs.Groups.{AreCuts, AreGrouped, all_in, sizes}
-use Rattle.srm_engine.specs.Soonest.{IsSoonest, AreSoonest}
-use Rattle.srm_engine.proofs.SoonGroups.{looked_at, group_within, soonest_idle, one_set, one_kept, all_looked}
+use Rattle.srm_engine.specs.Groups.{AreCuts, AreGrouped, RanGroups, all_in, sizes}
+use Rattle.srm_engine.specs.Soonest.{soon_in}
+use Rattle.srm_engine.proofs.SoonGroups.{group_within, look_next, look_past, looked_through}
 use Rattle.srm_engine.proofs.groups.Groups.look_again.Goals.{then-kept-index, else-kept-index}
 use Rattle.srm_engine.proofs.groups.Groups.look_again.Goals as goal
 
@@ -64,64 +60,38 @@ soonest_in-requires-clause-few g c = let few = few_members c.args.session.scenar
 
 pub loop-index-preserved : goal.loop-index-preserved
 loop-index-preserved g c =
-    let old = c.loop-index.kept in
+    let f = g.M.Participant.plain in
     let k = c.loop-index.index in
     let gs = c.as_slice-all.result.now in
     let group = c.index-all-index.result in
-    let may = c.requires.may in
-    let many = may.many in
-    let all = ap length c.as_slice-all.ensures.value in
-    let kept = ap length c.as_mut_slice-kept.ensures.value in
-    let same = c.loop-index.auto.kept in
-    let here = c.loop-index-test.true in
-    let within : k < length old = omega arith in
+    let initial = c.as_mut_slice-kept.result.now in
+    let cut = c.args.self.cut in
+    let lt = c.loop-index-test.true in
     elim c.if-kept-index.branch [
       | then-kept-index w ↦ rw w.kept-is (
-          λ seed ps results alone h soon.
-          let s = setting_on c.args.session seed in
-          let qs = cells_in results in
-          let y = w.soonest_in.result in
-          let new = looked_at g.M.Participant.plain c.args.self.cut gs qs may.cut.0 h s k group
-          w.as_slice.result.now y c.loop-index-test.true c.index-all-index.is w.as_slice.ensures.value
-          (w.soonest_in.ensures seed qs) in
-          one_set (λ n (z : Soonest). IsSoonest s (λ m. m / c.args.self.cut ≡ n) qs z)
-          (λ n (z : Soonest). IsSoonest s (λ m. m / c.args.self.cut ≡ n) ps z) old k
-          (c.loop-index.invariant seed ps results alone h soon) y within new
+          λ seed. look_next f (setting_on c.args.session seed) c.args.till cut gs initial k c.loop-index.kept group w.as_slice.result.now
+          w.soonest_in.result c.requires.may.cut.0 lt c.index-all-index.is w.as_slice.ensures.value (w.soonest_in.ensures seed)
+          (c.loop-index.invariant seed)
           )
       | else-kept-index w ↦ rw w.kept-is (
-          λ seed ps results alone h soon.
-          let s = setting_on c.args.session seed in
-          let qs = cells_in results in
-          let none : Soonest = record { time = 0; promise = 0 } in
-          let at : slice_get old k ≡ Some (get_or old k none) = slice_get-get_or old k none within in
-          let late : c.args.till ≤ (get_or old k none).time = w.if-kept-index.false in
-          one_kept (λ n (z : Soonest). IsSoonest s (λ m. m / c.args.self.cut ≡ n) qs z)
-          (λ n (z : Soonest). IsSoonest s (λ m. m / c.args.self.cut ≡ n) ps z) old k
-          (c.loop-index.invariant seed ps results alone h soon)
-          (λ x get was.
-          let is : get_or old k none ≡ x = same_Some (get_or old k none) x (sym at ∙ get) in
-          soonest_idle s c.args.self.cut k c.args.till ps results x alone (subst (λ (z : Soonest). c.args.till ≤ z.time) is late) was)
+          λ seed. look_past f (setting_on c.args.session seed) c.args.till cut gs initial k c.loop-index.kept group
+          (record { time = 0; promise = 0 }) lt w.if-kept-index.false (c.loop-index.invariant seed)
           )
     ]
 
 pub returns-clause-soon : goal.returns-clause-soon
-returns-clause-soon g c = λ seed ps results alone h soon.
+returns-clause-soon g c = λ seed before ran was h.
+    let f = g.M.Participant.plain in
     let s = setting_on c.args.session seed in
-    let may = c.requires.may in
-    let same = c.as_slice-all.ensures.value in
-    let grouped = subst (λ l. AreGrouped g.M.Participant.plain c.args.self.cut l (cells_in results))
-    (sym same) h in
-    let began = subst (λ l. AreSoonest s c.args.self.cut l ps) (sym c.as_mut_slice-kept.ensures.value) soon in
-    let many = may.many in
-    let all = ap length same in
-    let kept = ap length c.as_mut_slice-kept.ensures.value in
+    let cut = c.args.self.cut in
+    let same = sym c.as_slice-all.ensures.value in
+    let kept = c.as_mut_slice-kept.ensures.value in
+    let told = looked_through f s c.args.till cut c.as_slice-all.result.now c.as_mut_slice-kept.result.now c.loop-index.index
+    c.loop-index.kept c.loop-index-test.false (c.loop-index.invariant seed) before (subst (RanGroups f c.args.till before) same ran)
+    (kept ∙ was) (subst (AreGrouped f cut) same h) in
     record {
-      cut = may.cut;
+      cut = c.requires.may.cut;
       grouped = h;
-      soon = subst (λ l. AreSoonest s c.args.self.cut l (cells_in results))
-          (sym (written c.args.self.soon.len c.args.self.soon.items c.loop-index.kept c.args.self.soon.ok.0
-          (c.loop-index.auto.kept ∙ kept)))
-          (all_looked g.M.Participant.plain c.args.self.cut c.as_slice-all.result.now ps results
-          may.cut.0 c.args.till alone grouped s c.as_mut_slice-kept.result.now c.loop-index.kept c.loop-index.index c.loop-index-test.false
-          c.loop-index.auto.kept (omega arith) began (c.loop-index.invariant seed ps results alone grouped began));
+      soon = written c.args.self.soon.len c.args.self.soon.items c.loop-index.kept c.args.self.soon.ok.0 (told.1 ∙ ap length kept)
+          ∙ told.0 ∙ ap (soon_in f s) c.as_slice-all.ensures.value;
     }

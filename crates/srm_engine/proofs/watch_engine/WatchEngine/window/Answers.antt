@@ -5,14 +5,21 @@ use Rattle.std.specs.Global.{Vec}
 use Rattle.srm_cell.specs.Crossings.{joined}
 use Rattle.srm_cell.specs.Hearing.{packets_in}
 use Rattle.srm_model.specs.World.{row_cmp}
-use Rattle.srm_model.specs.WindowRuns.{cells_in, jobs_of}
+use Rattle.srm_model.specs.WindowRuns.{cells_in, each_hears, jobs_of, AreNewInTurn}
 use Rattle.srm_model.proofs.OneWindow.{some_merge}
 use Rattle.srm_net.specs.Orders.{ordered}
 use Rattle.srm_interfaces.specs.Watches.{job_in, jobs_in, KeepMembers}
-use Rattle.srm_engine.specs.Groups.{all_in, sizes, lists_of, some_of, AreCuts, AreGrouped, AreKept}
+use Rattle.srm_engine.specs.Groups.{all_in, groups_of, sizes, lists_of, some_of, AreCuts, AreGrouped, RanGroups}
+use Rattle.srm_engine.specs.Seen.{plain_cells}
+use Rattle.srm_engine.specs.Soonest.{soonest_of}
 use Rattle.srm_engine.specs.WatchEngines.{kept_by}
 use Rattle.srm_engine.specs.WindowEngines.{setting_by}
-use Rattle.srm_engine.proofs.SoonGroups.{as_many_kept}
+use Rattle.srm_cell.specs.declared.cell.Cell.{Cell}
+use Rattle.srm_cell.specs.Cells.{Spent}
+use Rattle.srm_cell.specs.Jobs.{own_cells}
+use Rattle.srm_interfaces.specs.Crews.{AnyEnds}
+use Rattle.srm_engine.proofs.CellLists.{as_many}
+use Rattle.srm_engine.proofs.SoonGroups.{as_many_ran}
 use Rattle.srm_engine.proofs.WatchedLemmas.{have_kept, places_in}
 use Rattle.srm_engine.proofs.WatchWindows.{watched_tell, watched_tell_now, watch_ran, watch_ran_now}
 use Rattle.srm_engine.proofs.WindowLemmas.{of_a_window, map_refused, end_is}
@@ -37,18 +44,16 @@ map-requires-clause-may g c =
 
 pub unwrap-requires : goal.unwrap-requires
 unwrap-requires g c = rw c.of.ensures (of_a_window c.in-Err.fault (λ spent.
-    let w = c.requires.stands.under_way.world in
     let j = watched_tell_now g.M.Participant.plain (g.W.Watch.keeps c.args.watch) c.args.self c.requires.stands c.end-end.result
     c.end-end.ensures c.in_ok-jobs.jobs.items c.in_ok-jobs.ensures in
-    j.not_spent (rw spent at c.in-Err.ensures.done.tells (jobs_of c.args.self.engine.groups.cut c.end-end.result w) j.seen)))
+    j.not_spent (subst (AnyEnds Spent) j.seen (rw spent at c.in-Err.ensures.done))))
 
 pub returns-in-Err-clause-window : goal.returns-in-Err-clause-window
 returns-in-Err-clause-window g c = λ seed begins w comes.
     let j = watched_tell g.M.Participant.plain (g.W.Watch.keeps c.args.watch) c.args.self c.requires.stands seed begins w comes
     c.end-end.result c.end-end.ensures c.in_ok-jobs.jobs.items c.in_ok-jobs.ensures in
-    let told = c.in-Err.ensures.done.tells (jobs_of c.args.self.engine.groups.cut c.end-end.result w) j.seen in
     map_refused g.M.Participant.plain c.args.self.engine seed c.end-end.result w (jobs_in c.in_ok-jobs.jobs.items) j c.in-Err.fault
-    c.unwrap.result (sym c.of.ensures ∙ c.unwrap.ensures) told
+    c.unwrap.result (sym c.of.ensures ∙ c.unwrap.ensures) c.in-Err.ensures.done
 
 pub look_again-groups-requires : goal.look_again-groups-requires
 look_again-groups-requires g c =
@@ -58,16 +63,23 @@ look_again-groups-requires g c =
     c.end-end.ensures c.in_ok-jobs.jobs.items c.in_ok-jobs.ensures c.in-Ok.done c.in-Ok.ensures.done in
     let ran = left.ran in
     let same = c.in_ok-groups.ensures.groups ∙ left.groups in
-    let all = ap (λ l. length (all_in l)) same in
     let cuts = subst (λ l. AreCuts e.groups.cut (sizes l)) (sym same) ran.grouped.cuts in
+    let f = g.M.Participant.plain in
+    let long = as_many f (all_in (groups_of c.in-Ok.ensures.done.0)) (cells_in ran.results) ran.shown in
     record {
       may = record {
         cut = k.comes.kept.cut;
         cuts = cuts;
-        members = (let cells = ran.grouped.cells.as_many in let members = ran.members in omega (arith, all));
-        many = as_many_kept (setting_by e k.seed) e.groups.cut c.in_ok-groups.groups.items
-            e.groups.soon.items k.world.cells k.comes.kept.cut.0 cuts (all ∙ ran.grouped.cells.as_many ∙ ran.as_many)
-            k.comes.kept.soon;
+        members = (let all = ap (λ l. length (all_in l)) same in let members = ran.members in omega (arith, all, long));
+        many = (
+            let before = as_many_ran f (setting_by e k.seed) c.end-end.result e.groups.groups.items
+            (groups_of c.in-Ok.ensures.done.0) ran.ran in
+            let soon = ap length k.comes.kept.soon in
+            let now = length-map (groups_of c.in-Ok.ensures.done.0) (λ (v : Vec (Cell _)).
+            soonest_of (setting_by e k.seed) (own_cells f v.items)) in
+            let all = ap length same in
+            omega (arith, before, soon, now, all)
+            );
       };
     }
 
@@ -86,19 +98,22 @@ heard_from-requires-clause-may g c =
     let left = watch_ran_now g.M.Participant.plain (g.W.Watch.keeps c.args.watch) c.args.self c.requires.stands c.end-end.result
     c.end-end.ensures c.in_ok-jobs.jobs.items c.in_ok-jobs.ensures c.in-Ok.done c.in-Ok.ensures.done in
     let ran = left.ran in
+    let f = g.M.Participant.plain in
     let s = setting_by e k.seed in
-    let grouped = subst (λ l. AreGrouped g.M.Participant.plain e.groups.cut l (cells_in ran.results))
-    (sym (c.in_ok-groups.ensures.groups ∙ left.groups)) ran.grouped in (
+    let same = sym (c.in_ok-groups.ensures.groups ∙ left.groups) in
+    let now = c.look_again-groups.ensures.same.1 in
+    let shown = ap (λ (v : Vec (Vec (Cell _))). plain_cells f (all_in v.items)) now
+    ∙ ap (λ l. plain_cells f (all_in l)) (sym same) ∙ ran.shown in (
       k.seed,
       joined (some_of (lists_of ds)),
       left.packets ∙ ap packets_in (sym c.in_ok-groups.ensures.sent),
-      (
-        cells_in ran.results,
-        c.look_again-groups.ensures.soon k.seed w.cells ran.results ran.alone grouped k.comes.kept.soon,
-        ran.members,
-        λ others h. (heard_in_order g.M.Participant.plain e k k.seed k.begins w k.comes c.end-end.result c.end-end.ensures
-            ds ran others h).0,
-      ),
+      record {
+        kept = c.look_again-groups.ensures.soon k.seed e.groups.groups.items (subst (RanGroups f c.end-end.result e.groups.groups.items)
+            same ran.ran) k.comes.kept.soon (subst (AreGrouped f e.groups.cut) same ran.grouped);
+        members = as_many f _ (cells_in ran.results) shown ∙ ran.members;
+        new = λ others h. subst (AreNewInTurn s.traffic others) (sym shown)
+            (heard_in_order f e k k.seed k.begins w k.comes c.end-end.result c.end-end.ensures ds ran others h).0;
+      },
     )
 
 pub returns-clause-window : goal.returns-clause-window
@@ -117,20 +132,23 @@ returns-clause-window g c = λ seed begins w comes.
     let ran = left.ran in
     let s = setting_by e seed in
     let cut = e.groups.cut in
-    let cells = cells_in ran.results in
-    let grouped = subst (λ l. AreGrouped f cut l cells) (sym (c.in_ok-groups.ensures.groups ∙ left.groups)) ran.grouped in
+    let same = sym (c.in_ok-groups.ensures.groups ∙ left.groups) in
+    let shown = ap (λ (v : Vec (Vec (Cell _))). plain_cells f (all_in v.items)) c.look_again-groups.ensures.same.1
+    ∙ ap (λ l. plain_cells f (all_in l)) (sym same) ∙ ran.shown in
     let lists = some_of (lists_of ds) in
     let rows = ordered row_cmp (joined lists) in
     let merge = some_merge lists in
     let others = c.in_ok-groups-2.ensures.heard seed (joined lists) (left.packets ∙ ap packets_in (sym c.in_ok-groups.ensures.sent)) in
-    let heard = others.2 cells (c.look_again-groups.ensures.soon seed w.cells ran.results ran.alone grouped comes.kept.soon) in
+    let heard = others.2 (c.look_again-groups.ensures.soon seed e.groups.groups.items
+    (subst (RanGroups f till e.groups.groups.items) same ran.ran) comes.kept.soon (subst (AreGrouped f cut) same ran.grouped)) in
     let in_order = (heard_in_order f e k seed begins w comes till at ds ran others.0 others.1).1 in (
       (
         after f e k seed begins w comes till at ds ran rows (merge.all, merge.in_order),
         record {
           windows = (one_more f e k seed begins w comes till at ds ran rows (merge.all, merge.in_order)).0;
-          kept = subst (λ qs. AreKept f s c.in_ok-groups-2.groups qs)
-              (in_order ∙ heard_as f e k seed begins w comes till at ds ran rows merge.all) heard;
+          kept = heard.0;
+          shown = heard.1 ∙ ap (each_hears s.traffic 0 others.0) shown ∙ in_order
+              ∙ heard_as f e k seed begins w comes till at ds ran rows merge.all;
           counted = counted_after f e k seed begins w comes till at ds ran rows (merge.all, merge.in_order) c.in-Ok.done.1 done.2;
         },
         (
@@ -146,7 +164,8 @@ returns-clause-window g c = λ seed begins w comes.
       subst (λ n. g.C.WatchCrew.handed c.args.crew.now (jobs_of cut n w ∷ []) c.heard_from.new.crew)
           (end_is f e k seed begins w comes till at)
           (g.met.C.WatchCrew.handed_more c.args.crew.now c.map.new.self c.heard_from.new.crew
-          (jobs_of cut till w ∷ []) [] (c.in-Ok.ensures.handed (jobs_of cut till w) j.seen)
+          (jobs_of cut till w ∷ []) []
+          (subst (λ ps. g.C.WatchCrew.handed c.args.crew.now (ps ∷ []) c.map.new.self) j.seen c.in-Ok.ensures.handed)
           c.heard_from.ensures.handed),
     )
 

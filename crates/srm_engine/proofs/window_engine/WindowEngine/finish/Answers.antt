@@ -8,11 +8,11 @@ use Rattle.srm_engine.proofs.window_engine.WindowEngine.finish.Goals as goal
 
 pub finish_cells-requires : goal.finish_cells-requires
 finish_cells-requires g c =
+    let f = g.M.Participant.plain in
     let k = c.requires.stands in
-    all_end _ (setting_by c.args.self k.seed) _ k.world (reached g.M.Participant.plain c.args.self
-    k k.seed k.begins k.world k.comes)
-    (subst (λ l. AreCellsInOrder g.M.Participant.plain l k.world.cells) (sym c.in_ok-into_cells.ensures)
-    k.comes.kept.grouped.cells)
+    all_end f (setting_by c.args.self k.seed) _ k.world
+    (reached f c.args.self k k.seed k.begins k.world k.comes)
+    (subst (λ l. AreCellsInOrder f l k.world.cells) (sym c.in_ok-into_cells.ensures) (k.comes.kept.grouped.order, k.comes.shown))
 
 pub counted-requires-clause-ledger : goal.counted-requires-clause-ledger
 counted-requires-clause-ledger g c = c.requires.stands.comes.counted.ledger
@@ -21,10 +21,10 @@ pub counted-requires-clause-whole : goal.counted-requires-clause-whole
 counted-requires-clause-whole g c = c.requires.stands.comes.counted.weight
 
 pub returns : goal.returns
-returns g c = λ seed begins w comes. (
-  exits_are _ _ w c.in_ok-exits.exits.items
-      (subst (λ l. AreCellsInOrder g.M.Participant.plain l w.cells) (sym c.in_ok-into_cells.ensures)
-      comes.kept.grouped.cells) c.in_ok-exits.ensures,
-  counted_words g.M.Participant.plain c.args.self c.requires.stands seed begins w comes c.counted.result c.counted.ensures.long
-      c.counted.ensures.totals,
-)
+returns g c = λ seed begins w comes.
+    let f = g.M.Participant.plain in (
+      exits_are f _ w c.in_ok-exits.exits.items
+          (subst (λ l. AreCellsInOrder f l w.cells) (sym c.in_ok-into_cells.ensures) (comes.kept.grouped.order, comes.shown))
+          c.in_ok-exits.ensures,
+      counted_words f c.args.self c.requires.stands seed begins w comes c.counted.result c.counted.ensures.long c.counted.ensures.totals,
+    )
