@@ -1,18 +1,18 @@
 -- The first link of the way between two nodes, told by their positions.
 use Rattle.std.proofs.Common.{◌≡◌, ◌≢◌, ◌⊎◌, ℕ, zero, suc, ◌+◌, ◌<◌, ◌≤◌, Bool, true, false, not, cond, List, [], ◌∷◌, refl, sym, ap, ◌∙◌}
-use Rattle.std.proofs.Common.{subst, inl, inr, arith, unwrap_or}
+use Rattle.std.proofs.Common.{subst, inl, inr, arith, unwrap_or, length}
 use Rattle.std.proofs.lemmas.Bool.{cases_eq, false≢true}
 use Rattle.srm_net.specs.declared.link.LinkSpec.{LinkSpec}
 use Rattle.srm_net.specs.declared.position.Position.{Position}
 use Rattle.srm_net.specs.Network.{Network, Joins}
-use Rattle.srm_net.specs.Paths.{is_in, route, end_of, far_end}
+use Rattle.srm_net.specs.Paths.{is_in, route, hops_between, end_of, far_end}
 use Rattle.srm_net.specs.Rooting.{takes, at, IsRooted, IsFirstLink, IsHeld, IsChildAbove}
 use Rattle.srm_net.specs.Tables.{is_beyond}
 use Rattle.srm_net.proofs.Lists.{below_get}
 use Rattle.srm_net.proofs.Numbers.{in_cases, in_append_cases, not_in}
 use Rattle.srm_net.proofs.Walks.{turned}
-use Rattle.srm_net.proofs.PathLaws.{LinkOf, on_route}
-use Rattle.srm_net.proofs.Rootings.{takes_nothing, parent_there, parent_back}
+use Rattle.srm_net.proofs.PathLaws.{LinkOf, on_route, route_nowhere}
+use Rattle.srm_net.proofs.Rootings.{takes_nothing, parent_there, parent_back, parent_links}
 use Rattle.srm_net.proofs.SpreadLemmas.{end_joined, route_there, first_of}
 
 -- the two ends of a link by which a node is below another
@@ -216,21 +216,30 @@ module _ (w : Network) (ps : List Position) (r : IsRooted w ps) where
             (p.1, λ e. n (sym e), p.2, held_by_parent x v hx hv one held, p.3))
       ]
 
-  -- on the way between the root and a node that node u holds, a packet comes by node u
+  -- on the way between the root and node z a packet comes by node u
+  abbrev pub IsBelow : ℕ → ℕ → Type 0
+  IsBelow u z =
+      (takes w 0 z ≡ takes w 0 u + takes w u z) × (takes w z 0 ≡ takes w z u + takes w u 0)
+      × (hops_between w z 0 ≡ hops_between w z u + hops_between w u 0)
+
+  below_itself : (u : ℕ) → IsBelow u u
+  below_itself u =
+      let none = takes_nothing w u in
+      let no_link : hops_between w u u ≡ 0 = ap length (route_nowhere w u) in
+      (omega arith, omega arith, omega arith)
+
+  -- as it does to a node that node u holds
   by_steps : (n u v : ℕ) → u < w.nodes → v < w.nodes → (at ps v).place ≤ n → IsHeld (at ps u) (at ps v)
-      → (takes w 0 v ≡ takes w 0 u + takes w u v) × (takes w v 0 ≡ takes w v u + takes w u 0)
+      → IsBelow u v
   by_steps zero u v hu hv le held =
       let eu = (r.each u hu).place_is in
       let ev = (r.each v hv).place_is in
       let h0 : (at ps u).place ≤ (at ps v).place = held.0 in
       let same : u ≡ v = r.apart u v hu hv (omega arith) in
-      let none = takes_nothing w u in
-      subst (λ z. (takes w 0 z ≡ takes w 0 u + takes w u z) × (takes w z 0 ≡ takes w z u + takes w u 0)) same (omega arith, omega arith)
+      subst (IsBelow u) same (below_itself u)
   by_steps (suc n) u v hu hv le held =
       elim (cases_eq u v) [
-        | inl same ↦ (let none = takes_nothing w u in
-            subst (λ z. (takes w 0 z ≡ takes w 0 u + takes w u z) × (takes w z 0 ≡ takes w z u + takes w u 0)) same
-            (omega arith, omega arith))
+        | inl same ↦ subst (IsBelow u) same (below_itself u)
         | inr d ↦ (let p = (at ps v).parent in
             let l = (at ps v).link in
             let up = parent_held u v hu hv d held in
@@ -248,7 +257,10 @@ module _ (w : Network) (ps : List Position) (r : IsRooted w ps) where
             let b = parent_back w r.tree r.place v p l hv h u hu (omega arith) in
             let c = parent_there w r.place v p l h 0 r.tree.some_nodes (omega arith) in
             let e = parent_there w r.place v p l h u hu (omega arith) in
-            (omega arith, omega arith))
+            let rest2 : hops_between w p 0 ≡ hops_between w p u + hops_between w u 0 = rest.2 in
+            let f = parent_links w r.place v p l h 0 r.tree.some_nodes (omega arith) in
+            let g = parent_links w r.place v p l h u hu (omega arith) in
+            (omega arith, omega arith, omega arith))
       ]
 
   -- so the delays to and from the root tell those between the two
@@ -257,3 +269,9 @@ module _ (w : Network) (ps : List Position) (r : IsRooted w ps) where
 
   pub up_held : (u v : ℕ) → u < w.nodes → v < w.nodes → IsHeld (at ps u) (at ps v) → (at ps v).up ≡ takes w v u + (at ps u).up
   up_held u v hu hv held = grind (arith, by_steps)
+
+  pub depth_held : (u v : ℕ) → u < w.nodes → v < w.nodes → IsHeld (at ps u) (at ps v)
+      → (at ps v).depth ≡ hops_between w v u + (at ps u).depth
+  depth_held u v hu hv held =
+      let k = by_steps (at ps v).place u v hu hv (omega arith) held in
+      (r.each v hv).depth ∙ k.2 ∙ ap (λ n. hops_between w v u + n) (sym (r.each u hu).depth)

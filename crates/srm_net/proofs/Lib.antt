@@ -23,6 +23,7 @@ pub mod OutageLemmas
 pub mod LossLemmas
 pub mod OnePaths
 pub mod SpreadLemmas
+pub mod HopLemmas
 pub mod Rootings
 pub mod Subtrees
 pub mod Beyond

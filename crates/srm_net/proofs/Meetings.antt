@@ -3,19 +3,21 @@ use Rattle.std.proofs.Common.{◌≡◌, ◌≢◌, ℕ, ◌+◌, ◌*◌, ◌<�
 use Rattle.std.proofs.lemmas.Bool.{cases_eq, cases_lt}
 use Rattle.srm_net.specs.declared.position.Position.{Position}
 use Rattle.srm_net.specs.Limits.{greatest_distance}
-use Rattle.srm_net.specs.Network.{Network, IsNetwork}
+use Rattle.srm_net.specs.Network.{Network, IsTree, IsNetwork}
+use Rattle.srm_net.specs.Paths.{hops_between}
 use Rattle.srm_net.specs.Rooting.{takes, at, IsRooted, IsHeld, IsMeeting}
-use Rattle.srm_net.proofs.Firsts.{down_held, up_held}
-use Rattle.srm_net.proofs.PathLaws.{delay_bounded}
+use Rattle.srm_net.proofs.Firsts.{down_held, up_held, depth_held}
+use Rattle.srm_net.proofs.HopLemmas.{links_turn}
+use Rattle.srm_net.proofs.PathLaws.{delay_bounded, route_nowhere}
 use Rattle.srm_net.proofs.Rootings.{takes_nothing, Hop, hop}
 
 module _ (w : Network) (ps : List Position) where
   -- the other way round
-  pub meeting_back : (u v : ℕ) (q : Position) → IsMeeting w ps u v q → IsMeeting w ps v u q
-  meeting_back u v q m = grind arith
+  pub meeting_back : IsTree w → (u v : ℕ) (q : Position) → u < w.nodes → v < w.nodes → IsMeeting w ps u v q → IsMeeting w ps v u q
+  meeting_back t u v q hu hv m = grind (arith, links_turn)
 
   pub meeting_itself : (u : ℕ) → IsMeeting w ps u u (at ps u)
-  meeting_itself u = grind (arith, takes_nothing)
+  meeting_itself u = grind (arith, takes_nothing, route_nowhere)
 
   -- over a hop towards the other node
   pub meeting_hop : (u v x : ℕ) (q : Position) → Hop w ps u v x → IsMeeting w ps x v q → IsMeeting w ps u v q
@@ -31,6 +33,11 @@ module _ (w : Network) (ps : List Position) where
       → takes w u v + takes w v u + 2 * (m.up + m.down) ≡ (p.up + p.down) + (q.up + q.down)
   round_read u v p q m e f h = grind arith
 
+  -- and how many links there are
+  pub hops_read : (u v : ℕ) (p q m : Position) → p ≡ at ps u → q ≡ at ps v → IsMeeting w ps u v m
+      → hops_between w u v + 2 * m.depth ≡ p.depth + q.depth
+  hops_read u v p q m e f h = grind arith
+
 module _ (w : Network) (ps : List Position) (r : IsRooted w ps) where
   up_bounded : IsNetwork w → (u : ℕ) → u < w.nodes → (at ps u).up ≤ greatest_distance
   up_bounded n u hu = subst (λ t. t ≤ greatest_distance) (sym (r.each u hu).up) (delay_bounded w n u 0 hu r.tree.some_nodes)
@@ -45,7 +52,7 @@ module _ (w : Network) (ps : List Position) (r : IsRooted w ps) where
 
   -- where one node is below the other
   pub meeting_held : (u v : ℕ) → u < w.nodes → v < w.nodes → IsHeld (at ps u) (at ps v) → IsMeeting w ps u v (at ps u)
-  meeting_held u v hu hv held = grind (arith, down_held, up_held)
+  meeting_held u v hu hv held = grind (arith, down_held, up_held, depth_held, links_turn)
 
   -- a node is below itself, and below the root
   own_end : (u : ℕ) → u < w.nodes → r.place u < (at ps u).end
@@ -84,7 +91,7 @@ module _ (w : Network) (ps : List Position) (r : IsRooted w ps) where
       let pv = (r.each v hv).place_is in
       let pp = (r.each p up.node).place_is in
       let low : r.place p < r.place v = up.earlier in
-      meeting_back w ps v p (at ps p)
+      meeting_back w ps r.tree v p (at ps p) hv up.node
       (meeting_hop w ps v p p (at ps p) (hop w ps r v p p hv up.node (omega arith) (inr refl)) (meeting_itself w ps p))
 
   siblings : (u v : ℕ) → u < w.nodes → v < w.nodes → 1 ≤ r.place v → r.place v < r.place u → (at ps u).parent ≡ (at ps v).parent
@@ -104,7 +111,7 @@ module _ (w : Network) (ps : List Position) (r : IsRooted w ps) where
       let fu = under_root u v hu hv nu in
       let fv = under_root v u hv hu nv in
       elim (cases_lt (r.place u) (r.place v)) [
-        | inl lt ↦ meeting_back w ps v u (at ps (at ps u).parent)
+        | inl lt ↦ meeting_back w ps r.tree v u (at ps (at ps u).parent) hv hu
             (subst (λ x. IsMeeting w ps v u (at ps x)) (sym e) (siblings v u hv hu fu lt (sym e)))
         | inr le ↦ siblings u v hu hv fv (omega arith) e
       ]

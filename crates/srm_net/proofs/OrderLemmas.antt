@@ -48,11 +48,12 @@ rooted_of_any nodes links hs gs ps r = record {
       record {
         place_is = p.place_is;
         depth = p.depth;
+        depth_low = p.depth_low;
         parent = λ some.
             let h = p.parent some in
             record { node = h.node; earlier = h.earlier; link = h.link; leads = h.leads; route = h.route };
         subtree = λ some. let h = p.subtree some in record { own = h.own; within = h.within; whole = h.whole };
-        jump = record { node = p.jump.node; there = p.jump.there; back = p.jump.back };
+        jump = record { node = p.jump.node; there = p.jump.there; back = p.jump.back; hops = p.jump.hops };
         jump_earlier = p.jump_earlier;
         jump_above = p.jump_above;
         up = p.up;

@@ -11,7 +11,7 @@ use Rattle.srm_net.specs.declared.position.Position.{Position}
 use Rattle.srm_net.specs.declared.step.Step.{Step}
 use Rattle.srm_net.specs.Growth.{Attaches, attached, Grows, place_in}
 use Rattle.srm_net.specs.Network.{Network, Joins, IsWalk, IsTree, HasDelays, IsNetwork}
-use Rattle.srm_net.specs.Paths.{is_in, route, delay_of, delay_along}
+use Rattle.srm_net.specs.Paths.{is_in, route, hops_between, delay_of, delay_along}
 use Rattle.srm_net.specs.Rooting.{takes, nowhere, at, IsParent, IsPassed, IsSubtree, IsPosition, IsRooted}
 use Rattle.srm_net.proofs.Lists.{get_below}
 use Rattle.srm_net.proofs.Numbers.{in_head, in_tail, in_cases, not_in, distinct_from_apart}
@@ -103,6 +103,10 @@ parent_back w t place u p l hu h v hv lt =
     ap (delay_along w.links v) (route_there w t v u p l hv hu h.node (h.route v hv lt) h.leads)
     ∙ delay_push w.links v (route w v p) p r.0 l r.1.0
 
+pub parent_links : (w : Network) (place : ℕ → ℕ) (u p l : ℕ) → IsParent w place u p l → (v : ℕ) → v < w.nodes → place v < place u
+    → hops_between w u v ≡ hops_between w p v + 1
+parent_links w place u p l h v hv lt = ap length (h.route v hv lt) ∙ (omega arith)
+
 pub passed_parent : (w : Network) → IsTree w → (place : ℕ → ℕ) (u p l : ℕ) → u < w.nodes → IsParent w place u p l → IsPassed w place u p
 passed_parent w t place u p l hu h =
     let low : place p < place u = h.earlier in
@@ -116,6 +120,11 @@ passed_parent w t place u p l hu h =
       back = λ v hv le.
           let a = parent_back w t place u p l hu h v hv (omega arith) in
           let b = parent_back w t place u p l hu h p h.node low in
+          omega arith;
+      hops = λ v hv le.
+          let a = parent_links w place u p l h v hv (omega arith) in
+          let b = parent_links w place u p l h p h.node low in
+          let c : hops_between w p p ≡ 0 = ap length (route_nowhere w p) in
           omega arith;
     }
 
@@ -207,7 +216,7 @@ module _ (w : Network) (t : IsTree w) (later : List Step) (s : Step) (ss : List 
       let low = place_before s.parent here.0.parent in
       let root : place 0 ≡ 0 = place_root w.links (later ++ s ∷ ss) g in
       let over = passed_parent w t place s.node s.parent s.link new_node h in
-      let depth : above.depth ≤ place s.parent = p.depth in
+      let depth : above.depth ≤ place s.parent = p.depth_low in
       let deeper : new.depth ≡ above.depth + 1 = f.depth_is in
       let q1 : place above.jump ≤ place s.parent = p.jump_above in
       let q2 : place far.jump ≤ place above.jump = q.jump_above in
@@ -221,7 +230,8 @@ module _ (w : Network) (t : IsTree w) (later : List Step) (s : Step) (ss : List 
       let earlier : place new.jump < place s.node = jump.1 in
       record {
         place_is = f.place_is ∙ sym there;
-        depth = omega arith;
+        depth = f.depth_is ∙ ap (λ n. n + 1) p.depth ∙ sym (parent_links w place s.node s.parent s.link h 0 some (omega arith));
+        depth_low = omega arith;
         parent = λ _. subst (λ a. IsParent w place s.node a new.link) (sym f.parent_is)
             (subst (λ l. IsParent w place s.node s.parent l) (sym f.link_is) h);
         subtree = λ _. subst (λ l. IsSubtree w place s.node l new.end) (sym f.link_is) sub;
@@ -314,7 +324,7 @@ abbrev pub root_with : ℕ → Position
 root_with end = record { place = 0; end = end; depth = 0; parent = 0; link = 0; jump = 0; up = 0; down = 0 }
 
 pub root_position : (w : Network) (place : ℕ → ℕ) (end : ℕ) → 1 ≤ w.nodes → place 0 ≡ 0 → IsPosition w place 0 (root_with end)
-root_position w place end some e = grind (arith, takes_nothing)
+root_position w place end some e = grind (arith, takes_nothing, route_nowhere)
 
 pub each_alike : (n u : ℕ) (q : Position) → u < n → at (replicate n q) u ≡ q
 each_alike zero u q h = absurd (omega arith)
@@ -343,6 +353,7 @@ pub record Hop (w : Network) (ps : List Position) (u v x : ℕ) : Type 0 where
   pub down_low : (at ps x).down ≤ (at ps u).down
   pub there : takes w u v + (at ps x).up ≡ (at ps u).up + takes w x v
   pub back : takes w v u + (at ps x).down ≡ (at ps u).down + takes w v x
+  pub hops : hops_between w u v + (at ps x).depth ≡ (at ps u).depth + hops_between w x v
 
 pub hop : (w : Network) (ps : List Position) (r : IsRooted w ps) → (u v x : ℕ) → u < w.nodes → v < w.nodes
     → (at ps v).place < (at ps u).place
@@ -371,6 +382,10 @@ hop w ps r u v x hu hv lt which =
           let b = h.there 0 some (omega arith) in
           let d = h.back v hv (omega arith) in
           let e = h.back 0 some (omega arith) in
+          let i = h.hops v hv (omega arith) in
+          let k = h.hops 0 some (omega arith) in
+          let deep : (at ps u).depth ≡ hops_between w u 0 = pu.depth in
+          let deep2 : (at ps j).depth ≡ hops_between w j 0 = pj.depth in
           record {
             node = h.node;
             earlier = omega arith;
@@ -379,6 +394,7 @@ hop w ps r u v x hu hv lt which =
             there = omega arith;
             back = omega
                 arith;
+            hops = omega arith;
           }
           )
       | inr c ↦ subst (λ y. Hop w ps u v y) (sym c) (
@@ -396,6 +412,10 @@ hop w ps r u v x hu hv lt which =
           let b = parent_there w r.place u p l h 0 some (omega arith) in
           let d = parent_back w t r.place u p l hu h v hv (omega arith) in
           let e = parent_back w t r.place u p l hu h 0 some (omega arith) in
+          let i = parent_links w r.place u p l h v hv (omega arith) in
+          let k = parent_links w r.place u p l h 0 some (omega arith) in
+          let deep : (at ps u).depth ≡ hops_between w u 0 = pu.depth in
+          let deep2 : (at ps p).depth ≡ hops_between w p 0 = pp.depth in
           record {
             node = h.node;
             earlier = omega arith;
@@ -404,6 +424,7 @@ hop w ps r u v x hu hv lt which =
             there = omega arith;
             back = omega
                 arith;
+            hops = omega arith;
           }
           )
     ]

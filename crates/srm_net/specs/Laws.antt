@@ -1,5 +1,5 @@
 -- What holds of every network, and of the orders.
-use Rattle.std.specs.Prelude.{◌≡◌, ◌≢◌, ◌↔◌, ℕ, ◌/◌, ◌<◌, ◌≤◌, true, false, not, All, Contains, List, [], ◌∷◌, ◌++◌}
+use Rattle.std.specs.Prelude.{◌≡◌, ◌≢◌, ◌↔◌, ℕ, ◌+◌, ◌/◌, ◌<◌, ◌≤◌, true, false, not, All, Contains, List, [], ◌∷◌, ◌++◌}
 use Rattle.std.specs.Prelude.{length, Option, Some, None}
 use Rattle.std.specs.List.{list_any}
 use Rattle.std.specs.declared.cmp.Ordering.{Ordering}
@@ -12,7 +12,7 @@ use Rattle.srm_net.specs.declared.packet.PacketId.{PacketId}
 use Rattle.srm_net.specs.Orders.{Ascends}
 use Rattle.srm_net.specs.declared.link.LinkSpec.{LinkSpec}
 use Rattle.srm_net.specs.Network.{Network, IsPath, IsTree, IsAlike, IsNetwork}
-use Rattle.srm_net.specs.Paths.{route, member_route, distance, round, drop_cmp, is_listed, reaches, crosses, drops_at}
+use Rattle.srm_net.specs.Paths.{route, member_route, distance, round, hops, drop_cmp, is_listed, reaches, crosses, drops_at}
 use Rattle.srm_net.specs.Paths.{Stop, stop, takes_out}
 use Rattle.srm_net.specs.DropRules.{DropRules, is_out, may_drop, with_seed}
 use Rattle.srm_net.specs.Fates.{is_on_way, joins_members}
@@ -60,6 +60,23 @@ AlikeBothWays =
 -- a round trip takes as long from either end
 abbrev pub RoundsTurn : Type 0
 RoundsTurn = (w : Network) (a b : ℕ) → round w a b ≡ round w b a
+
+-- a member is as many hops from another as that is from it
+abbrev pub HopsTurn : Type 0
+HopsTurn =
+    (w : Network) → IsNetwork w → (a b : ℕ) → a < length w.hosts → b < length w.hosts → hops w a b ≡ hops w b a
+
+-- and no more than by way of a third
+abbrev pub HopsMeetTheTriangle : Type 0
+HopsMeetTheTriangle =
+    (w : Network) → IsNetwork w → (a b c : ℕ) → a < length w.hosts → b < length w.hosts → c < length w.hosts
+    → hops w a c ≤ hops w a b + hops w b c
+
+-- at least one from any other, none from itself, and fewer than there may be nodes
+abbrev pub HopsFit : Type 0
+HopsFit =
+    (w : Network) → IsNetwork w → (a b : ℕ) → a < length w.hosts → b < length w.hosts
+    → (a ≢ b → 1 ≤ hops w a b) × (hops w a a ≡ 0) × (hops w a b < most_nodes)
 
 -- the least delay of a link is at least 1, and no member is nearer to another
 abbrev pub LeastDelayFits : Type 0

@@ -44,6 +44,10 @@ route_within (suc n) links passed u v =
 unfoldable pub route : Network → ℕ → ℕ → List ℕ
 route w u v = unwrap_or (route_within (length w.links) w.links [] u v) []
 
+-- how many links there are on the way from node u to node v
+abbrev pub hops_between : Network → ℕ → ℕ → ℕ
+hops_between w u v = length (route w u v)
+
 -- ---- members
 
 -- the node of member m
@@ -81,6 +85,10 @@ distance w a b = delay_along w.links (host w a) (member_route w a b)
 -- the round trip between two members: how long a packet takes there, and another one back
 abbrev pub round : Network → ℕ → ℕ → ℕ
 round w a b = distance w a b + distance w b a
+
+-- how many hops member b is from member a: the links on the way between them, whatever their delays
+unfoldable pub hops : Network → ℕ → ℕ → ℕ
+hops w a b = hops_between w (host w a) (host w b)
 
 -- half the round trip between a member and each member in turn, rounded down
 abbrev pub half_rounds_from : Network → ℕ → List ℕ

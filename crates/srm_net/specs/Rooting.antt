@@ -1,9 +1,9 @@
 -- Positions of nodes in a tree that is rooted at node 0.
-use Rattle.std.specs.Prelude.{◌≡◌, ℕ, ◌+◌, ◌<◌, ◌≤◌, true, List, ◌∷◌, Some, length, slice_get, slice_index_or}
+use Rattle.std.specs.Prelude.{◌≡◌, ℕ, ◌+◌, ◌*◌, ◌<◌, ◌≤◌, true, List, ◌∷◌, Some, length, slice_get, slice_index_or}
 use Rattle.srm_net.specs.declared.position.Position.{Position}
 use Rattle.srm_net.specs.declared.rooted.Rooted.{Rooted}
 use Rattle.srm_net.specs.Network.{Network, IsTree}
-use Rattle.srm_net.specs.Paths.{is_in, route, end_of, delay_along}
+use Rattle.srm_net.specs.Paths.{is_in, route, hops_between, end_of, delay_along}
 
 -- how long a packet takes from node u to node v
 abbrev pub takes : Network → ℕ → ℕ → ℕ
@@ -30,6 +30,8 @@ pub record IsPassed (w : Network) (place : ℕ → ℕ) (u j : ℕ) : Type 0 whe
   pub node : j < w.nodes
   pub there : (v : ℕ) → v < w.nodes → place v ≤ place j → takes w u v ≡ takes w u j + takes w j v
   pub back : (v : ℕ) → v < w.nodes → place v ≤ place j → takes w v u ≡ takes w v j + takes w j u
+  pub hops : (v : ℕ) → v < w.nodes → place v ≤ place j
+      → hops_between w u v ≡ hops_between w u j + hops_between w j v
 
 -- the nodes to which the way from node 0 takes link l have the places from the one of node u up to below this end
 pub record IsSubtree (w : Network) (place : ℕ → ℕ) (u l end : ℕ) : Type 0 where
@@ -40,7 +42,8 @@ pub record IsSubtree (w : Network) (place : ℕ → ℕ) (u l end : ℕ) : Type 
 -- the position of node u is told
 pub record IsPosition (w : Network) (place : ℕ → ℕ) (u : ℕ) (q : Position) : Type 0 where
   pub place_is : q.place ≡ place u
-  pub depth : q.depth ≤ place u
+  pub depth : q.depth ≡ hops_between w u 0
+  pub depth_low : q.depth ≤ place u
   pub parent : 1 ≤ place u → IsParent w place u q.parent q.link
   pub subtree : 1 ≤ place u → IsSubtree w place u q.link q.end
   pub jump : IsPassed w place u q.jump
@@ -79,6 +82,7 @@ pub record TellsTree (w : Network) (r : Rooted) : Type 0 where
 pub record IsMeeting (w : Network) (positions : List Position) (u v : ℕ) (q : Position) : Type 0 where
   pub there : takes w u v + (q.up + q.down) ≡ (at positions u).up + (at positions v).down
   pub back : takes w v u + (q.up + q.down) ≡ (at positions v).up + (at positions u).down
+  pub hops : hops_between w u v + 2 * q.depth ≡ (at positions u).depth + (at positions v).depth
 
 -- the way from node u to node v begins with link l, which leads to node x
 pub record IsFirstLink (w : Network) (u v l x : ℕ) : Type 0 where

@@ -7,12 +7,13 @@ ghost use Rattle.srm_net.specs.declared.packet.PacketId.{PacketId};
 ghost use Rattle.srm_net.specs.declared.packet.PageId.{PageId};
 ghost use Rattle.srm_net.specs.Keys.{key_cmp};
 ghost use Rattle.srm_net.specs.Names.{name_cmp, page_cmp, id_cmp, heard_cmp};
-ghost use Rattle.srm_net.specs.Paths.{distance, round, reaches, crosses, drops_at};
+ghost use Rattle.srm_net.specs.Paths.{distance, round, hops, reaches, crosses, drops_at};
 ghost use Rattle.srm_net.specs.Least.{least_delay, out};
 ghost use Rattle.srm_net.specs.Examples.{tree_of_eight, uneven_chain, lone_node};
 ghost use Rattle.srm_net.specs.Examples.{slow_chain, turned_chain, outage_of_link_1, loss_of_link_1, packet_of_member_0};
 ghost use Rattle.srm_net.specs.Losses.{loss_word};
 ghost use Rattle.srm_net.specs.Laws.{OnePath, TreesHaveOnePath, DistancesFit, AlikeBothWays, RoundsTurn, LeastDelayFits, NoLinkNoTwo, OutFits, OutOfTheOnlyOne};
+ghost use Rattle.srm_net.specs.Laws.{HopsTurn, HopsMeetTheTriangle, HopsFit};
 ghost use Rattle.srm_net.specs.Laws.{ReachesItsSender, UnlistedReachesAll, UnlistedCrossesItsWays, UnlistedIsNowhereDropped};
 ghost use Rattle.srm_net.specs.Laws.{WaysTakeTheSameLinks, EverywhereCrossesTheSame, EverywhereIsNowhereDropped};
 ghost use Rattle.srm_net.specs.Laws.{ListedAloneReaches, ListedAloneAtAnyTime};
@@ -43,6 +44,14 @@ pub fn alike_both_ways()
 /// A round trip takes as long from either end.
 pub fn rounds_turn()
     ensures { RoundsTurn }
+{}
+
+/// Hops are the same from either end, no more than by way of a third member, none from a member to itself, and from 1 to 65,534 between
+/// different ones.
+pub fn hops_are_a_metric()
+    ensures turn { HopsTurn }
+    ensures triangle { HopsMeetTheTriangle }
+    ensures fit { HopsFit }
 {}
 
 /// The least delay of a link in either direction is at least 1 tick and at most each distance; without a link there are no two members.
@@ -151,10 +160,12 @@ pub fn small_networks()
     ensures far { distance tree_of_eight 4 7 ≡ 8 }
     ensures near { distance tree_of_eight 4 5 ≡ 4 }
     ensures out { out tree_of_eight 3 ≡ Some 2 }
+    ensures hops { hops tree_of_eight 4 7 ≡ 4 }
     ensures least { least_delay tree_of_eight ≡ Some 2 }
     ensures there { distance uneven_chain 0 2 ≡ 4 }
     ensures back { distance uneven_chain 2 1 ≡ 1 }
     ensures round { round uneven_chain 0 1 ≡ 4 }
+    ensures uneven_hops { hops uneven_chain 0 2 ≡ 2 }
     ensures uneven_out { out uneven_chain 1 ≡ Some 3 }
     ensures uneven_least { least_delay uneven_chain ≡ Some 1 }
     ensures no_out { out lone_node 0 ≡ None }

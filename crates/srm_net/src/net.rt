@@ -2,7 +2,7 @@
 ghost use Rattle.std.specs.Prelude.{◌≡◌, ◌≢◌, ◌↔◌, ℕ, ◌+◌, ◌<◌, ◌≤◌, ◌*◌, true, false, not, [], ◌∷◌, All, IfOk, IfErr, IfSome, IfNone, IsTrue, Some, None, length, slice_get, if◌then◌else◌};
 ghost use Rattle.srm_net.specs.Limits.{end_of_time, greatest_distance};
 ghost use Rattle.srm_net.specs.Network.{plain_network, IsTree, HasDelays, AreHosts, IsNetwork};
-ghost use Rattle.srm_net.specs.Paths.{host, distance, round, half_rounds_from, stop, takes_out, reaches, crosses, drops_at};
+ghost use Rattle.srm_net.specs.Paths.{host, distance, round, hops, half_rounds_from, stop, takes_out, reaches, crosses, drops_at};
 ghost use Rattle.srm_net.specs.Fates.{is_crossing, is_dropping, is_on_way, joins_members};
 ghost use Rattle.srm_net.specs.declared.link.LinkSpec.{LinkSpec};
 ghost use Rattle.srm_net.specs.declared.packet.PacketId.{PacketId};
@@ -176,6 +176,17 @@ impl Net {
         ensures network { IsNetwork self.now }
     {
         self.tree.round(a, b)
+    }
+
+    /// How many hops member `b` is from member `a`: the links on the way between them, whatever their delays. There are at most 65,534,
+    /// as many from either end, and no more than by way of a third member ([`hops_are_a_metric`](crate::laws::hops_are_a_metric)).
+    pub fn hops(&self, a: u16, b: u16) -> u16
+        requires a { a < length self.now.hosts }
+        requires b { b < length self.now.hosts }
+        ensures value { result ≡ hops self.now a b }
+        ensures network { IsNetwork self.now }
+    {
+        self.tree.hops(a, b)
     }
 
     /// Half the round trip between member `m` and each member in turn, rounded down, in ticks: at most 65,534,000,000 each. They are told

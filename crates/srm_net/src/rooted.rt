@@ -5,7 +5,7 @@ ghost use Rattle.srm_net.specs.declared.link.LinkSpec.{LinkSpec};
 ghost use Rattle.srm_net.specs.Limits.{end_of_time};
 ghost use Rattle.srm_net.specs.Listed.{is_listed_somewhere};
 ghost use Rattle.srm_net.specs.Network.{Network, HasDelays, IsNetwork, IsTree, IsWithin, plain_network};
-ghost use Rattle.srm_net.specs.Paths.{takes_out};
+ghost use Rattle.srm_net.specs.Paths.{hops_between, takes_out};
 ghost use Rattle.srm_net.specs.Rooting.{takes, at, IsRooted, TellsTree, IsMeeting, IsFirstLink, IsHeld, IsChildAbove};
 ghost use Rattle.srm_net.specs.Spreads.{TellsArrivals, TellsAbove};
 
@@ -104,6 +104,18 @@ impl Rooted {
         let there = self.position(to);
         let meeting = self.meeting(from, to);
         (here.up + here.down) + (there.up + there.down) - 2 * (meeting.up + meeting.down)
+    }
+
+    /// How many links there are on the way from one node to another. It takes as many steps as one [`delay`](Rooted::delay).
+    pub(crate) fn hops(&self, from: u16, to: u16) -> u16
+        requires rooted { (w : Network) × IsNetwork w × IsRooted w self.now.positions.items × (from < w.nodes) × (to < w.nodes) }
+        ensures { (w : Network) → IsRooted w self.now.positions.items → from < w.nodes → to < w.nodes
+            → result ≡ hops_between w from to }
+    {
+        let here = self.position(from);
+        let there = self.position(to);
+        let meeting = self.meeting(from, to);
+        (u32::from(here.depth) + u32::from(there.depth) - 2 * u32::from(meeting.depth)) as u16
     }
 
     /// The position of the node where the ways up from two nodes meet: the way from one to the other leads up to it, and down from there.

@@ -5,7 +5,7 @@ ghost use Rattle.srm_net.specs.Limits.{end_of_time, greatest_distance};
 ghost use Rattle.srm_net.specs.declared.link.LinkSpec.{LinkSpec};
 ghost use Rattle.srm_net.specs.Growth.{Grows, IsInPreorder};
 ghost use Rattle.srm_net.specs.Network.{plain_network, IsNetwork, IsTree, HasDelays, AreHosts};
-ghost use Rattle.srm_net.specs.Paths.{host, route, end_of, delay_along, distance, round, stops, takes_out};
+ghost use Rattle.srm_net.specs.Paths.{host, route, end_of, delay_along, distance, round, hops, stops, takes_out};
 ghost use Rattle.srm_net.specs.Listed.{is_listed_somewhere};
 ghost use Rattle.srm_net.specs.Spreads.{TellsArrivals};
 ghost use Rattle.srm_net.specs.Least.{least_delay};
@@ -131,6 +131,16 @@ impl Tree {
         ensures network { IsNetwork self.now }
     {
         self.rooted.round(self.host(a), self.host(b))
+    }
+
+    /// How many links there are on the way from member `a` to member `b`.
+    pub(crate) fn hops(&self, a: u16, b: u16) -> u16
+        requires a { a < length self.now.hosts }
+        requires b { b < length self.now.hosts }
+        ensures value { result ≡ hops self.now a b }
+        ensures network { IsNetwork self.now }
+    {
+        self.rooted.hops(self.host(a), self.host(b))
     }
 
     /// How long a packet takes from one node to another, in ticks.

@@ -1,6 +1,6 @@
 //! The calls on small networks, and on the longest path.
 use crate::networks::{
-    LossyNet, fate, is_on_way, links_between, packet, path, place_of, ticks_between,
+    LossyNet, fate, hops_between, is_on_way, links_between, packet, path, place_of, ticks_between,
 };
 use srm_net::drops::Drops;
 use srm_net::fate::Fate;
@@ -130,6 +130,17 @@ fn ticks_over_most_nodes(rt: HostRuntime) {
     let net = longest_path(rt.alloc()).map(|path| path.net);
     let ticks = (65_534_000_000, 65_534, 65_534_065_534);
     assert_eq!(rt; ticks_between(net, 0, 1), Some(ticks));
+}
+
+#[test]
+fn hops_whatever_the_delays(rt: HostRuntime) {
+    for (a, b, want) in [(4, 7, 4), (4, 5, 2), (0, 3, 1), (6, 6, 0)] {
+        let hops = hops_between(tree_of_eight(rt.alloc()), a, b);
+        assert_eq!(rt; hops, Some(want), "from {a} to {b}");
+    }
+    assert_eq!(rt; hops_between(uneven_chain(rt.alloc()), 2, 0), Some(2));
+    let net = longest_path(rt.alloc()).map(|path| path.net);
+    assert_eq!(rt; hops_between(net, 1, 0), Some(65_534));
 }
 
 #[test]

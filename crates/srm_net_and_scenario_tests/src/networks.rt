@@ -60,6 +60,16 @@ pub fn ticks_between(net: Result<Net, NetFault>, a: u16, b: u16) -> Option<(u64,
     }
 }
 
+/// How many hops one member is from another.
+pub fn hops_between(net: Result<Net, NetFault>, a: u16, b: u16) -> Option<u16> {
+    let net = net.ok()?;
+    if a < net.members() && b < net.members() {
+        Some(net.hops(a, b))
+    } else {
+        None
+    }
+}
+
 /// The node of a member, the least ticks from it to another, and the least delay of a link.
 pub fn place_of(net: Result<Net, NetFault>, m: u16) -> Option<(u16, Option<u64>, Option<u64>)> {
     let net = net.ok()?;

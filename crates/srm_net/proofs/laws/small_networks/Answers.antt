@@ -1,5 +1,5 @@
 use Rattle.std.proofs.Common.{refl}
-use Rattle.srm_net.specs.Paths.{route_within, route, distance}
+use Rattle.srm_net.specs.Paths.{route_within, route, distance, hops}
 use Rattle.srm_net.specs.Least.{least_delay, out}
 use Rattle.srm_net.proofs.laws.small_networks.Goals as goal
 
@@ -14,6 +14,10 @@ returns-clause-near c = refl
 pub returns-clause-out : goal.returns-clause-out
 unfolding route_within route distance out
 returns-clause-out c = refl
+
+pub returns-clause-hops : goal.returns-clause-hops
+unfolding route_within route hops
+returns-clause-hops c = refl
 
 pub returns-clause-least : goal.returns-clause-least
 unfolding least_delay
@@ -30,6 +34,10 @@ returns-clause-back c = refl
 pub returns-clause-round : goal.returns-clause-round
 unfolding route_within route distance
 returns-clause-round c = refl
+
+pub returns-clause-uneven_hops : goal.returns-clause-uneven_hops
+unfolding route_within route hops
+returns-clause-uneven_hops c = refl
 
 pub returns-clause-uneven_out : goal.returns-clause-uneven_out
 unfolding route_within route distance out

@@ -75,9 +75,9 @@ loop-near-preserved c w r hf ht =
     let h = far_hop c w r hf ht in (
       inv.0,
       h.node,
-      λ q m. inv.2 q (meeting_back w ps c.loop-near.far c.loop-near.near q
+      λ q m. inv.2 q (meeting_back w ps r.tree c.loop-near.far c.loop-near.near q inv.1 inv.0
           (meeting_hop w ps c.loop-near.far c.loop-near.near c.above-far.result q h
-          (meeting_back w ps c.loop-near.near c.above-far.result q m))),
+          (meeting_back w ps r.tree c.loop-near.near c.above-far.result q inv.0 h.node m))),
     )
 
 pub returns : goal.returns

@@ -40,7 +40,7 @@ returns-then-holds-2 c w r hf ht =
     let held = held_alike c.position-there.result c.position-here.result (at ps c.args.to) (at ps c.args.from)
     c.position-there.ensures c.position-here.ensures (c.holds-else-holds.ensures.within c.if-holds-2.true) in
     subst (λ (p : Position). IsMeeting w ps c.args.from c.args.to p) (sym c.position-there.ensures)
-    (meeting_back w ps c.args.to c.args.from (at ps c.args.to) (meeting_held w ps r c.args.to c.args.from ht hf held))
+    (meeting_back w ps r.tree c.args.to c.args.from (at ps c.args.to) ht hf (meeting_held w ps r c.args.to c.args.from ht hf held))
 
 pub returns-then-here-there : goal.returns-then-here-there
 returns-then-here-there c w r hf ht =

@@ -125,7 +125,7 @@ overflow_add-above c =
     let above = c.index-above.result.now in
     let p : IsPosition w place s.parent above = subst (IsPosition w place s.parent) (sym (read_position ps c.from-in-loop-index-2.result
     s.parent above c.from-in-loop-index-2.ensures (omega arith) c.index-above.ensures)) (inv.told s.parent a.parent) in
-    let d : above.depth ≤ place s.parent = p.depth in
+    let d : above.depth ≤ place s.parent = p.depth_low in
     let low : place s.parent ≤ c.loop-index.index = parent_low w c.requires.tree c.args.steps.now c.requires.grows c.requires.all
     c.loop-index.index c.loop-index-test.true in
     let lt : c.loop-index.index < length c.args.steps.now = c.loop-index-test.true in
