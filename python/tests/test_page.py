@@ -160,7 +160,7 @@ def test_contrast_of_texts_and_marks(block):
     for text in ("ink", "soft", "accent", "cross"):
         assert min(contrast(of[text], of["paper"]), contrast(of[text], of["panel"])) >= 4.5, text
     assert contrast(of["onaccent"], of["accent"]) >= 4.5
-    for mark in ("data", "request", "repair", "session", "lost", "lacks", "node", "edge"):
+    for mark in ("data", "request", "repair", "session", "lost", "plans", "lacks", "node", "edge"):
         assert contrast(of[mark], of["paper"]) >= 3, mark
-    for mark in ("repair", "lacks", "edge"):
+    for mark in ("repair", "plans", "lacks", "edge"):
         assert contrast(of[mark], of["select"]) >= 3, f"{mark} on a halo"

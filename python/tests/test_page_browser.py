@@ -4,6 +4,7 @@ import csv
 import gzip
 import io
 import json
+import math
 import random
 import shutil
 import subprocess
@@ -17,7 +18,7 @@ from matplotlib import pyplot
 from srm_lab import scenario as scenarios
 from srm_lab.loss_words import loss_word
 from srm_lab.page.command import main
-from srm_lab.page.html import library
+from srm_lab.page.html import ASSETS, library
 
 ROOT = Path(__file__).resolve().parents[2]
 EXAMPLES = ROOT / "examples"
@@ -407,7 +408,7 @@ def test_states_of_a_thousand_members_are_told_apart(browser, make_page, srm_lab
             places.forEach(([x, y], one) => places.slice(0, one).forEach(([left, top]) => {
               nearest = Math.min(nearest, Math.hypot(x - left, y - top));
             }));
-            const colours = [theme.paper, null, theme.repair, theme.paper, theme.lacks, theme.asked, null];
+            const colours = [theme.paper, null, theme.plans, theme.paper, theme.lacks, theme.asked, null];
             const { canvas, context, scale } = view.surface;
             const { data } = context.getImageData(0, 0, canvas.width, canvas.height);
             const wrong = places.flatMap(([x, y], member) => {
@@ -422,8 +423,89 @@ def test_states_of_a_thousand_members_are_told_apart(browser, make_page, srm_lab
     assert errors(browser) == []
 
 
+@pytest.mark.parametrize("kind", ["star", "tree", "random"])
+def test_a_thousand_nodes_fill_their_pane(browser, make_page, sized, tmp_path, kind):
+    path = make_page(many_losers(kind).write(tmp_path / "many.toml"))
+    for size in ((1280, 800), (900, 700), (390, 844)):
+        sized(*size)
+        show(browser, path)
+        x, y, width, height = browser.execute_script("""
+            const { x, y, surface } = srmPage.views.network;
+            return [d3.extent(x), d3.extent(y), surface.width, surface.height];""")
+        for (low, high), room in ((x, width), (y, height)):
+            assert 0 < low and high < room and high - low > 0.85 * room, (size, low, high, room)
+
+
+@pytest.mark.parametrize("size", [(1440, 900), (900, 700), (800, 600), (390, 844), (844, 390)])
+def test_no_control_lies_over_the_network(browser, make_page, sized, size):
+    """Where the window is large enough for the head beside it, the whole network is seen at once; else after scrolling."""
+    sized(*size)
+    show(browser, make_page(EXAMPLES / "tree-of-1024-nodes.toml"))
+    if min(size) < 560:
+        browser.execute_script("document.getElementById('stage').scrollIntoView()")
+    tall, covered = browser.execute_script("""
+        const canvas = document.getElementById("network");
+        const { left, top, width, height } = canvas.getBoundingClientRect();
+        const parts = [0.01, 0.25, 0.5, 0.75, 0.99];
+        const above = (part, down) => document.elementFromPoint(left + part * width, top + down * height);
+        return [height, parts.flatMap((part) => parts.map((down) => above(part, down))).filter((it) => it !== canvas).length];""")
+    assert covered == 0 and tall >= 100
+    assert errors(browser) == []
+
+
+# how the two kinds of red-green blindness see linear red, green and blue (Machado, Oliveira and Fernandes 2009)
+SIGHTS = {"trichromat": ((1, 0, 0), (0, 1, 0), (0, 0, 1)),
+          "protanope": ((0.152, 1.053, -0.205), (0.115, 0.786, 0.099), (-0.004, -0.048, 1.052)),
+          "deuteranope": ((0.367, 0.861, -0.228), (0.280, 0.673, 0.047), (-0.012, 0.043, 0.969))}
+
+
+def lab(colour, sight):
+    """A colour of three numbers from 0 to 255, as it is seen, in CIELAB: there one step is just told apart."""
+    linear = [it / 12.92 if it <= 0.04045 else ((it + 0.055) / 1.055) ** 2.4 for it in (part / 255 for part in colour)]
+    red, green, blue = (min(1, max(0, sum(a * b for a, b in zip(row, linear)))) for row in SIGHTS[sight])
+    x, y, z = (it ** (1 / 3) if it > 216 / 24389 else (24389 / 27 * it + 16) / 116 for it in (
+        (0.4125 * red + 0.3576 * green + 0.1804 * blue) / 0.9505, 0.2127 * red + 0.7152 * green + 0.0722 * blue,
+        (0.0193 * red + 0.1192 * green + 0.9503 * blue) / 1.0888))
+    return 116 * y - 16, 500 * (x - y), 200 * (y - z)
+
+
+@pytest.mark.parametrize("theme", ["light", "dark"])
+@pytest.mark.parametrize("radius", [3, 12])
+def test_repairs_and_members_that_plan_one_differ_in_colour_and_shape(browser, make_page, theme, radius):
+    """Of a repair and of members that may plan one, as they are drawn: the middle's colour, and the pixels that are filled."""
+    show(browser, make_page(EXAMPLES / "two-nodes.toml"), f"theme={theme}")
+    marks = "\n".join((ASSETS / "js" / f"{name}.js").read_text() for name in ("codes", "states", "marks"))
+    shown = browser.execute_script(marks + """
+        const [theme, radius] = [srmPage.theme, arguments[0]];
+        const drawn = (draw) => {
+          const canvas = document.createElement("canvas");
+          canvas.width = canvas.height = 81;
+          const context = canvas.getContext("2d");
+          draw(context, 40.5, 40.5);
+          const { data } = context.getImageData(0, 0, 81, 81);
+          const filled = Array.from({ length: 81 * 81 }, (_, at) => data[4 * at + 3] > 127);
+          return [Array.from(data.slice(4 * (40 * 81 + 40), 4 * (40 * 81 + 40) + 3)), filled];
+        };
+        const member = (role) => (context, x, y) =>
+          (radius < 5 ? drawSmallMember : drawMember)(context, theme, role, STATE.plans, x, y, radius);
+        return [drawn((context, x, y) => fillPacket(context, theme, KIND.repair, x, y, radius)),
+                ...["sender", "receiver", "late"].map((role) => drawn(member(role)))];""", radius)
+    (repair, packet), *members = shown
+    for colour, mark in members:
+        for sight in SIGHTS:
+            assert math.dist(lab(colour, sight), lab(repair, sight)) > 25, sight
+        both, either = (sum(map(join, zip(packet, mark))) for join in (all, any))
+        assert both < 0.75 * either
+
+
 def last_tick(browser):
     return browser.execute_script("return srmPage.model.moments.end")
+
+
+def widest(browser):
+    """How wide the page is, also what one would have to scroll to."""
+    return browser.execute_script("return Math.max(document.documentElement.scrollWidth, "
+                                  "document.querySelector('.page').scrollWidth)")
 
 
 @pytest.mark.parametrize("name", ["chain-of-five-one-loss", "star-loss-at-one-member", "outage-in-mid-session",
@@ -446,9 +528,9 @@ def test_on_a_phone_no_label_lies_on_a_node_or_another_label(browser, make_page,
                 assert left >= 0 and top >= 0 and right <= width
                 for other in boxes[:place]:
                     assert left >= other[2] or right <= other[0] or top >= other[3] or bottom <= other[1], (tick, labels)
-        assert browser.execute_script("return document.documentElement.scrollWidth") <= width
+        assert widest(browser) <= width
         press(browser, "2")
-        assert browser.execute_script("return document.documentElement.scrollWidth") <= width
+        assert widest(browser) <= width
     assert errors(browser) == []
 
 

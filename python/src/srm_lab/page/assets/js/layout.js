@@ -10,13 +10,19 @@ const MOVES_APART = 10;
 const SHARE_BY_NODES = 0.5;
 // how far apart nodes are at least, as a part of the distance at which they would fill the disc
 const SHARE_OF_ROOM = 0.6;
+// a larger network needs all the room that there is, so that its rings become ellipses
+const MOST_ROUND = 100;
+// margins in pixels, and in parts of a small box; of a large network for the largest mark with its ring
+const MARGIN = { most: 46, part: 0.08 };
+const LARGE_MARGIN = { most: 24, part: 0.06 };
 
 /** Positions of nodes, in units of their own, and whether they may be stretched to fill a box. */
 class Layout {
   constructor(network, root) {
     this.x = new Float64Array(network.nodes);
     this.y = new Float64Array(network.nodes);
-    this.isStretched = false;
+    this.isLarge = network.nodes > MOST_ROUND;
+    this.isStretched = this.isLarge;
     const degrees = network.near.map((near) => near.length);
     const hub = degrees.indexOf(network.nodes - 1);
     if (network.nodes > 1 && degrees.every((degree) => degree <= 2)) this._chain(network, degrees);
@@ -101,8 +107,10 @@ class Layout {
     });
   }
 
-  /** Functions from a node to its place in a box of this size, with a margin. */
-  fitted(width, height, margin) {
+  /** Each node's place in a box of this size, within a margin. */
+  fitted(width, height) {
+    const { most, part } = this.isLarge ? LARGE_MARGIN : MARGIN;
+    const margin = Math.min(most, part * Math.min(width, height));
     const [left, right] = d3.extent(this.x);
     const [top, bottom] = d3.extent(this.y);
     const across = Math.max(right - left, 1e-9);

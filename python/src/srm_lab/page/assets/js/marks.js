@@ -1,11 +1,16 @@
 // The marks that stand for members, packets and drops: each told apart by its shape, not by its colour alone.
 
+// the corners of a plus around its middle, where its arms are 1.25 long
+const PLUS = [[-0.45, -1.25], [0.45, -1.25], [0.45, -0.45], [1.25, -0.45], [1.25, 0.45], [0.45, 0.45],
+  [0.45, 1.25], [-0.45, 1.25], [-0.45, 0.45], [-1.25, 0.45], [-1.25, -0.45], [-0.45, -0.45]];
+
 /** Adds a shape to the path. */
 function outline(context, shape, x, y, r) {
   switch (shape) {
     case "square": context.rect(x - 0.9 * r, y - 0.9 * r, 1.8 * r, 1.8 * r); break;
     case "triangle": polygon(context, [[x, y - 1.25 * r], [x + 1.15 * r, y + 0.85 * r], [x - 1.15 * r, y + 0.85 * r]]); break;
     case "diamond": polygon(context, [[x, y - 1.25 * r], [x + 1.25 * r, y], [x, y + 1.25 * r], [x - 1.25 * r, y]]); break;
+    case "plus": polygon(context, PLUS.map(([across, down]) => [x + across * r, y + down * r])); break;
     default:
       context.moveTo(x + r, y);
       context.arc(x, y, r, 0, 2 * Math.PI);
@@ -13,7 +18,8 @@ function outline(context, shape, x, y, r) {
 }
 
 const ROLE_SHAPES = { sender: "square", receiver: "circle", late: "triangle", listener: "diamond" };
-const KIND_SHAPES = ["circle", "triangle", "square", "diamond"];
+// a repair is of no member's shape, so that it is not taken for one that plans it
+const KIND_SHAPES = ["circle", "triangle", "plus", "diamond"];
 
 /** Adds a member's outline to the path. */
 function roleOutline(context, role, x, y, r) {
@@ -105,7 +111,7 @@ function stateStyle(theme, state) {
   switch (STATES[state]) {
     case "absent": return { fill: theme.paper, ring: theme.soft, width: 1.2, dash: [2, 2] };
     case "holds": return { fill: theme.holds, ring: theme.ink, width: 1.2, dash: [] };
-    case "plans": return { fill: theme.plans, ring: theme.repair, width: 3, dash: [] };
+    case "plans": return { fill: theme.plans, ring: theme.plans, width: 1.2, dash: [] };
     case "rests": return { fill: theme.rests, ring: theme.repair, width: 1.6, dash: [3, 2] };
     case "lacks": return { fill: theme.lacks, ring: theme.ink, width: 1.2, dash: [] };
     case "asked": return { fill: theme.asked, ring: theme.lacks, width: 3, dash: [] };
@@ -144,7 +150,7 @@ function drawSmallMember(context, theme, role, state, x, y, r) {
 function smallStyle(theme, state) {
   switch (STATES[state]) {
     case "holds": return { fill: theme.edge, ring: theme.edge, width: 0.5 };
-    case "plans": return { fill: theme.repair, ring: theme.repair, width: 1 };
+    case "plans": return { fill: theme.plans, ring: theme.plans, width: 1 };
     case "rests": return { fill: theme.paper, ring: theme.repair, width: 1.2 };
     case "lacks": return { fill: theme.lacks, ring: theme.lacks, width: 1 };
     case "asked": return { fill: theme.asked, ring: theme.lacks, width: 1.2 };

@@ -4,7 +4,6 @@ const MOST_RADIUS = 17;
 const READABLE_RADIUS = 9;
 const LEAST_RADIUS = 1.6;
 const MOST_SPACING = 120;
-const NETWORK_MARGIN = 46;
 const MOST_PICKED_LABELS = 12;
 // parts of the way along a link
 const LINK_LABEL_PLACES = [0.3, 0.5, 0.7];
@@ -36,7 +35,7 @@ class NetworkView {
   resize() {
     this.surface.fit();
     const { width, height } = this.surface;
-    this.fitted = this.layout.fitted(width, height, Math.min(NETWORK_MARGIN, 0.08 * Math.min(width, height)));
+    this.fitted = this.layout.fitted(width, height);
     const points = Array.from(this.fitted.x, (x, node) => [x, this.fitted.y[node]]);
     this.spacing = spacingOf(points, MOST_SPACING);
     this.memberSpacing = spacingOf(this.network.memberNodes.map((node) => points[node]), MOST_SPACING);
