@@ -36,6 +36,7 @@ BLUE, ORANGE, GREEN, PURPLE, GREY = "#0072b2", "#d55e00", "#009e73", "#cc79a7", 
 COLOURS = (BLUE, ORANGE, GREEN, PURPLE, "#e69f00", "#56b4e9", "#000000")
 THEORY = "#222222"
 DOTS = 72  # that an SVG has to an inch
+STEP = 0.025  # from the bar of one line to the next line's, as a part of the axis
 STYLES = ("--", ":", "-.")
 MARKS = "osv^D<>"
 ROUND = [factor * 10**power for power in range(-2, 4) for factor in (1, 1.5, 2, 3, 5, 7)]
@@ -164,13 +165,33 @@ def lines(tables: list[pandas.DataFrame], words: dict[str, str]) -> Figure:
         if y not in table:
             raise SystemExit(f"there is no column {y!r}: there are {', '.join(table.columns)}")
         groups = [("", table)] if by is None else [(f"{label_of(by)} {value}", one) for value, one in table.groupby(by)]
-        for (label, one), colour, mark in zip(groups, COLOURS * len(groups), MARKS * len(groups)):
-            means(axes, one, x, y, (colour, mark, label or label_of(y).split("\n")[0]), band=len(groups) == 1)
+        places, step = places_of(table[x], len(groups))
+        for at, ((label, one), colour, mark) in enumerate(zip(groups, COLOURS * len(groups), MARKS * len(groups))):
+            look = colour, mark, label or label_of(y).split("\n")[0]
+            shift = step * (at - (len(groups) - 1) / 2)
+            means(axes, one.assign(place=one[x].map(places)), "place", y, look, band=len(groups) == 1, beside=(shift, 0))
         axes.set_xlabel(label_of(x))
         axes.set_ylabel(label_of(y))
-        if pandas.api.types.is_numeric_dtype(table[x]):
-            name_ticks(axes.xaxis, sorted(table[x].unique()))
+        axes.set_xticks(list(places.values()), [f"{it:g}" if are_numbers(table[x]) else str(it) for it in places])
     return finish(figure, list(grid[0]), tables)
+
+
+def are_numbers(values: pandas.Series) -> bool:
+    """Whether values are numbers, of which true and false are none here."""
+    return pandas.api.types.is_numeric_dtype(values) and not pandas.api.types.is_bool_dtype(values)
+
+
+def places_of(values: pandas.Series, count: int) -> tuple[dict[Any, float], float]:
+    """Where values stand along an axis, and how far apart the bars of so many lines stand beside each other at each.
+
+    Numbers stand where they are; those that are too close for their bars, and other values, equally far from each other.
+    """
+    shown = sorted(values.dropna().unique())
+    if are_numbers(values) and len(shown) > 1:
+        step = STEP * (shown[-1] - shown[0])
+        if min(later - one for one, later in zip(shown, shown[1:])) >= (count + 1) * step:
+            return dict(zip(shown, shown)), step
+    return dict(zip(shown, range(len(shown)))), min(STEP * max(1, len(shown) - 1), 1 / (count + 1))
 
 
 def requests_in_a_star(tables: list[pandas.DataFrame], words: dict[str, str]) -> Figure:

@@ -1,9 +1,11 @@
 """What figures show: means with intervals over seeds, quartiles, and axes that say what they are."""
+import itertools
 import re
 
 import pandas
 import pytest
 from matplotlib.container import ErrorbarContainer
+from matplotlib.transforms import Bbox
 
 import adaptive_figures
 import figures
@@ -207,3 +209,37 @@ def test_two_kinds_of_timers_do_not_stand_over_each_other(tmp_path):
             fixed, adaptive = ([round(x, 3) for x in lines.lines[0].get_xdata()] for lines in axes.containers
                                if isinstance(lines, ErrorbarContainer))
             assert (fixed, adaptive) == places
+
+
+def bars_at(axes):
+    """Of each tick of an axis what stands there: the box of each mean's mark and bar, in dots."""
+    found = {}
+    ticks = axes.get_xticks()
+    for lines in (it for it in axes.containers if isinstance(it, ErrorbarContainer)):
+        marks, caps, (bars,) = lines.lines
+        for segment, (x, _) in zip(bars.get_segments(), marks.get_xydata()):
+            (left, low), (right, high) = axes.transData.transform(segment)
+            half = max([marks.get_markersize(), *(2 * cap.get_markersize() / 2 for cap in caps)]) / 2 * axes.figure.dpi / 72
+            box = Bbox([(left - half, low), (right + half, high)])
+            found.setdefault(min(ticks, key=lambda tick: abs(tick - x)), []).append(box)
+    return found
+
+
+@pytest.mark.parametrize("x, by, crowded, labels", [
+    ("c2", "drop_link", False, ["1", "2"]), ("drop_link", "c2", False, ["hops:1", "hops:2"]),
+    ("adaptive", "size", False, ["False", "True"]), ("c2", "size", True, ["0", "1", "2", "4", "8", "16", "32", "64"])])
+def test_bars_of_lines_at_one_x_stand_beside_each_other(tmp_path, x, by, crowded, labels):
+    path = tmp_path / "one.csv"
+    path.write_text(HEADER + (ROWS if not crowded else "".join(
+        f"chain,True,{size},{size},hops:1,1000,2,1,{c2},{seed},0/0/0,3,0,0,{seed},1,5,5,{c2}{seed},4000,500\n"
+        for size in (10, 20, 30) for c2 in labels for seed in (1, 2, 3))))
+    figure = figures.lines([figures.read(path)], {"x": x, "y": "ratio", "by": by})
+    figure.canvas.draw()
+    axes, = figure.axes
+    found = bars_at(axes)
+    assert [label.get_text() for label in axes.get_xticklabels()] == labels and len(found) == len(labels)
+    for tick, boxes in found.items():
+        assert len(boxes) == (3 if crowded else 2)
+        assert not [(tick, one, other) for one, other in itertools.combinations(boxes, 2) if one.overlaps(other)]
+    names = [label.get_window_extent() for label in axes.get_xticklabels()]
+    assert not [1 for one, other in itertools.combinations(names, 2) if one.overlaps(other)]
