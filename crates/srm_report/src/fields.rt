@@ -26,8 +26,7 @@ pub(crate) fn put_dash(line: &mut Line)
     ensures room { line_room line.old ≡ line_room line.new + 2 }
     ensures written { line_written line.new ≡ comma ∷ (codes "-" ++ line_written line.old) }
 {
-    line.put_byte(b'-');
-    line.put_byte(b',');
+    line.put_two(b',', b'-');
 }
 
 // Puts a number in digits.
@@ -37,8 +36,7 @@ pub(crate) fn put_number(line: &mut Line, number: u64)
     ensures room { line_room line.old ≤ line_room line.new + 21 }
     ensures written { line_written line.new ≡ comma ∷ (decimal number ++ line_written line.old) }
 {
-    line.put_digits(number);
-    line.put_byte(b',');
+    line.put_marked(b',', number);
 }
 
 // Puts a sum of numbers in digits.
@@ -69,8 +67,7 @@ pub(crate) fn put_delay(line: &mut Line, took: u64, way: u64)
     ensures room { line_room line.old ≤ line_room line.new + 42 }
     ensures written { line_written line.new ≡ comma ∷ (decimal took ++ codes "/" ++ decimal way ++ line_written line.old) }
 {
-    line.put_digits(way);
-    line.put_byte(b'/');
+    line.put_marked(b'/', way);
     put_number(line, took);
 }
 
@@ -81,8 +78,7 @@ pub(crate) fn put_packet(line: &mut Line, packet: PacketId)
     ensures room { line_room line.old ≤ line_room line.new + 42 }
     ensures written { line_written line.new ≡ comma ∷ (packet_text packet ++ line_written line.old) }
 {
-    line.put_digits(packet.count);
-    line.put_byte(b':');
+    line.put_marked(b':', packet.count);
     put_number(line, u64::from(packet.sender));
 }
 
@@ -93,9 +89,7 @@ pub(crate) fn put_name(line: &mut Line, name: Name)
     ensures room { line_room line.old ≤ line_room line.new + 63 }
     ensures written { line_written line.new ≡ comma ∷ (name_text name ++ line_written line.old) }
 {
-    line.put_digits(u64::from(name.number));
-    line.put_byte(b'/');
-    line.put_digits(u64::from(name.page));
-    line.put_byte(b'/');
+    line.put_marked(b'/', u64::from(name.number));
+    line.put_marked(b'/', u64::from(name.page));
     put_number(line, u64::from(name.source));
 }

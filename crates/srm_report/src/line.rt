@@ -19,7 +19,7 @@ pub(crate) struct Line {
 }
 
 impl Line {
-    ghost use Rattle.std.specs.Prelude.{◌≡◌, ◌+◌, ◌≤◌, [], ◌∷◌, ◌++◌, length, decimal};
+    ghost use Rattle.std.specs.Prelude.{◌≡◌, ◌+◌, ◌-◌, ◌≤◌, [], ◌∷◌, ◌++◌, drop, length, decimal};
     ghost use Rattle.csv.specs.Machine.{line_feed};
     ghost use Rattle.srm_report.specs.Lines.{full_room, line_room, line_text, line_written};
 
@@ -76,18 +76,44 @@ impl Line {
         self.start = start;
     }
 
-    // Writes a number in digits before the others.
-    #[inline]
-    pub(crate) fn put_digits(&mut self, number: u64)
-        requires { 20 ≤ line_room self.old }
-        ensures room { line_room self.old ≤ line_room self.new + 20 }
-        ensures written { line_written self.new ≡ decimal number ++ line_written self.old }
+    // Writes two bytes before the others.
+    #[inline(always)]
+    pub(crate) fn put_two(&mut self, first: u8, second: u8)
+        requires { 2 ≤ line_room self.old }
+        ensures room { line_room self.old ≡ line_room self.new + 2 }
+        ensures written { line_written self.new ≡ first ∷ second ∷ line_written self.old }
+    {
+        self.put_byte(second);
+        self.put_byte(first);
+    }
+
+    // Writes the last so many of eight bytes before the others.
+    //
+    // All eight are copied, since that is one move where a copy of fewer is a call: what is put next overwrites those too many.
+    #[inline(always)]
+    pub(crate) fn put_last(&mut self, bytes: [u8; 8], count: usize)
+        requires count { count ≤ 8 }
+        requires room { 8 ≤ line_room self.old }
+        ensures room { line_room self.old ≡ line_room self.new + count }
+        ensures written { line_written self.new ≡ drop (8 - count) bytes ++ line_written self.old }
+    {
+        self.put_bytes(&bytes);
+        self.start += 8 - count;
+    }
+
+    // Writes a mark and a number in digits before the others.
+    #[inline(always)]
+    pub(crate) fn put_marked(&mut self, mark: u8, number: u64)
+        requires { 21 ≤ line_room self.old }
+        ensures room { line_room self.old ≤ line_room self.new + 21 }
+        ensures written { line_written self.new ≡ mark ∷ (decimal number ++ line_written self.old) }
     {
         // Most numbers of a trace have one digit.
         if number < 10 {
-            self.put_byte(b'0' + number as u8);
+            self.put_two(mark, b'0' + number as u8);
         } else {
             self.start = write_digits(number, &mut self.bytes, self.start);
+            self.put_byte(mark);
         }
     }
 

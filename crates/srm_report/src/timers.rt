@@ -9,10 +9,10 @@ ghost use Rattle.srm_report.specs.Tables.{lines_of};
 ghost use Rattle.srm_report.specs.Timers.{timers_fields, timers_form, timers_rows, timers_table};
 
 use crate::fault::ReportFault;
-use crate::fields::{put_number, put_time, put_word};
+use crate::fields::{put_number, put_time};
 use crate::line::Line;
 use crate::listing::Listing;
-use crate::trace::{put_ref, word_of_cause};
+use crate::trace::{put_cause, put_ref};
 use srm_member::interval::Interval;
 use srm_member::intervals::Intervals;
 use srm_member::row::Row;
@@ -111,7 +111,7 @@ fn put_row(line: &mut Line, row: &Row, intervals: Intervals)
     put_constants(line, intervals.repair);
     put_constants(line, intervals.request);
     put_ref(line, &row.about);
-    put_word(line, word_of_cause(row.cause));
+    put_cause(line, row.cause);
     put_number(line, u64::from(row.key.member));
     put_number(line, row.key.time);
 }

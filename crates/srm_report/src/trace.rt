@@ -1,5 +1,5 @@
 //! The trace of a run as CSV.
-ghost use Rattle.std.specs.Prelude.{◌≡◌, ◌+◌, ◌≤◌, [], ◌∷◌, ◌++◌, length, IfOk, OnOk};
+ghost use Rattle.std.specs.Prelude.{◌≡◌, ◌+◌, ◌-◌, ◌≤◌, [], ◌∷◌, ◌++◌, drop, length, IfOk, OnOk};
 ghost use Rattle.csv.specs.Machine.{line_feed};
 ghost use Rattle.csv.specs.Writing.{comma, default_writer, row_text};
 ghost use Rattle.srm_report.specs.Listings.{lines_in};
@@ -8,7 +8,7 @@ ghost use Rattle.srm_report.specs.Rows.{or_dash};
 ghost use Rattle.srm_report.specs.Trace.{cause_word, packet_text, told_word, ref_text, trace_fields, trace_form, trace_of_rows};
 
 use crate::fault::ReportFault;
-use crate::fields::{put_dash, put_name, put_number, put_packet, put_word};
+use crate::fields::{put_dash, put_name, put_number, put_packet};
 use crate::line::Line;
 use crate::listing::Listing;
 use srm_member::row::{About, Row, Word};
@@ -103,9 +103,9 @@ fn put_row(line: &mut Line, row: &Row)
 {
     put_sent(line, &row.sent);
     put_number(line, row.lost.len() as u64);
-    put_word(line, word_of_told(row.told));
+    put_told(line, row.told);
     put_ref(line, &row.about);
-    put_word(line, word_of_cause(row.cause));
+    put_cause(line, row.cause);
     put_number(line, u64::from(row.key.member));
     put_number(line, row.key.time);
 }
@@ -135,43 +135,67 @@ fn put_sent(line: &mut Line, sent: &Option<Packet>)
     }
 }
 
-// The word of an event's kind.
-pub(crate) fn word_of_cause(cause: Word) -> &'static str
-    ensures word { result.now ≡ cause_word cause }
-    ensures short { length result.now ≤ 7 }
+// Puts the word of an event's kind.
+#[inline]
+pub(crate) fn put_cause(line: &mut Line, cause: Word)
+    requires { 8 ≤ line_room line.old }
+    ensures room { line_room line.old ≤ line_room line.new + 8 }
+    ensures written { line_written line.new ≡ comma ∷ (cause_word cause ++ line_written line.old) }
+{
+    let (bytes, count) = tag_of_cause(cause);
+    line.put_last(bytes, count);
+}
+
+// Puts the word of what came of an event.
+#[inline]
+fn put_told(line: &mut Line, told: Told)
+    requires { 8 ≤ line_room line.old }
+    ensures room { line_room line.old ≤ line_room line.new + 8 }
+    ensures written { line_written line.new ≡ comma ∷ (told_word told ++ line_written line.old) }
+{
+    let (bytes, count) = tag_of_told(told);
+    line.put_last(bytes, count);
+}
+
+// The word of an event's kind with its comma, at the end of eight bytes, and how many of them these are.
+#[inline]
+fn tag_of_cause(cause: Word) -> ([u8; 8], usize)
+    ensures count { result.1 ≤ 8 }
+    ensures word { drop (8 - result.1) result.0 ≡ comma ∷ cause_word cause }
 {
     match cause {
-        Word::Join => "join",
-        Word::Data => "data",
-        Word::Request => "request",
-        Word::Repair => "repair",
-        Word::Session => "session",
-        Word::Ask => "ask",
-        Word::Answer => "answer",
-        Word::Draw => "draw",
-        Word::Report => "report",
-        Word::Leave => "leave",
+        Word::Join => (*b"   ,join", 5),
+        Word::Data => (*b"   ,data", 5),
+        Word::Request => (*b",request", 8),
+        Word::Repair => (*b" ,repair", 7),
+        Word::Session => (*b",session", 8),
+        Word::Ask => (*b"    ,ask", 4),
+        Word::Answer => (*b" ,answer", 7),
+        Word::Draw => (*b"   ,draw", 5),
+        Word::Report => (*b" ,report", 7),
+        Word::Leave => (*b"  ,leave", 6),
     }
 }
 
-// The word of what came of an event.
-fn word_of_told(told: Told) -> &'static str
-    ensures word { result.now ≡ told_word told }
-    ensures short { length result.now ≤ 5 }
+// The word of what came of an event with its comma, at the end of eight bytes, and how many of them these are.
+#[inline]
+fn tag_of_told(told: Told) -> ([u8; 8], usize)
+    ensures count { result.1 ≤ 8 }
+    ensures word { drop (8 - result.1) result.0 ≡ comma ∷ told_word told }
 {
     match told {
-        Told::Entered => "in",
-        Told::Parted => "out",
-        Told::Fresh => "fresh",
-        Told::Fixed => "fixed",
-        Told::Again => "again",
-        Told::Skip => "skip",
-        Told::Rest => "rest",
-        Told::Busy => "busy",
-        Told::Plan => "plan",
-        Told::Hold => "hold",
-        Told::Back => "back",
-        Told::Heard => "told",
-        Told::Sent => "sent",
+        Told::Entered => (*b"     ,in", 3),
+        Told::Parted => (*b"    ,out", 4),
+        Told::Fresh => (*b"  ,fresh", 6),
+        Told::Fixed => (*b"  ,fixed", 6),
+        Told::Again => (*b"  ,again", 6),
+        Told::Skip => (*b"   ,skip", 5),
+        Told::Rest => (*b"   ,rest", 5),
+        Told::Busy => (*b"   ,busy", 5),
+        Told::Plan => (*b"   ,plan", 5),
+        Told::Hold => (*b"   ,hold", 5),
+        Told::Back => (*b"   ,back", 5),
+        Told::Heard => (*b"   ,told", 5),
+        Told::Sent => (*b"   ,sent", 5),
     }
 }

@@ -18,7 +18,7 @@ returns c =
     let c2 = field (decimal i.request.width) (decimal_is_plain i.request.width) refl refl d1 in
     let c1 = field (decimal i.request.start) (decimal_is_plain i.request.start) c.put_constants-2.ensures.written refl c2 in
     let about = field (ref_text r.about) (ref_is_plain r.about) c.put_ref.ensures.written refl c1 in
-    let cause = field (cause_word r.cause) (cause_is_plain r.cause) c.put_word.ensures.written c.word_of_cause.ensures.word about in
+    let cause = field (cause_word r.cause) (cause_is_plain r.cause) c.put_cause.ensures.written refl about in
     let member = field (decimal r.key.member) (decimal_is_plain r.key.member) c.put_number.ensures.written (ap decimal c.from.ensures)
     cause in
     let time = field (decimal r.key.time) (decimal_is_plain r.key.time) c.put_number-2.ensures.written refl member in
