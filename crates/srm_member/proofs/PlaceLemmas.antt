@@ -1,5 +1,5 @@
 -- Entries whose keys rise: what stands at a key's place, and what an entry put there makes of them.
-use Rattle.std.proofs.Common.{◌≡◌, ℕ, zero, suc, ◌<◌, ◌≤◌, ◌-◌, Bool, true, false, cond, T, List, [], ◌∷◌, length, refl, sym, ap}
+use Rattle.std.proofs.Common.{◌≡◌, ℕ, zero, suc, ◌<◌, ◌≤◌, ◌-◌, Bool, true, false, cond, T, List, [], ◌∷◌, ◌++◌, length, refl, sym, ap}
 use Rattle.std.proofs.Common.{◌∙◌, subst}
 use Rattle.std.proofs.Common.{arith, Ordering, Less, Equal, Greater, Some, None, slice_set, slice_index_or, insert, is_lt}
 use Rattle.std.specs.Ordering.{eq_by_cmp, is_eq, ordering_reverse}
@@ -72,22 +72,6 @@ module _ {K V : Type 0} (cmp : K → K → Ordering) (total : IsTotalOrder cmp) 
   place_first k [] s h = cc
   place_first k (e ∷ es) s h = place_between k (e ∷ es) 0 s (omega arith) (λ some. absurd (omega arith))
       (λ some. (e, ap is_lt (total.antisymm e.0 k ∙ ap ordering_reverse (is_Equal _ h))))
-
-  -- where the last entry stands before it, a key's place is at the end
-  pub place_at_end : (k : K) (es : List (K × V)) (d : K × V) → T (is_sorted cmp es) → 0 < length es
-      → is_before cmp k (slice_index_or es (length es - 1) d) ≡ true → IsPlaceOf cmp k es (length es)
-  place_at_end k es d s some h = (
-    omega arith,
-    (
-      λ j c low high. partitioned k es s j (length es - 1) c (omega arith) (omega arith)
-          (subst (λ e. is_before cmp k e ≡ true) (same_last es d c some) h),
-      λ j c low high. absurd (omega arith),
-    ),
-  )
-    where
-      same_last : (xs : List (K × V)) (a b : K × V) → 0 < length xs
-          → slice_index_or xs (length xs - 1) a ≡ slice_index_or xs (length xs - 1) b
-      same_last xs a b lt = same_at xs (length xs - 1) a b (omega arith)
 
   -- a key's place, entry by entry
   Stands : K → List (K × V) → ℕ → Type 0
@@ -166,6 +150,14 @@ module _ {K V : Type 0} (cmp : K → K → Ordering) (total : IsTotalOrder cmp) 
   pub put_between : (k : K) (v : V) (es : List (K × V)) (p : ℕ) → IsPlaceOf cmp k es p → is_at cmp k es p ≡ false
       → put cmp k v es ≡ insert es p (k, v)
   put_between k v es p h a = put_new k v es p (stands k es p h) a
+
+  -- a key that comes behind all
+  pub put_behind : (k : K) (v : V) (es : List (K × V)) → IsPlaceOf cmp k es (length es) → put cmp k v es ≡ es ++ (k, v) ∷ []
+  put_behind k v es h = put_between k v es (length es) h (none_there cmp k es (length es) (omega arith)) ∙ insert_last es (k, v)
+    where
+      insert_last : (xs : List (K × V)) (x : K × V) → insert xs (length xs) x ≡ xs ++ x ∷ []
+      insert_last [] x = refl
+      insert_last (y ∷ ys) x = ap (λ zs. y ∷ zs) (insert_last ys x)
 
   pub put_over : (k : K) (v : V) (es : List (K × V)) (p : ℕ) → IsPlaceOf cmp k es p → is_at cmp k es p ≡ true
       → put cmp k v es ≡ slice_set es p (k, v)

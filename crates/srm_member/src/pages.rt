@@ -48,11 +48,7 @@ impl Pages {
     fn place(&self, page: PageId) -> usize
         ensures { IsPlaceOf page_cmp page self.now result }
     {
-        let entries = self.entries.as_slice();
-        if self.is_at(0, page) {
-            return 0;
-        }
-        entries.partition_point(
+        self.entries.as_slice().partition_point(
             |entry: &(PageId, Progress)| -> bool
                 ensures { result ≡ is_before page_cmp page entry.now }
             { entry.0 < page },
@@ -70,7 +66,20 @@ impl Pages {
     }
 
     /// How far the member follows a page, if it does.
+    #[inline]
     pub fn get(&self, page: PageId) -> Option<Progress>
+        ensures value { result ≡ find page_cmp page self.now }
+        ensures kept { IfSome result (λ s. put page_cmp page s self.now ≡ self.now) }
+    {
+        // the first page is mostly the one, and takes no search
+        if self.is_at(0, page) {
+            return Some(self.entries[0].1);
+        }
+        self.get_by_place(page)
+    }
+
+    // The same by a search, whichever page it is.
+    fn get_by_place(&self, page: PageId) -> Option<Progress>
         ensures value { result ≡ find page_cmp page self.now }
         ensures kept { IfSome result (λ s. put page_cmp page s self.now ≡ self.now) }
     {
@@ -83,7 +92,20 @@ impl Pages {
     }
 
     /// Follows a page this far. After an error all is as it was.
+    #[inline]
     pub fn put(&mut self, page: PageId, progress: Progress) -> Result<(), AllocError>
+        ensures ok { OnOk result (self.new ≡ put page_cmp page progress self.old) }
+        ensures err { OnErr result (self.new ≡ self.old) }
+    {
+        if self.is_at(0, page) {
+            self.entries[0] = (page, progress);
+            return Ok(());
+        }
+        self.put_by_place(page, progress)
+    }
+
+    // The same by a search, whichever page it is.
+    fn put_by_place(&mut self, page: PageId, progress: Progress) -> Result<(), AllocError>
         ensures ok { OnOk result (self.new ≡ put page_cmp page progress self.old) }
         ensures err { OnErr result (self.new ≡ self.old) }
     {

@@ -57,17 +57,22 @@ impl<V: Copy> Rising<V> {
         follows && leads
     }
 
+    // Whether a name comes behind all entries.
+    fn is_behind(&self, name: Name) -> bool
+        ensures { IsTrue result ↔ IsPlaceOf name_cmp name self.now (length self.now) }
+    {
+        self.is_between(self.entries.len(), name)
+    }
+
     // How many entries stand before the place of a name.
     //
-    // Where the map has one page without a gap, that is the name's number, and with gaps the last name is asked for most: it takes no
-    // search, which would read entries that the processor's cache no longer has.
+    // Where the map has one page without a gap, that is the name's number, and with gaps a name behind all is asked for most: it takes
+    // no search, which would read entries that the processor's cache no longer has.
     fn place(&self, name: Name) -> usize
         ensures { IsPlaceOf name_cmp name self.now result }
     {
-        if let Some(last) = self.entries.last() {
-            if last.0 < name {
-                return self.entries.len();
-            }
+        if self.is_behind(name) {
+            return self.entries.len();
         }
         let guess = (name.number as usize).min(self.entries.len().saturating_sub(1));
         if self.is_between(guess, name) {
@@ -119,6 +124,20 @@ impl<V: Copy> Rising<V> {
     /// # Errors
     /// [`AllocError`]: all is then as it was.
     pub fn replace(&mut self, name: Name, value: V) -> Result<Option<V>, AllocError>
+        ensures before { IfOk result (λ v. v ≡ find name_cmp name self.old) }
+        ensures ok { OnOk result (self.new ≡ put name_cmp name value self.old) }
+        ensures err { OnErr result (self.new ≡ self.old) }
+    {
+        // most names come behind all: no place is looked for, and no entry moves
+        if self.is_behind(name) {
+            self.entries.push((name, value))?;
+            return Ok(None);
+        }
+        self.replace_by_place(name, value)
+    }
+
+    // The same by the name's place, whichever it is.
+    fn replace_by_place(&mut self, name: Name, value: V) -> Result<Option<V>, AllocError>
         ensures before { IfOk result (λ v. v ≡ find name_cmp name self.old) }
         ensures ok { OnOk result (self.new ≡ put name_cmp name value self.old) }
         ensures err { OnErr result (self.new ≡ self.old) }
