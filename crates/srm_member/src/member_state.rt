@@ -334,7 +334,14 @@ impl MemberState {
         if number < progress.floor() {
             return Ok(Outcome::quiet(Told::Skip, Sequence::new(alloc)));
         }
-        if number >= progress.next() {
+        if number == progress.next() {
+            // in turn, as most are: nothing is lost
+            self.progress
+                .put(page, Progress::new(progress.floor(), number + 1))?;
+            self.held.put(name, ink)?;
+            return Ok(Outcome::quiet(Told::Fresh, Sequence::new(alloc)));
+        }
+        if number > progress.next() {
             let mut lost = Sequence::new(alloc);
             self.lose_below(at, page, number, number + 1, progress, &mut lost)?;
             self.held.put(name, ink)?;
