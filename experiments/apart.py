@@ -1,5 +1,6 @@
 """Jobs of a workflow in processes of their own, which are forked: what a job needs they have loaded already."""
 import os
+import signal
 import sys
 import traceback
 from collections.abc import Callable, Sequence
@@ -9,6 +10,7 @@ def do(work: Callable[..., int | None], words: Sequence[str], log: str) -> None:
     """Does a job, whose standard error goes to a log; ChildProcessError where it fails, or gives another status than 0."""
     child = os.fork()
     if child == 0:
+        signal.signal(signal.SIGTERM, signal.SIG_DFL)  # Snakemake waits for jobs where it is told to end
         status = 1
         try:
             status = _status(work, words, log)

@@ -1,5 +1,5 @@
 # What of the Python package and the experiments needs the repository: their tests, and what is packed and installed.
-.PHONY: check-experiments test-package test-clean-root
+.PHONY: check-experiments test-package test-clean-root test-slurm
 
 test-package: $(SRM_LAB) ## runs linter, type checker and tests of all Python, as far as Debian's packages for it are installed
 	@SRM_LAB=$(abspath $(SRM_LAB)) python/tests/all.py
@@ -8,6 +8,9 @@ check-experiments: test-package check-tutorial ## the same, and then each comman
 
 test-clean-root: $(SRM_LAB) ## as root, in minutes: installs wheel and Debian package in a root of Debian alone, and tests them
 	cd python && SRM_LAB=$(abspath $(SRM_LAB)) $(PYTHON) -m pytest -q -rs --durations=0 -p no:cacheprovider -m clean_root
+
+test-slurm: ## as root, in minutes: sets up a Slurm of one node, and makes sweeps there whose jobs, node and make end early
+	cd python && $(PYTHON) -m pytest -q -rs --durations=0 -p no:cacheprovider -m one_node tests/test_one_node.py
 
 # time and memory beside the plain program of bench/, which `make bench` builds too, and beside ns-2
 PLAIN := out/baseline

@@ -47,7 +47,7 @@ CONFIG_FILE = $(firstword $(wildcard $(PWD)/$(CONFIG) $(abspath $(CONFIG)) $(abs
 # results: the lock is the process's, so that a killed sweep leaves none behind
 SNAKEMAKE = cd $(dir $(CONFIG_FILE)) && export PYTHONPATH=$(abspath python/src) SETUPTOOLS_USE_DISTUTILS=stdlib && \
 	results=$$($(PYTHON) $(abspath experiments/check_config.py) $(CONFIG_FILE)) && mkdir -p "$$results" && \
-	flock --verbose --nonblock --conflict-exit-code 3 "$$results/.lock" \
+	flock --verbose --nonblock --conflict-exit-code 3 "$$results/.lock" $(UNDER) \
 	$(PYTHON) $(abspath experiments/snakemake_alone.py) --snakefile $(abspath experiments/Snakefile) --scheduler greedy \
 	--force-use-threads --nolock --rerun-incomplete --keep-going --show-failed-logs --configfile $(CONFIG_FILE) \
 	--config program=$(abspath $(SRM_LAB))
@@ -57,12 +57,14 @@ REPORT = && realpath "$$results/report.html"
 experiments: $(SRM_LAB) ## makes the sweeps of experiments/config.yaml or CONFIG=.., their figures and report; keeps what is there
 	$(SNAKEMAKE) --cores $(JOBS) $(REPORT)
 
-# the directory has to be one that all nodes share
+# the directory has to be one that all nodes share; a job is over when Slurm says so, and none outlives make
 experiments-slurm: CORES ?= 4
+experiments-slurm: UNDER = $(PYTHON) $(abspath experiments/slurm/sweep.py) $$PPID "$$results"
 experiments-slurm: $(SRM_LAB) ## the same by Slurm: make experiments-slurm JOBS=2 CORES=2 SBATCH="--partition=short --time=30"
 	@command -v sbatch > /dev/null || { echo "there is no Slurm here: no sbatch is on the path" >&2; exit 1; }
-	$(SNAKEMAKE) --jobs $(JOBS) --cores $(CORES) --latency-wait 60 \
-		--cluster "sbatch --parsable --cpus-per-task={threads} --output=.snakemake/slurm-%j.log $(SBATCH)" $(REPORT)
+	$(SNAKEMAKE) --jobs $(JOBS) --cores $(CORES) --latency-wait 60 --jobscript $(abspath experiments/slurm/jobscript.sh) \
+		--cluster "sbatch --parsable --cpus-per-task={threads} --output=.snakemake/slurm-%j.log $(SBATCH) --job-name=\$$SWEEP" \
+		--cluster-status "$(PYTHON) -IS $(abspath experiments/slurm/status.py)" --cluster-cancel true $(REPORT)
 
 .PHONY: random-loss
 random-loss: $(SRM_LAB) ## data alone lost at random, and all packets: experiments/results/random_loss.svg

@@ -3,7 +3,7 @@
 #
 #   slurm/one_node.sh start DIR    starts munged, slurmctld and slurmd with their files under DIR, and waits till the
 #                                  node is idle; then: export SLURM_CONF=DIR/slurm.conf
-#   slurm/one_node.sh stop DIR     stops the processes that start started, by their numbers
+#   slurm/one_node.sh stop DIR     stops the processes that start started, by their numbers, and waits till they end
 #
 # It has one partition, `all`, no accounts and no time limit, so that jobs need no options for these. For a cluster that
 # wants them: make experiments-slurm SBATCH="--partition=NAME --account=NAME --time=MINUTES"
@@ -59,7 +59,10 @@ CONF
 stop() {
     for file in "$dir/slurmd.pid" "$dir/slurmctld.pid" "$dir/munge/pid"; do
         if [ -s "$file" ]; then
-            kill "$(cat "$file")" || true
+            local process
+            process=$(cat "$file")
+            kill "$process" || true
+            timeout 20 tail --pid="$process" --follow /dev/null || kill -KILL "$process"
         fi
     done
 }

@@ -13,7 +13,7 @@ ROOT = Path(__file__).resolve().parents[2]
 MIRROR = os.environ.get("MIRROR", "http://deb.debian.org/debian")
 # what these tests need besides, and of the package's tests those that need more than the package
 NEEDED = ("python3-pytest", "python3-yaml", "python3-venv")
-OTHERS = ("clean_root", "make", "packaging", "packed", "page_browser", "workflow")
+OTHERS = ("clean_root", "make", "one_node", "packaging", "packed", "page_browser", "slurm", "workflow")
 pytestmark = pytest.mark.clean_root
 
 
