@@ -38,6 +38,8 @@ EPOCH = $(shell git log -1 --format=%ct)
 # a Debian package names who made it, and a commit before a release is older than the release
 MAINTAINER ?= $(shell git log -1 --format='%an <%ae>')
 DEB_VERSION = $(subst +,~,$(VERSION))
+# where the project is on the web, to which packages then link
+HOMEPAGE ?=
 # the oldest C library with all that the program asks of it: of every Linux with that one or a later one
 GLIBC = $(shell objdump -T $(PROGRAM) | grep -o 'GLIBC_2\.[0-9]*' | sort -V | tail -n 1 | tr -dc '0-9.' | tr . _)
 PLATFORM = manylinux_$(GLIBC)_$(shell uname -m)
@@ -75,19 +77,21 @@ dist: packed-tree ## packs the program, and all that needs no sources, for machi
 	tar -C $(PACKED) --sort=name --owner=0 --group=0 --numeric-owner --mtime=@$(EPOCH) -cf - $(DIST) | gzip -n9 > $(TREE).tar.gz
 	@echo $(TREE).tar.gz
 
-wheel: packed-tree ## makes a wheel of the Python package with the program in it
+wheel: packed-tree ## makes a wheel of the Python package, with program and documents; HOMEPAGE= is where it links to
 	rm -rf $(PACKED)/wheel && cp -r $(TREE)/python $(PACKED)/wheel && cp -r $(TREE)/bin $(TREE)/share $(PACKED)/wheel/
-	cp $(TREE)/LICENSE-* $(TREE)/NOTICES.md $(PACKED)/wheel/
+	cp $(TREE)/LICENSE-* $(TREE)/NOTICES.md $(TREE)/README.md $(PACKED)/wheel/
 	git show HEAD:packaging/wheel.toml | sed 's/@PLATFORM@/$(PLATFORM)/' >> $(PACKED)/wheel/pyproject.toml
-	sed -i 's/^version = .*/version = "$(VERSION)"/' $(PACKED)/wheel/pyproject.toml
+	sed -i -e 's/^version = .*/version = "$(VERSION)"\nreadme = "README.md"/' \
+		$(if $(HOMEPAGE),-e 's|^\[project.urls\]|&\nHomepage = "$(HOMEPAGE)"|') $(PACKED)/wheel/pyproject.toml
 	SOURCE_DATE_EPOCH=$(EPOCH) $(PYTHON) -m pip --quiet --disable-pip-version-check wheel --no-deps --no-index \
 		--no-build-isolation --wheel-dir $(PACKED) $(PACKED)/wheel
 	@ls -t $(PACKED)/srm_lab-*.whl | head -n 1
 
-deb: packed-tree ## makes a Debian package of the program and the Python package
+deb: packed-tree ## makes a Debian package of the program and the Python package, linked as the wheel is
 	rm -rf $(PACKED)/deb && mkdir -p $(PACKED)/deb && cp -r $(TREE) $(PACKED)/deb/srm-lab
 	git archive HEAD packaging/debian | tar -x -C $(PACKED)/deb/srm-lab --strip-components=1
-	cd $(PACKED)/deb/srm-lab/debian && sed -i 's/@MAINTAINER@/$(MAINTAINER)/' control && printf '%s\n' \
+	cd $(PACKED)/deb/srm-lab/debian && sed -i -e 's/@MAINTAINER@/$(MAINTAINER)/' \
+		$(if $(HOMEPAGE),-e 's|^Standards-Version|Homepage: $(HOMEPAGE)\n&|') control && printf '%s\n' \
 		'srm-lab ($(DEB_VERSION)) unstable; urgency=medium' '' '  * What changed is in CHANGELOG.md.' '' \
 		" -- $(MAINTAINER)  $$(LC_ALL=C date -R -u -d @$(EPOCH))" > changelog
 	cd $(PACKED)/deb/srm-lab && SOURCE_DATE_EPOCH=$(EPOCH) dpkg-buildpackage --build=binary --no-sign > ../log 2>&1 || { cat ../log; exit 1; } >&2

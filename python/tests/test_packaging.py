@@ -1,4 +1,4 @@
-"""The man pages and the completions: they name the options of the commands, and the keys of the format.
+"""Man pages, completions and examples: they name the options of the commands, the keys of the format, and what they show.
 
 Each test needs a program of its own (mandoc, fish, zsh), and is skipped without it.
 """
@@ -62,6 +62,26 @@ def test_man_page_is_clean(page):
 
 def test_man_page_names_each_option(options):
     assert missing(options, read("srm_lab.1")) == []
+
+
+def test_synopsis_of_the_man_page_has_each_option(srm_lab, options):
+    synopsis = read("srm_lab.1").partition("SYNOPSIS")[2].partition("DESCRIPTION")[0]
+    short = re.findall(r"^ +(-\w), --", srm_lab("", "--help"), re.MULTILINE)
+    assert {"-h", "-V"} <= set(short)
+    assert missing([*options, *short], synopsis) == []
+
+
+def test_man_page_refers_to_the_paper_as_the_citation_does():
+    paper = dict(re.findall("^    ([a-z]+): (.+)$", (ROOT / "CITATION.cff").read_text(), re.MULTILINE))
+    reference = " ".join(read("srm_lab.1").partition("SEE ALSO")[2].split())
+    known = ("title", "journal", "volume", "issue", "year", "start", "end", "doi")
+    assert [key for key in known if paper[key] not in reference] == []
+
+
+def test_example_says_what_it_shows_in_its_first_line():
+    firsts = [path.read_text().splitlines()[0] for path in sorted((ROOT / "examples").glob("*.toml"))]
+    assert firsts and [line for line in firsts if not re.fullmatch(r"# Shows .{20,}\.", line)] == []
+    assert len(set(firsts)) == len(firsts)
 
 
 @pytest.mark.parametrize("kind", KINDS)

@@ -5,6 +5,7 @@ import shutil
 import subprocess
 import tarfile
 import zipfile
+from email.parser import Parser
 from pathlib import Path
 
 import pytest
@@ -12,6 +13,7 @@ import pytest
 ROOT = Path(__file__).resolve().parents[2]
 DEBIAN_PYTHON = "/usr/bin/python3"
 MODULES = ("pip", "setuptools", "wheel", "venv", "ensurepip", "pandas")
+HOMEPAGE = "https://example.org/srm_lab"
 SCENARIO = ROOT / "examples/chain-of-five-one-loss.toml"
 
 
@@ -103,7 +105,8 @@ def wheel(pack):
     """The wheel."""
     script = f"import importlib.util; print(*(one for one in {MODULES} if importlib.util.find_spec(one) is None))"
     absent = subprocess.run([DEBIAN_PYTHON, "-c", script], capture_output=True, text=True, check=True).stdout.strip()
-    return pytest.skip(f"Debian's Python has no {absent}") if absent else pack("wheel")
+    return pytest.skip(f"Debian's Python has no {absent}") if absent else \
+        pack("wheel", f"HOMEPAGE={HOMEPAGE}")
 
 
 def test_wheel_is_for_the_systems_that_have_the_c_library(wheel, version, program):
@@ -114,8 +117,29 @@ def test_wheel_is_for_the_systems_that_have_the_c_library(wheel, version, progra
     assert re.findall(r"NEEDED +(\S+)", needed) == ["libc.so.6"]
     with zipfile.ZipFile(wheel) as archive:
         names = archive.namelist()
-    assert [name.rpartition("/")[2] for name in names if ".dist-info/LICENSE" in name or "NOTICES" in name] == [
+    assert [name.rpartition("/")[2] for name in names if re.search(".dist-info/(LICENSE|NOTICES)", name)] == [
         "LICENSE-APACHE", "LICENSE-MIT", "NOTICES.md"]
+
+
+def test_wheel_has_the_documents(wheel, pack):
+    share = Path(str(pack("dist")).removesuffix(".tar.gz")) / "share"
+    with zipfile.ZipFile(wheel) as archive:
+        found = {name.partition(".data/data/share/")[2] for name in archive.namelist() if ".data/data/share/" in name}
+    assert {"doc/srm_lab/docs/FORMATS.md", "doc/srm_lab/README.md", "doc/srm_lab/examples/two-nodes.toml"} <= found
+    assert found == {str(path.relative_to(share)) for path in share.rglob("*") if path.is_file()}
+
+
+def test_wheel_says_what_it_is(wheel, version):
+    with zipfile.ZipFile(wheel) as archive:
+        (name,) = [name for name in archive.namelist() if name.endswith(".dist-info/METADATA")]
+        told = Parser().parsestr(archive.read(name).decode())
+    assert told["Version"].partition("+")[0] == version and "verified simulator" in told["Summary"]
+    assert told["License"] == "MIT OR Apache-2.0" and told["Author"] == "The srm_lab developers"
+    assert {"License :: OSI Approved :: MIT License", "License :: OSI Approved :: Apache Software License",
+            "Operating System :: POSIX :: Linux"} <= set(told.get_all("Classifier"))
+    assert told.get_all("Project-URL") == [f"Homepage, {HOMEPAGE}", "Protocol, https://doi.org/10.1109/90.650139"]
+    assert told["Description-Content-Type"] == "text/markdown"
+    assert told.get_payload() == (ROOT / "packaging/packed.md").read_text()
 
 
 def test_wheel_is_all_that_has_to_be_installed(wheel, tmp_path, monkeypatch):
@@ -146,7 +170,9 @@ def test_wheel_is_all_that_has_to_be_installed(wheel, tmp_path, monkeypatch):
 
 def test_debian_package(pack):
     needs("dpkg-buildpackage", "dh_python3", "lintian")
-    package = pack("deb")
+    package = pack("deb", f"HOMEPAGE={HOMEPAGE}")
+    linked = subprocess.run(["dpkg", "--field", package, "Homepage"], capture_output=True, text=True, check=True).stdout
+    assert linked == f"{HOMEPAGE}\n"
     listed = subprocess.run(["dpkg", "-c", package], capture_output=True, text=True, check=True).stdout
     names = {line.split()[5].removeprefix("./") for line in listed.splitlines()}
     assert {"usr/bin/srm_lab", "usr/bin/srm-scenarios", "usr/lib/python3/dist-packages/srm_lab/cli.py",
