@@ -15,7 +15,7 @@ from pathlib import Path
 
 ROOT = Path(__file__).resolve().parents[2]
 PYTHON = "/usr/bin/python3"
-MODULES = "python3-networkx python3-pandas python3-matplotlib python3-scipy python3-tomli-w python3-tqdm python3-yaml"
+MODULES = "python3-networkx python3-pandas python3-matplotlib python3-scipy python3-tqdm python3-yaml"
 NEEDS = {
     "the linter": "flake8",
     "the type checker": "mypy",
@@ -25,6 +25,7 @@ NEEDS = {
 PARTS = {
     "the browser's tests": "python3-selenium chromium chromium-driver node-d3",
     "the tests of sweeps": "snakemake",
+    "the test of the notebook": "python3-nbconvert python3-ipykernel",
     "the tests of man pages and completions": "mandoc fish zsh",
     "the tests of the wheel": "python3-pip python3-setuptools python3-venv python3-wheel",
     "the test of the Debian package": "debhelper dh-python lintian",

@@ -8,6 +8,7 @@ if TYPE_CHECKING:
     from .frames import save
     from .graphs import Delays
     from .history import History
+    from .interval_plot import plot
     from .reading import load_scenario, read_scenario
     from .runs import Runs, run
     from .scenario import Scenario
@@ -19,10 +20,10 @@ __version__ = "0.2.0"
 COMMIT = "$Format:%h$"  # `git archive`, by which all is packed, puts the commit's number here
 __version__ += "" if COMMIT.startswith("$") else f"+{COMMIT}"
 __all__ = ["Delays", "History", "RefusedError", "Runs", "Scenario", "ScenarioError", "Tree", "__version__", "difference",
-           "interval", "load_scenario", "paired", "read_scenario", "run", "save", "scenario", "summarise", "sweep"]
+           "interval", "load_scenario", "paired", "plot", "read_scenario", "run", "save", "scenario", "summarise", "sweep"]
 OF = {"RefusedError": "errors", "ScenarioError": "errors", "save": "frames", "Delays": "graphs", "History": "history",
-      "load_scenario": "reading", "read_scenario": "reading", "Runs": "runs", "run": "runs", "Scenario": "scenario",
-      "sweep": "sweeps", "Tree": "tree",
+      "load_scenario": "reading", "plot": "interval_plot", "read_scenario": "reading", "Runs": "runs", "run": "runs",
+      "Scenario": "scenario", "sweep": "sweeps", "Tree": "tree",
       **dict.fromkeys(("difference", "interval", "paired", "summarise"), "statistics")}  # the module of each name
 
 
@@ -35,3 +36,8 @@ def __getattr__(name: str) -> Any:
 
         raise AttributeError(f"module {__name__!r} has no attribute {name!r}{perhaps(name, __all__)}")
     return getattr(import_module(f".{OF[name]}", __name__), name)
+
+
+def __dir__() -> list[str]:
+    """The names that can be asked for, whether or not they are loaded."""
+    return sorted({*globals(), *__all__})

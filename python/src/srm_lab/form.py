@@ -156,19 +156,24 @@ def faults(table: dict[str, Any], keys: dict[str, Key]) -> Iterator[tuple[str, s
             yield key, "is missing"
 
 
-def are_faultless(elements: list[Any], keys: dict[str, Key]) -> bool:
-    """Whether each element is a table without a fault and stands for itself alone; of many that is seen at once."""
-    known = keys.keys() - {"times"}
-    if any(type(element) is not dict or not element.keys() <= known for element in elements):
-        return False
+def are_faultless(count: int, column: Callable[[str], list[Any]], keys: dict[str, Key]) -> bool:
+    """Whether so many elements have no fault; of many that is seen at once. `column` gives what they have for a key."""
     for key, one in keys.items():
-        values = [element[key] for element in elements if key in element]
-        if one.needed and len(values) < len(elements):
+        values = column(key)
+        if one.needed and len(values) < count:
             return False
         number = one.check if isinstance(one.check, Number) else None
         if not are_within(values, number.least, number.most) if number else any(map(one.check, values)):
             return False
     return True
+
+
+def _are_plain(elements: list[Any], keys: dict[str, Key]) -> bool:
+    """Whether each element is a table without a fault and stands for itself alone."""
+    known = keys.keys() - {"times"}
+    if any(type(element) is not dict or not element.keys() <= known for element in elements):
+        return False
+    return are_faultless(len(elements), lambda key: [element[key] for element in elements if key in element], keys)
 
 
 def _hint(key: str, table: dict[str, Any]) -> str:
@@ -201,7 +206,7 @@ def check_keys(table: dict[str, Any]) -> None:
     keys = elements(limits)
     for part in PARTS:
         several = table.get(part, [])
-        for place, element in enumerate(() if are_faultless(several, keys[part]) else several):
+        for place, element in enumerate(() if _are_plain(several, keys[part]) else several):
             if not isinstance(element, dict):
                 raise ScenarioError(f"{part} {place} is {element!r}, and has to be a table", part, place)
             for key, told in faults(element, keys[part]):

@@ -2,6 +2,7 @@
 import json
 from collections.abc import Callable, Iterable, Sequence
 from dataclasses import dataclass
+from functools import cache
 from io import BytesIO
 from pathlib import Path
 from typing import Any
@@ -89,8 +90,9 @@ def _ends(losses: dict[str, Any], given: Sequence[Scenario], scenarios: numpy.nd
     leaves = [[member.leave is not None and member.leave < one.end for member in one.members] for one in given]
     left = numpy.asarray(_looked_up(given, leaves, scenarios, losses["member"]), bool)
     is_open = losses["recovered"].isna()
-    several = zip(*(column[is_open].tolist() for column in (scenarios, losses["member"], losses["source"])))
-    losses["round_trip"][is_open] = [given[place].round_trip(member, source) for place, member, source in several]
+    round_trip = cache(lambda place, member, source: given[place].round_trip(member, source))  # many rows have the same
+    losses["round_trip"][is_open] = [*map(round_trip, *(
+        column[is_open].tolist() for column in (scenarios, losses["member"], losses["source"])))]
     return {"ended": ENDS[numpy.where(is_open, numpy.where(left, 1, 2), 0)]}
 
 

@@ -65,8 +65,11 @@ def _run(part: str, elements: list[Element], place: int) -> tuple[int, int]:
     key = APART[part][0]
     every = elements[place + 1][key] - elements[place][key]
     more = steps(part, every)
-    last = place
-    while every >= 0 and last + 1 < len(elements) and elements[last + 1] == elements[last] | {
-            key: elements[last][key] + step for key, step in more.items()}:
+    last, copy = place, dict(elements[place])
+    while every >= 0 and last + 1 < len(elements):
+        for key, step in more.items():
+            copy[key] += step
+        if elements[last + 1] != copy:
+            break
         last += 1
     return last + 1 - place, every

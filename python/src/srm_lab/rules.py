@@ -1,20 +1,11 @@
 """What the parts of a scenario have to be to each other, as docs/FORMATS.md has it, in the order of its refusals."""
+from collections.abc import Collection
 from typing import TYPE_CHECKING
 
 from .errors import ScenarioError
 
 if TYPE_CHECKING:
     from .scenario import Scenario
-
-
-def check_rules(given: "Scenario") -> None:
-    """Refuses a scenario whose parts do not fit each other, with the first of its faults."""
-    _members(given)
-    _draws(given)
-    _sessions(given)
-    _drops(given)
-    _outages(given)
-    _losses(given)
 
 
 def _members(given: "Scenario") -> None:
@@ -104,3 +95,21 @@ def _losses(given: "Scenario") -> None:
         if loss.end is not None and loss.first >= loss.end:
             raise ScenarioError(f"loss {place}: `from` is {loss.first}, and has to be below `to`, {loss.end}",
                                 "loss", place, "from")
+
+
+# in the order of refusals, each with the fields of a scenario by which it may be broken; an end that is not set suits all
+RULES = (
+    (_members, {"tree", "members", "until"}),
+    (_draws, {"members", "draws", "until"}),
+    (_sessions, {"members", "sessions", "until"}),
+    (_drops, {"tree", "members", "drops"}),
+    (_outages, {"tree", "outages"}),
+    (_losses, {"tree", "random_losses"}),
+)
+
+
+def check_rules(given: "Scenario", changed: Collection[str] | None = None) -> None:
+    """Refuses a scenario whose parts do not fit each other: its first fault, or that of some changed fields."""
+    for rule, fields in RULES:
+        if changed is None or not fields.isdisjoint(changed):
+            rule(given)

@@ -5,9 +5,10 @@ import json
 import os
 import sys
 import tempfile
+import warnings
 from collections.abc import Callable, Iterable, Iterator, Sequence
 from concurrent.futures import ProcessPoolExecutor, ThreadPoolExecutor
-from dataclasses import dataclass, field
+from dataclasses import dataclass
 from functools import cached_property, partial
 from multiprocessing import get_context
 from operator import index
@@ -17,10 +18,12 @@ from typing import Any
 import pandas
 import tqdm
 
-from . import __version__
+from . import __version__, shown
 from .errors import RefusedError, ScenarioError, perhaps, spelled, verbs_spelled
 from .frames import COLUMNS, Frames, Text, frame_of, joined, save
 from .limits import MOST_SEED, within
+from .page.cut import Cut
+from .page.shown import Page, page_of
 from .scenario import Scenario
 from .statistics import Statistic, evaluated, summarise
 from .timers import COLUMNS as TIMERS, timers_of
@@ -110,10 +113,9 @@ def perform_all(make: Callable[[int], Scenario], jobs: Sequence[Job], asked: Ask
     """
     processors = workers or len(os.sched_getaffinity(0))
     several = min(len(jobs), processors)
-    if several > 1:  # what all workers need is there before they are: what making scenarios loads, the program's digest
-        make(jobs[0][0]).digest(), asked.digest
-    is_shown = sys.stderr.isatty() if progress is None else progress
-    bar = tqdm.tqdm(total=sum(len(seeds) for _, seeds in jobs), unit="run", disable=not is_shown)
+    first = make(jobs[0][0])
+    first.digest(), asked.digest  # all workers need what this loads, and so have it when they begin
+    bar = bar_of(sum(len(seeds) for _, seeds in jobs), progress)
     chunks = list(chunks_of(jobs, several))
     rest = len(chunks) % several  # parts of the last round, which share all processors
 
@@ -121,7 +123,7 @@ def perform_all(make: Callable[[int], Scenario], jobs: Sequence[Job], asked: Ask
         sharing = several if place < len(chunks) - rest else rest
         digests, texts = [], []
         for number, seeds in chunks[place]:
-            given = make(number)
+            given = first if number == jobs[0][0] else make(number)
             digests.append(given.digest())
             tell: Callable[[int], None] = nobody
             if several == 1:
@@ -152,6 +154,25 @@ def chunks_of(jobs: Sequence[Job], several: int) -> Iterator[Sequence[Job]]:
         size = min(MOST_IN_CHUNK, -(-(len(jobs) - place) // (2 * several)))
         yield jobs[place:place + size]
         place += size
+
+
+def bar_of(total: int, progress: bool | None) -> tqdm.tqdm:
+    """A bar that counts runs. Unless it is told, it is shown where somebody looks on: in a terminal, or in a notebook.
+
+    In a notebook it is one of its widgets, or a line of text where ipywidgets is not installed.
+    """
+    if not is_notebook():
+        return tqdm.tqdm(total=total, unit="run", disable=not (sys.stderr.isatty() if progress is None else progress))
+    with warnings.catch_warnings():
+        warnings.simplefilter("ignore", tqdm.TqdmWarning)  # which asks for ipywidgets
+        from tqdm.auto import tqdm as notebook_bar
+    return notebook_bar(total=total, unit="run", disable=progress is False)
+
+
+def is_notebook() -> bool:
+    """Whether this is the kernel of a notebook."""
+    shell = getattr(sys.modules.get("IPython"), "get_ipython", lambda: None)()
+    return hasattr(shell, "kernel")
 
 
 def move(bar: tqdm.tqdm, before: int, made: int) -> None:
@@ -195,7 +216,17 @@ class Runs:
 
     given: Scenario
     seeds: tuple[int, ...]
-    tables: Frames = field(repr=False)
+    tables: Frames
+    asked: Asked
+
+    def __repr__(self) -> str:
+        return shown.runs_text(self)
+
+    def _repr_html_(self) -> str:
+        return shown.runs_html(self)
+
+    def __dir__(self) -> list[str]:
+        return sorted({*super().__dir__(), *self.tables})
 
     def __getattr__(self, name: str) -> pandas.DataFrame:
         if name.startswith("_") or name not in COLUMNS:
@@ -230,6 +261,16 @@ class Runs:
         return summarise(frame, expression, by, statistic, method, level)
 
     @spelled
+    def page(self, seed: int | None = None, begin: int = 0, end: int | None = None, title: str | None = None) -> Page:
+        """The page that plays the run of a seed, by default the first; a notebook shows it, and `write` saves it.
+
+        The run is made anew for it. What was settled before tick `begin` is left out, and what came after tick `end`.
+        """
+        number = self.seeds[0] if seed is None else within("seed", seed, 0, MOST_SEED)
+        rows = trace_of(self.given.plain_text, number, self.asked.program, self.asked.options)
+        return page_of(self.given, rows, number, Cut(begin, end), title)
+
+    @spelled
     def save(self, directory: str | Path, ending: str = "csv") -> list[Path]:
         """Writes each table to a file, as `csv` or `parquet`, with what it is of beside it; see `save`."""
         if ending not in ("csv", "parquet"):
@@ -244,8 +285,8 @@ def run(given: Scenario, seeds: int | Iterable[int] = 1, tables: str | Iterable[
     """Runs a scenario with each seed, and gives the tables of all runs; `seeds=5` are 0 to 4.
 
     Of each table the program makes all runs of neighbouring seeds in one process, on `workers` processors (by default
-    on all); `timers` alone are put together from the trace of each run. A bar counts the runs where standard error is a
-    terminal, or where `progress` says so. A table is kept
+    on all); `timers` alone are put together from the trace of each run. A bar counts the runs in a terminal or a notebook,
+    or where `progress` says so. A table is kept
     in the folder `cache` (by default the user's, srm_lab in XDG_CACHE_HOME), and read from there where scenario, seeds
     and program are the same; with None nothing is kept. The program is `program`, or SRM_LAB of the environment, or the
     one of the package's wheel, or srm_lab on the path; `options` are more words of its command line that leave the
@@ -264,7 +305,7 @@ def run(given: Scenario, seeds: int | Iterable[int] = 1, tables: str | Iterable[
     for name, frame in frames.items():
         del frame["scenario"]
         frame.attrs = {**origin(name, numbers, asked), "scenario": digest}
-    return Runs(given, numbers, frames)
+    return Runs(given, numbers, frames, asked)
 
 
 def origin(table: str, seeds: tuple[int, ...], asked: Asked) -> dict[str, Any]:

@@ -17,13 +17,13 @@ from functools import cached_property
 from pathlib import Path
 from typing import Any
 
-from . import graphs, losses, router_map, tree as trees, writing
+from . import graphs, losses, router_map, shown, tree as trees, writing
+from .checks import check
 from .errors import ScenarioError, perhaps, spelled, verbs_spelled
-from .form import check_keys
 from .graphs import Delays
+from .kept import kept
 from .limits import MOST_NUMBERS, MOST_TIME, NEWEST, VERSIONS, Limits, within
 from .parts import CONSTANTS, LIMITS, Draw, Drop, Member, Outage, RandomLoss, Session
-from .rules import check_rules
 from .setting import logarithm, setting
 from .tree import Tree
 
@@ -186,8 +186,7 @@ class Scenario:
 
     @cached_property
     def _checked(self) -> "Scenario":
-        check_keys(writing.keys_of(self))
-        check_rules(self)
+        check(self)
         return self
 
     def table(self) -> dict[str, Any]:
@@ -207,11 +206,21 @@ class Scenario:
         """The scenario file without `comments`."""
         return (replace(self, comments=()) if self.comments else self).text().encode()
 
+    def is_as(self, other: "Scenario") -> bool:
+        """Whether the other scenario has the same file, but for `comments`."""
+        return replace(self, comments=(), seed=0) == replace(other, comments=(), seed=0)
+
     def write(self, path: str | Path) -> Path:
         """Writes the scenario file, and gives its path."""
         path = Path(path)
         path.write_text(self.text(), encoding="utf-8")
         return path
+
+    def __repr__(self) -> str:
+        return f"<Scenario: {shown.line_of(self)}>"
+
+    def _repr_html_(self) -> str:
+        return shown.scenario_html(self)
 
     # ---- verbs -----------------------------------------------------------------
 
@@ -222,10 +231,7 @@ class Scenario:
         """
         made = replace(self, **changes)
         if "_checked" in vars(self) and made.least_version >= self.least_version:
-            parts = {"tree": "link", "random_losses": "loss"}
-            changed = {parts.get(one, one.removesuffix("s")) for one in changes}
-            check_keys(writing.keys_of(made, changed))
-            check_rules(made)
+            check(made, changes)
             vars(made)["_checked"] = made
         return made.check()
 
@@ -463,6 +469,7 @@ def thousandths(text: str, members: int) -> int:
 # ---- scenarios on networks of a kind -------------------------------------------
 
 @spelled
+@kept
 def chain(nodes: int, members: int | str = "all", source: int | str = "first", delay: int = DELAY,
           seed: int = 0) -> Scenario:
     """Nodes in a row. See `on` for the other words."""
@@ -470,6 +477,7 @@ def chain(nodes: int, members: int | str = "all", source: int | str = "first", d
 
 
 @spelled
+@kept
 def star(nodes: int, members: int | str = "all", source: int | str = "first", delay: int = DELAY,
          seed: int = 0) -> Scenario:
     """A hub, node 0, without a member, and a link from it to each other node. See `on` for the other words."""
@@ -477,6 +485,7 @@ def star(nodes: int, members: int | str = "all", source: int | str = "first", de
 
 
 @spelled
+@kept
 def regular_tree(nodes: int, degree: int = 4, members: int | str = "all", source: int | str = "first",
                  delay: int = DELAY, seed: int = 0) -> Scenario:
     """A tree whose inner nodes have this degree, as far as the nodes last. See `on` for the other words."""
@@ -484,6 +493,7 @@ def regular_tree(nodes: int, degree: int = 4, members: int | str = "all", source
 
 
 @spelled
+@kept
 def random_tree(nodes: int, members: int | str = "all", source: int | str = "first", delay: int = DELAY,
                 seed: int = 0) -> Scenario:
     """A random labelled tree: each one of this size has the same chance. See `on` for the other words."""

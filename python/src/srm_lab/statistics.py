@@ -2,7 +2,7 @@
 import math
 from collections.abc import Callable, Iterable, Sequence
 from dataclasses import dataclass
-from typing import TYPE_CHECKING, Union
+from typing import TYPE_CHECKING, Any, Union, overload
 
 import numpy
 import pandas
@@ -16,6 +16,7 @@ if TYPE_CHECKING:
 METHODS = ("t", "bootstrap")
 RESAMPLES = 9999
 SUMMARY = ["mean", "low", "high", "seeds", "values", "left_out"]
+PAIRED = ["mean", "low", "high", "seeds", "first", "second"]
 VALUE = "(value)"  # a column beside those of a table
 # of the values of one run: a word of pandas' own such as "mean", a quantile from 0 to 1, or a function of a Series
 Statistic = Union[str, float, Callable[[pandas.Series], float]]
@@ -177,18 +178,58 @@ class Paired:
     method: str
 
 
+@overload
+def paired(first: "Runs | pandas.DataFrame", second: "Runs | pandas.DataFrame", expression: str, by: None = None,
+           method: str = "t", level: float = 0.95) -> Paired: ...
+
+
+@overload
+def paired(first: "Runs | pandas.DataFrame", second: "Runs | pandas.DataFrame", expression: str, by: str | Sequence[str],
+           method: str = "t", level: float = 0.95) -> pandas.DataFrame: ...
+
+
 @spelled
-def paired(first: "Runs | pandas.DataFrame", second: "Runs | pandas.DataFrame", expression: str, method: str = "t",
-           level: float = 0.95) -> Paired:
+def paired(first: "Runs | pandas.DataFrame", second: "Runs | pandas.DataFrame", expression: str,
+           by: str | Sequence[str] | None = None, method: str = "t", level: float = 0.95) -> Paired | pandas.DataFrame:
     """The second setting less the first, of a column's mean on each seed, with an interval over the seeds.
 
     Each setting is runs, or a table with their seeds; both need the same seeds. An interval without 0 in it tells the
-    two apart.
+    two apart. With `by` the answer is a table with a row for each group, which both need to have: its `mean`, `low` and
+    `high` are of the difference, `first` and `second` the means of the settings.
     """
-    (one, seeds), (other, others) = (_means(table_of(given, expression), expression) for given in (first, second))
+    one, other = (table_of(given, expression) for given in (first, second))
+    if by is None:
+        return _paired(one, other, expression, method, level)
+    names = [by] if isinstance(by, str) else list(by)
+    groups, others = (_groups(frame, names) for frame in (one, other))
+    if groups.keys() != others.keys():
+        raise ScenarioError(f"a paired comparison by {', '.join(names)} needs the same groups in both settings")
+    rows = {group: _row(_paired(groups[group], others[group], expression, method, level)) for group in groups}
+    index = pandas.MultiIndex.from_tuples(rows, names=names) if len(names) > 1 else pandas.Index(
+        [group for group, in rows], name=names[0])
+    found = pandas.DataFrame(list(rows.values()), index, PAIRED).astype({"seeds": int})
+    found.attrs = {**one.attrs, "expression": expression, "method": method, "level": level}
+    return found
+
+
+def _groups(frame: pandas.DataFrame, names: list[str]) -> dict[tuple[Any, ...], pandas.DataFrame]:
+    """The rows of each group of a table, by its values in these columns."""
+    _check_columns(frame, ["seed", *names])
+    groups = frame.groupby(names if len(names) > 1 else names[0])
+    return {group if len(names) > 1 else (group,): rows for group, rows in groups}
+
+
+def _row(found: Paired) -> list[float]:
+    """A row of the table of paired differences."""
+    means = found.table.mean()
+    return [*vars(found.difference).values(), found.table["difference"].notna().sum(), means["first"], means["second"]]
+
+
+def _paired(one: pandas.DataFrame, other: pandas.DataFrame, expression: str, method: str, level: float) -> Paired:
+    (first, seeds), (second, others) = (_means(frame, expression) for frame in (one, other))
     if seeds != others:
         raise ScenarioError("a paired comparison needs the same seeds in both settings")
-    table = pandas.DataFrame({"first": one, "second": other})
+    table = pandas.DataFrame({"first": first, "second": second})
     table["difference"] = table["second"] - table["first"]
     return Paired(table, interval(table["difference"], method, level), method)
 

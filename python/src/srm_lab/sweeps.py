@@ -59,7 +59,8 @@ def sweep(parameters: Parameters, make: Maker = None, seeds: int | Iterable[int]
 class Grid:
     """The points of a sweep, each a combination of values, and its scenarios: of each point one, or one for each seed.
 
-    Scenarios are numbered, those of a point one after the other.
+    Scenarios are numbered, those of a point one after the other. Where a point's are the same for all seeds, the first
+    stands for all of them.
     """
 
     def __init__(self, parameters: Parameters, make: Maker, seeds: tuple[int, ...], tables: Iterable[str]):
@@ -78,8 +79,17 @@ class Grid:
 
     def jobs(self) -> list[Job]:
         """The runs of each scenario: its number, and their seeds."""
-        each: list[tuple[int, ...]] = [(seed,) for seed in self.seeds] if self.is_seeded else [self.seeds]
-        return [(place * self.each + number, seeds) for place in range(len(self.points)) for number, seeds in enumerate(each)]
+        return [job for place in range(len(self.points)) for job in self._jobs_of(place)]
+
+    def _jobs_of(self, place: int) -> list[Job]:
+        """The runs of a point; its scenarios are made until one is another than the first."""
+        numbers = range(place * self.each, (place + 1) * self.each)
+        if self.each == 1:
+            return [(place, self.seeds)]
+        first = self.scenario(numbers[0])
+        if all(self.scenario(number).is_as(first) for number in numbers[1:]):
+            return [(numbers[0], self.seeds)]
+        return [(number, (seed,)) for number, seed in zip(numbers, self.seeds)]
 
     def scenario(self, number: int) -> Scenario:
         """The scenario of a number."""

@@ -43,6 +43,9 @@ class Tree:
         if len(self.parents(0)) != self.nodes:
             raise ScenarioError("the links join only some of the nodes, so they are no tree")
 
+    def __repr__(self) -> str:
+        return f"<Tree of {self.nodes:,} nodes>"
+
     @property
     def hub(self) -> int | None:
         """The node that hosts no member, or None."""

@@ -1,6 +1,7 @@
 """Scenario files: writing them."""
 import json
 from collections.abc import Callable, Collection
+from functools import cache
 from typing import TYPE_CHECKING, Any
 
 from .errors import ScenarioError
@@ -17,6 +18,7 @@ ROUTES = "routes of links: "
 # arrays of a network by parents, and how many of their numbers stand in a line
 ARRAYS = ("parent", "delays", "backs")
 IN_LINE = 20
+WORDS = ("topology", "role")  # keys of words, in which no quote ever stands
 
 
 def table_of(given: "Scenario") -> dict[str, Any]:
@@ -60,8 +62,10 @@ def _member(keys: dict[str, Any]) -> dict[str, Any]:
 
 def _loss(one: RandomLoss) -> dict[str, Any]:
     """The keys of a loss at random, without those that have their defaults."""
-    keys = {"stream": one.stream, "from": one.first, "to": one.end}
-    return {"link": one.link, "rate": one.rate, **{key: value for key, value in keys.items() if value}}
+    keys: dict[str, Any] = {"link": one.link, "rate": one.rate}
+    if one.stream or one.first or one.end:
+        keys |= {key: value for key, value in (("stream", one.stream), ("from", one.first), ("to", one.end)) if value}
+    return keys
 
 
 def text_of(given: "Scenario") -> str:
@@ -80,16 +84,26 @@ def text_of(given: "Scenario") -> str:
 
 
 def _toml(table: dict[str, Any]) -> str:
-    """A table as TOML; long arrays of numbers stand between the other keys of the top table and the elements."""
-    import tomli_w  # here, so that scenarios can be read, and traces followed, with no package at all
+    """A table as TOML: plain values, then arrays of numbers, several in a line, and of elements, each in a line."""
+    plain = "".join(f"{_form(key)}\n" % value for key, value in table.items() if not isinstance(value, list))
+    return plain + "".join(f"{key} = [{_numbers(value) if key in ARRAYS else _elements(value)}]\n"
+                           for key, value in table.items() if isinstance(value, list))
 
-    arrays = {name: table[name] for name in ARRAYS if name in table}
-    if not arrays:
-        return str(tomli_w.dumps(table))
-    top = {key: value for key, value in table.items() if not isinstance(value, list)}
-    parts = {key: value for key, value in table.items() if key not in top and key not in arrays}
-    rows = (f"{name} = [{_numbers(numbers)}]\n" for name, numbers in arrays.items())
-    return f"{tomli_w.dumps(top)}{''.join(rows)}{tomli_w.dumps(parts)}"
+
+def _elements(several: list[dict[str, Any]]) -> str:
+    """The elements of an array, in lines."""
+    return "\n" + "".join([_element_form(tuple(one)) % tuple(one.values()) for one in several])
+
+
+@cache
+def _element_form(keys: tuple[str, ...]) -> str:
+    """The line of an element with these keys, with room for their values."""
+    return f"    {{ {', '.join(map(_form, keys))} }},\n"
+
+
+def _form(key: str) -> str:
+    """A key, with room for its value: a word, a number, or numbers."""
+    return f'{key} = "%s"' if key in WORDS else f"{key} = %s"
 
 
 def _numbers(numbers: list[int]) -> str:
