@@ -1,7 +1,7 @@
 -- The least of the next times of all members.
-use Rattle.std.specs.Prelude.{◌≡◌, ℕ, suc, ◌+◌, ◌*◌, ◌/◌, ◌^◌, ◌<◌, ◌≤◌, Bool, false, List, [], ◌∷◌, Option, Some, None}
-use Rattle.std.specs.Prelude.{nat_le, nat_lt, ◌==◌, ◌||◌, if◌then◌else◌, length, map, drop, slice_index_or, slice_set}
-use Rattle.srm_engine.specs.declared.next_times.Entry.{Entry}
+use Rattle.std.specs.Prelude.{◌≡◌, ◌≢◌, ◌⊎◌, ℕ, suc, min, ◌+◌, ◌*◌, ◌/◌, ◌%◌, ◌^◌, ◌<◌, ◌≤◌, Bool, false, List, [], ◌∷◌}
+use Rattle.std.specs.Prelude.{Option, Some, None, nat_le, ◌==◌, if◌then◌else◌, length, slice_index_or, slice_set}
+use Rattle.srm_engine.specs.declared.next_times.TheConstants.{LATEST, NUMBERS}
 
 -- a time and a member, and another pair of these: the one with the lesser time, or the first where the times are the
 -- same
@@ -24,59 +24,70 @@ is_time t (Some (Some u)) = u == t
 
 -- ---- the tournament
 
--- the entry of member m: its time and its number; without a time it comes after all members that have one
-abbrev pub slot_of : Option ℕ → ℕ → Entry
-slot_of None m = record { time = 18446744073709551615; number = 65536 + m }
-slot_of (Some t) m = record { time = t; number = m }
+-- the word of member m: its time, no later than the latest, and its number; without a time it has the latest
+abbrev pub word_of : Option ℕ → ℕ → ℕ
+word_of None m = LATEST * NUMBERS + m
+word_of (Some t) m = min t LATEST * NUMBERS + m
 
--- the time that an entry stands for
-abbrev pub time_in : Entry → Option ℕ
-time_in e = if nat_lt e.number 65536 then Some e.time else None
+-- word i
+abbrev pub word_at : List ℕ → ℕ → ℕ
+word_at ws i = slice_index_or ws i 0
 
--- entry i
-abbrev pub entry_at : List Entry → ℕ → Entry
-entry_at es i = slice_index_or es i (record { time = 0; number = 0 })
+-- the lesser of the two words below word i
+abbrev pub winner_below : List ℕ → ℕ → ℕ
+winner_below ws i = min (word_at ws (2 * i)) (word_at ws (2 * i + 1))
 
--- the one of two entries that comes first: by time, and then by number
-abbrev pub sooner_entry : Entry → Entry → Entry
-sooner_entry p q =
-    if nat_lt p.time q.time then p else (if nat_lt q.time p.time || nat_lt q.number p.number then q else p)
+-- each word that has two below it is the lesser of them
+abbrev pub AreWinners : List ℕ → Type 0
+AreWinners ws = (i : ℕ) → 0 < i → 2 * i + 1 < length ws → word_at ws i ≡ winner_below ws i
 
--- the sooner of the two entries below entry i
-abbrev pub winner_below : List Entry → ℕ → Entry
-winner_below es i = sooner_entry (entry_at es (2 * i)) (entry_at es (2 * i + 1))
+-- place i is neither place j nor above it
+abbrev pub NotAbove : ℕ → ℕ → Type 0
+NotAbove i j = (d : ℕ) → i ≢ j / 2 ^ d
 
--- each entry that has two below it is the sooner of them
-abbrev pub AreWinners : List Entry → Type 0
-AreWinners es = (i : ℕ) → 0 < i → 2 * i + 1 < length es → entry_at es i ≡ winner_below es i
+-- so is each that is not above place j
+abbrev pub AreWinnersBeside : ℕ → List ℕ → Type 0
+AreWinnersBeside j ws = (i : ℕ) → 0 < i → 2 * i + 1 < length ws → NotAbove i j → word_at ws i ≡ winner_below ws i
 
 -- in the second list each leaf is as in the first
-abbrev pub KeepsLeaves : List Entry → List Entry → Type 0
-KeepsLeaves old new = (i : ℕ) → length old ≤ 2 * i → entry_at new i ≡ entry_at old i
+abbrev pub KeepsLeaves : List ℕ → List ℕ → Type 0
+KeepsLeaves old new = (i : ℕ) → length old ≤ 2 * i → word_at new i ≡ word_at old i
 
--- in the second list the leaf is this entry, and each other leaf is as in the first
-abbrev pub SetsLeaf : ℕ → Entry → List Entry → List Entry → Type 0
-SetsLeaf leaf e old new = (i : ℕ) → length old ≤ 2 * i → entry_at new i ≡ entry_at (slice_set old leaf e) i
+-- in the second list the leaf is this word, and each other leaf is as in the first
+abbrev pub SetsLeaf : ℕ → ℕ → List ℕ → List ℕ → Type 0
+SetsLeaf leaf w old new = (i : ℕ) → length old ≤ 2 * i → word_at new i ≡ word_at (slice_set old leaf w) i
 
--- this is the entry of member m with a time of 64 bits, or with none
-abbrev pub IsEntryOf : Option ℕ → ℕ → Entry → Type 0
-IsEntryOf time m e = (e ≡ slot_of time m) × (e.time < 2 ^ 64)
+-- each power of two up to this number divides it, as where it is one
+abbrev pub IsPower : ℕ → Type 0
+IsPower n = (d : ℕ) → 2 ^ d ≤ n → n % 2 ^ d ≡ 0
 
--- the leaves, which are the latter half of the entries, are those of the members with these times
-pub record HaveLeaves (ts : List (Option ℕ)) (es : List Entry) : Type 0 where
-  pub size : length es ≡ 2 * length ts
-  pub each : (m : ℕ) → m < length ts → IsEntryOf (slice_index_or ts m None) m (entry_at es (length ts + m))
+-- the n leaves, which are the latter half of the words, are those of the members with these times, and of numbers past
+-- them
+pub record HaveLeaves (n : ℕ) (ts : List (Option ℕ)) (ws : List ℕ) : Type 0 where
+  pub size : length ws ≡ 2 * n
+  pub power : IsPower (length ws)
+  pub some : 0 < n
+  pub few : n ≤ NUMBERS
+  pub room : length ts ≤ n
+  pub each : (m : ℕ) → m < n → word_at ws (n + m) ≡ word_of (slice_index_or ts m None) m
 
--- the entries are a tree over those of the members with these times
-pub record Holds (ts : List (Option ℕ)) (es : List Entry) : Type 0 where
-  pub few : length ts ≤ 65536
-  pub leaves : HaveLeaves ts es
-  pub tree : AreWinners es
+-- this is the word of one of the n leaves, and no other leaf's is less
+pub record IsFirst (n : ℕ) (ws : List ℕ) (w : ℕ) : Type 0 where
+  pub within : w % NUMBERS < n
+  pub stands : word_at ws (n + w % NUMBERS) ≡ w
+  pub least : (m : ℕ) → m < n → w ≤ word_at ws (n + m)
 
--- the times of the members, whose entries are the latter half
-abbrev pub times_in : List Entry → List (Option ℕ)
-times_in es = map time_in (drop (length es / 2) es)
+-- the words are a tournament of these times, with n leaves, in which this word comes first
+pub record IsTournament (n : ℕ) (ts : List (Option ℕ)) (ws : List ℕ) (w : ℕ) : Type 0 where
+  pub leaves : HaveLeaves n ts ws
+  pub first : IsFirst n ws w
+  pub tree : AreWinnersBeside (n + w % NUMBERS) ws
 
--- the entries are a tournament of these times
-abbrev pub IsTournament : List Entry → Type 0
-IsTournament es = Holds (times_in es) es
+-- a place above this leaf has this word, all words but those above that place are winners, and that place is the top,
+-- or the word is of this time
+pub record IsReplayed (leaf time w : ℕ) (ws : List ℕ) : Type 0 where
+  pub height : ℕ
+  pub inside : 0 < leaf / 2 ^ height
+  pub stands : word_at ws (leaf / 2 ^ height) ≡ w
+  pub tree : AreWinnersBeside (leaf / 2 ^ height / 2) ws
+  pub ends : (leaf / 2 ^ height ≡ 1) ⊎ (w / NUMBERS ≡ time)

@@ -1,51 +1,44 @@
 //! The next times of all members, the least of them at hand.
-ghost use Rattle.std.specs.Prelude.{◌≡◌, ◌<◌, ◌≤◌, ◌*◌, ◌%◌, [], IfOk, length, slice_set};
-ghost use Rattle.srm_engine.specs.NextTimes.{least_of_times, sooner_entry, IsEntryOf, HaveLeaves, AreWinners, KeepsLeaves, SetsLeaf};
+ghost use Rattle.std.specs.Prelude.{◌≡◌, ◌<◌, ◌≤◌, ◌*◌, ◌/◌, ◌%◌, ℕ, None, IfOk, length, slice_index_or, slice_set};
+ghost use Rattle.srm_engine.specs.NextTimes.{least_of_times, sooner_time, word_of, word_at, HaveLeaves, AreWinners};
+ghost use Rattle.srm_engine.specs.NextTimes.{AreWinnersBeside, KeepsLeaves, SetsLeaf, IsReplayed};
 
 use std::alloc::{AllocError, Global};
 use std::marker::Model;
 
-// Members' numbers are below it, and the numbers of entries without a time are not.
-const NO_TIME: u64 = 65_536;
+// Members' numbers are below it.
+const NUMBERS: u64 = 65_536;
+
+// Times from this one on, which no run reaches, have the same words as this one.
+const LATEST: u64 = 70_368_744_177_664;
 
 /// The next times of all members, in ticks, by member. Contracts see them as a list; a member may have none.
 ///
-/// They are a tournament: for n members there are 2n entries. Entry n + m is member m's; entry i, from 1 to n - 1, is
-/// the sooner of entries 2i and 2i + 1, so that entry 1 is the least of all. Entry 0 means nothing.
+/// They are a tournament of words. A member's word is its time, and below that, in the last 16 bits, its number: so the lesser
+/// of two words is the sooner one, or of the same time the one with the lesser number. There are 2s words, where s is a power of
+/// two, so that below each place stand members whose numbers follow each other. Word s + m is member m's; word i, from 1 to
+/// s - 1, is the lesser of words 2i and 2i + 1, but means nothing above the least of all, which is kept beside them.
 #[derive(Drop)]
 pub struct NextTimes {
-    entries: Vec<Entry>,
+    times: Vec<Option<u64>>,
+    words: Vec<u64>,
+    // How many leaves there are.
+    size: usize,
+    least: u64,
 }
 
 impl Model for NextTimes {
     ghost use Rattle.std.specs.Prelude.{List, Option, ℕ};
-    ghost use Rattle.srm_engine.specs.NextTimes.{times_in, IsTournament};
+    ghost use Rattle.srm_engine.specs.NextTimes.{IsTournament};
 
     ghost Value = { List (Option ℕ) };
 
-    ghost view = { λ n. times_in n.entries.items };
+    ghost view = { λ n. n.times.items };
 
-    ghost invariant = { λ n. IsTournament n.entries.items };
-}
-
-// A member's next time, and its number, by which those of the same time are ordered. A member without a next time comes
-// after all that have one: at the greatest tick, with a number past those of all members.
-#[derive(Clone, Copy)]
-struct Entry {
-    time: u64,
-    number: u64,
+    ghost invariant = { λ n. IsTournament n.size n.times.items n.words.items n.least };
 }
 
 impl NextTimes {
-    /// The next times of no member. It does not allocate.
-    pub fn new(alloc: Global) -> Self
-        ensures { result ≡ [] }
-    {
-        NextTimes {
-            entries: Vec::new(alloc),
-        }
-    }
-
     /// The next times of members 0, 1 and on, in ticks.
     ///
     /// # Errors
@@ -54,9 +47,15 @@ impl NextTimes {
         requires { length times.items ≤ 65536 }
         ensures { IfOk result (λ n. n ≡ times.items) }
     {
-        let mut entries = leaves(alloc, times.as_slice())?;
-        raise_winners(&mut entries);
-        Ok(NextTimes { entries })
+        let mut words = leaves(alloc, times.as_slice())?;
+        let size = words.len() / 2;
+        let least = raise_winners(&mut words);
+        Ok(NextTimes {
+            times,
+            words,
+            size,
+            least,
+        })
     }
 
     /// Sets the next time of a member, in ticks. It does not allocate.
@@ -64,95 +63,170 @@ impl NextTimes {
         requires { member < length self.old }
         ensures { self.new ≡ slice_set self.old member time }
     {
-        let leaf = self.entries.len() / 2 + usize::from(member);
-        climb(&mut self.entries, leaf, standing(time, member));
+        let first = self.size + (self.least % NUMBERS) as usize;
+        let leaf = self.size + usize::from(member);
+        let word = word(time, member);
+        self.times[usize::from(member)] = time;
+        if leaf == first {
+            self.least = replay(&mut self.words, leaf, word, self.least / NUMBERS);
+        } else if self.least < word {
+            climb(&mut self.words, leaf, word);
+        } else {
+            overtake(&mut self.words, first, self.least, leaf, word);
+            self.least = word;
+        }
     }
 
     /// The least next time of all, with the first member that has it.
     pub fn least(&self) -> Option<(u64, u16)>
         ensures { result ≡ least_of_times 0 self.now }
     {
-        let least = self.entries.get(1)?;
-        if least.number < NO_TIME {
-            Some((least.time, least.number as u16))
+        let time = self.least / NUMBERS;
+        if time < LATEST {
+            Some((time, (self.least % NUMBERS) as u16))
         } else {
-            None
+            least_of(&self.times)
         }
     }
 }
 
-// The leaves of the members with these times, and as many entries before them, which mean nothing yet.
-fn leaves(alloc: Global, times: &[Option<u64>]) -> Result<Vec<Entry>, AllocError>
+// A member's word. Without a next time it has the latest time.
+#[inline(always)]
+fn word(time: Option<u64>, member: u16) -> u64
+    ensures { result ≡ word_of time member }
+{
+    let time = match time {
+        Some(time) => time.min(LATEST),
+        None => LATEST,
+    };
+    time * NUMBERS + u64::from(member)
+}
+
+// The least of these times, with the first member that has it, sought from the last to the first.
+#[inline(never)]
+fn least_of(times: &[Option<u64>]) -> Option<(u64, u16)>
     requires { length times.now ≤ 65536 }
-    ensures { IfOk result (λ entries. HaveLeaves times.now entries.items) }
+    ensures { result ≡ least_of_times 0 times.now }
 {
-    let count = times.len();
-    let none = Entry { time: 0, number: 0 };
-    let mut entries = vec![in alloc; none; 2 * count]?;
-    for (member, time) in times.iter().enumerate() {
-        entries[count + member] = standing(*time, member as u16);
+    let mut least = None;
+    for member in (0..times.len()).rev() {
+        if let Some(time) = times[member] {
+            least = Some(sooner((time, member as u16), least));
+        }
     }
-    Ok(entries)
+    least
 }
 
-// Makes each entry that has two below it the sooner of them, from the last such entry to the first.
-fn raise_winners(entries: &mut [Entry])
-    ensures tree { AreWinners entries.new }
-    ensures leaves { KeepsLeaves entries.old entries.new }
+// A time and a member, or others if their time is less.
+fn sooner(first: (u64, u16), other: Option<(u64, u16)>) -> (u64, u16)
+    ensures { result ≡ sooner_time first other }
 {
-    for node in (1..entries.len() / 2).rev() {
-        entries[node] = sooner(entries[2 * node], entries[2 * node + 1]);
-    }
-}
-
-// A member's entry.
-fn standing(time: Option<u64>, member: u16) -> Entry
-    ensures { IsEntryOf time member result }
-{
-    let number = u64::from(member);
-    match time {
-        Some(time) => Entry { time, number },
-        None => Entry {
-            time: u64::MAX,
-            number: NO_TIME + number,
-        },
+    match other {
+        None => first,
+        Some(other) => { if first.0 <= other.0 { first } else { other } }
     }
 }
 
-// The one of two entries that comes first: by time, and then by number.
-fn sooner(first: Entry, second: Entry) -> Entry
-    ensures { result ≡ sooner_entry first second }
+// The leaves of the members with these times, and of numbers past them to the next power of two; and as many words before them,
+// which mean nothing yet.
+fn leaves(alloc: Global, times: &[Option<u64>]) -> Result<Vec<u64>, AllocError>
+    requires { length times.now ≤ 65536 }
+    ensures { IfOk result (λ words. HaveLeaves (length words.items / 2) times.now words.items) }
 {
-    if first.time < second.time {
-        return first;
+    let size = times.len().next_power_of_two();
+    let mut words = vec![in alloc; 0; 2 * size]?;
+    for member in 0..size {
+        words[size + member] = word(time_at(times, member), member as u16);
     }
-    if second.time < first.time {
-        return second;
-    }
-    if second.number < first.number {
-        second
-    } else {
-        first
+    Ok(words)
+}
+
+// A member's time, if there is the member, and it has one.
+fn time_at(times: &[Option<u64>], member: usize) -> Option<u64>
+    ensures { result ≡ slice_index_or times.now member None }
+{
+    match times.get(member) {
+        Some(time) => *time,
+        None => None,
     }
 }
 
-// Sets a leaf, and then the entries above it, as far up as they change.
-fn climb(entries: &mut [Entry], leaf: usize, entry: Entry)
-    requires pairs { length entries.old % 2 ≡ 0 }
-    requires leaf { length entries.old ≤ 2 * leaf }
-    requires within { leaf < length entries.old }
-    requires tree { AreWinners entries.old }
-    ensures tree { AreWinners entries.new }
-    ensures leaves { SetsLeaf leaf entry entries.old entries.new }
+// Makes each word that has two below it the lesser of them, from the last such word to the first, which it gives.
+fn raise_winners(words: &mut [u64]) -> u64
+    requires { 1 < length words.old }
+    ensures tree { AreWinners words.new }
+    ensures leaves { KeepsLeaves words.old words.new }
+    ensures first { result ≡ word_at words.new 1 }
 {
-    let mut node = leaf;
-    let mut winner = entry;
-    while entries[node].time != winner.time || entries[node].number != winner.number {
-        entries[node] = winner;
-        if node == 1 {
+    for place in (1..words.len() / 2).rev() {
+        words[place] = words[2 * place].min(words[2 * place + 1]);
+    }
+    words[1]
+}
+
+// Sets the leaf of the member that comes first, and then the words above it, up to the first one of this time, or to the top.
+// Gives the last of them, which is the least of all.
+//
+// Of the time of the first all others have greater numbers, and below a place above it stand members whose numbers follow each
+// other. So whoever is of this time, and comes first below such a place, comes first of all: mostly it is found near the leaf,
+// since many members have one time.
+#[inline(always)]
+fn replay(words: &mut [u64], leaf: usize, word: u64, time: u64) -> u64
+    requires pairs { length words.old % 2 ≡ 0 }
+    requires leaf { length words.old ≤ 2 * leaf }
+    requires within { leaf < length words.old }
+    requires tree { AreWinnersBeside leaf words.old }
+    ensures replayed { IsReplayed leaf time result words.new }
+    ensures leaves { SetsLeaf leaf word words.old words.new }
+{
+    let mut place = leaf;
+    let mut least = word;
+    words[place] = least;
+    while least / NUMBERS != time {
+        if place == 1 {
+            return least;
+        }
+        least = least.min(words[place ^ 1]);
+        place /= 2;
+        words[place] = least;
+    }
+    least
+}
+
+// Sets the leaf of a member that comes before the one that was first. The words above the leaf of that one are put right before.
+#[inline(never)]
+fn overtake(words: &mut [u64], first: usize, least: u64, leaf: usize, word: u64)
+    requires pairs { length words.old % 2 ≡ 0 }
+    requires first { length words.old ≤ 2 * first }
+    requires first_within { first < length words.old }
+    requires leaf { length words.old ≤ 2 * leaf }
+    requires within { leaf < length words.old }
+    requires least { word_at words.old first ≡ least }
+    requires tree { AreWinnersBeside first words.old }
+    ensures tree { AreWinnersBeside leaf words.new }
+    ensures leaves { SetsLeaf leaf word words.old words.new }
+{
+    // No word is of so late a time.
+    replay(words, first, least, u64::MAX);
+    words[leaf] = word;
+}
+
+// Sets a leaf, and then the words above it, as far up as they change.
+fn climb(words: &mut [u64], leaf: usize, word: u64)
+    requires pairs { length words.old % 2 ≡ 0 }
+    requires leaf { length words.old ≤ 2 * leaf }
+    requires within { leaf < length words.old }
+    ensures tree { (first : ℕ) → AreWinnersBeside first words.old → AreWinnersBeside first words.new }
+    ensures leaves { SetsLeaf leaf word words.old words.new }
+{
+    let mut place = leaf;
+    let mut least = word;
+    while words[place] != least {
+        words[place] = least;
+        if place == 1 {
             return;
         }
-        winner = sooner(winner, entries[node ^ 1]);
-        node /= 2;
+        least = least.min(words[place ^ 1]);
+        place /= 2;
     }
 }

@@ -1,38 +1,91 @@
-use Rattle.std.proofs.Common.{◌≡◌, ◌<◌, ◌+◌, ◌/◌, ℕ, List, Option, length, ◌∙◌, ap, subst, slice_set, arith}
-use Rattle.srm_engine.specs.declared.next_times.Entry.{Entry}
-use Rattle.srm_engine.specs.NextTimes.{Holds, IsTournament, times_in, AreWinners, SetsLeaf, IsEntryOf}
-use Rattle.srm_engine.proofs.Index.{holds_set, times_are, tournament, written, written_back}
+use Rattle.std.proofs.Common.{◌≡◌, ◌≢◌, ◌<◌, ◌≤◌, ◌+◌, ◌%◌, ◌/◌, ℕ, List, Option, length, ◌∙◌, ap, sym, subst, slice_set, arith}
+use Rattle.srm_engine.specs.NextTimes.{AreWinnersBeside, IsReplayed, IsTournament, SetsLeaf, word_of}
+use Rattle.srm_engine.proofs.Index.{climbed, overtaken, replayed, written, written_back}
 use Rattle.srm_engine.proofs.next_times.NextTimes.set.Goals as goal
 
--- a tournament that climbed, put back in its vector, is one of the times with the one that was set
-put_back : (len : ℕ) (es was new : List Entry) (leaf m : ℕ) (t : Option ℕ) (e : Entry) (ts : List (Option ℕ))
-    → IsTournament es → times_in es ≡ ts → m < length ts → len ≡ length es → was ≡ es → length new ≡ length was
-    → leaf ≡ length es / 2 + m → IsEntryOf t m e → AreWinners new → SetsLeaf leaf e was new
-    → IsTournament (written len es new) × (times_in (written len es new) ≡ slice_set ts m t)
-put_back len es was new leaf m t e ts h view lt all same as_long at is tree set =
-    let held : Holds ts es = subst (λ us. Holds us es) view h in
-    let size = held.leaves.size in
-    let at_leaf : leaf ≡ length ts + m = omega arith in
-    let long : length new ≡ length es = as_long ∙ ap length same in
-    let leaves : SetsLeaf (length ts + m) e es new =
-    subst (λ k. SetsLeaf k e es new) at_leaf (subst (λ xs. SetsLeaf leaf e xs new) same set) in
-    let back : new ≡ written len es new = written_back len es new all long in
-    let now : Holds (slice_set ts m t) (written len es new) =
-    subst (Holds (slice_set ts m t)) back (holds_set ts es new m t e held lt long tree is leaves) in
-    (tournament _ _ now, times_are _ _ now)
+-- the words go back into their vector
+put_back : (n len : ℕ) (ts : List (Option ℕ)) (es was new : List ℕ) (w : ℕ) → len ≡ length es → was ≡ es → length new ≡ length was
+    → IsTournament n ts new w → IsTournament n ts (written len es new) w
+put_back n len ts es was new w all same as_long h =
+    subst (λ ws. IsTournament n ts ws w) (written_back len es new all (as_long ∙ ap length same)) h
 
-both : (c : goal.After-self-1) → IsTournament (written c.self.inside.entries.len c.self.inside.entries.items c.climb.new.entries)
-    × (times_in (written c.self.inside.entries.len c.self.inside.entries.items c.climb.new.entries)
-    ≡ slice_set c.args.self.now c.args.member c.args.time)
-both c =
-    let es = c.self.inside.entries in
-    let leaf = ap (λ n. n / 2 + c.from.result) (c.len.ensures ∙ es.ok.0) ∙ ap (λ m. length es.items / 2 + m) c.from.ensures in
-    put_back es.len es.items c.deref_mut.result.now c.climb.new.entries _ c.args.member c.args.time c.standing.result c.args.self.now
-    c.self.invariant c.self.view_is c.requires es.ok.0 c.deref_mut.ensures.value c.climb.auto.entries leaf
-    c.standing.ensures c.climb.ensures.tree c.climb.ensures.leaves
+-- the leaf of a member, as the code has it
+leaf_at : (n m k : ℕ) → k ≡ m → n + k ≡ n + m
+leaf_at n m k e = omega arith
 
 pub invariant_of-self : goal.invariant_of-self
-invariant_of-self c = (both c).0
+invariant_of-self c =
+    let it = c.self.inside in
+    let m = c.args.member in
+    let new = c.replay-self-inside.new.words in
+    let x = c.word-word.ensures in
+    let leaf : it.size + c.from.result ≡ it.size + m = leaf_at it.size m c.from.result c.from.ensures in
+    let first = c.if-leaf-first.true in
+    let long : length new ≡ length it.words.items = c.replay-self-inside.auto.words ∙ ap length c.deref_mut.ensures.value in
+    let within : m < length it.times.items = subst (λ ts. m < length ts) (sym c.self.view_is) c.requires in
+    let own : it.least % 65536 ≡ m = omega arith in
+    let set : SetsLeaf (it.size + m) (word_of c.args.time m) it.words.items new =
+    subst (λ k. SetsLeaf k (word_of c.args.time m) it.words.items new) leaf
+    (subst (λ y. SetsLeaf (it.size + c.from.result) y it.words.items new) x
+    (subst (λ ws. SetsLeaf (it.size + c.from.result) c.word-word.result ws new) c.deref_mut.ensures.value
+    c.replay-self-inside.ensures.leaves)) in
+    let rep : IsReplayed (it.size + m) (it.least / 65536) c.replay-self-inside.result new =
+    subst (λ k. IsReplayed k (it.least / 65536) c.replay-self-inside.result new) leaf c.replay-self-inside.ensures.replayed in
+    subst (λ k. IsTournament it.size (slice_set it.times.items k c.args.time) (written it.words.len it.words.items new)
+    c.replay-self-inside.result) (sym c.from-2.ensures)
+    (put_back it.size it.words.len (slice_set it.times.items m c.args.time) it.words.items c.deref_mut.result.now new
+    c.replay-self-inside.result it.words.ok.0 c.deref_mut.ensures.value c.replay-self-inside.auto.words
+    (replayed it.size it.times.items it.words.items new it.least c.replay-self-inside.result m c.args.time c.self.invariant within own
+    long set rep))
 
-pub returns : goal.returns
-returns c = (both c).1
+pub invariant_of-self-then-self-word : goal.invariant_of-self-then-self-word
+invariant_of-self-then-self-word c =
+    let it = c.self.inside in
+    let m = c.args.member in
+    let new = c.climb.new.words in
+    let x = c.word-word.ensures in
+    let leaf : it.size + c.from.result ≡ it.size + m = leaf_at it.size m c.from.result c.from.ensures in
+    let other = c.if-leaf-first.false in
+    let long : length new ≡ length it.words.items =
+    c.climb.auto.words ∙ ap length c.deref_mut-then-self-word.ensures.value in
+    let within : m < length it.times.items = subst (λ ts. m < length ts) (sym c.self.view_is) c.requires in
+    let apart : it.least % 65536 ≢ m = λ e. omega arith in
+    let after : it.least < word_of c.args.time m = subst (λ y. it.least < y) x c.if-self-word.true in
+    let set : SetsLeaf (it.size + m) (word_of c.args.time m) it.words.items new =
+    subst (λ k. SetsLeaf k (word_of c.args.time m) it.words.items new) leaf
+    (subst (λ y. SetsLeaf (it.size + c.from.result) y it.words.items new) x
+    (subst (λ ws. SetsLeaf (it.size + c.from.result) c.word-word.result ws new) c.deref_mut-then-self-word.ensures.value
+    c.climb.ensures.leaves)) in
+    let tree : AreWinnersBeside (it.size + it.least % 65536) new =
+    c.climb.ensures.tree (it.size + it.least % 65536)
+    (subst (λ ws. AreWinnersBeside (it.size + it.least % 65536) ws) (sym c.deref_mut-then-self-word.ensures.value)
+    c.self.invariant.tree) in
+    subst (λ k. IsTournament it.size (slice_set it.times.items k c.args.time) (written it.words.len it.words.items new) it.least)
+    (sym c.from-2.ensures)
+    (put_back it.size it.words.len (slice_set it.times.items m c.args.time) it.words.items c.deref_mut-then-self-word.result.now new
+    it.least it.words.ok.0 c.deref_mut-then-self-word.ensures.value c.climb.auto.words
+    (climbed it.size it.times.items it.words.items new it.least m c.args.time c.self.invariant within apart after long set tree))
+
+pub invariant_of-self-else-self-word : goal.invariant_of-self-else-self-word
+invariant_of-self-else-self-word c =
+    let it = c.self.inside in
+    let m = c.args.member in
+    let new = c.overtake.new.words in
+    let x = c.word-word.ensures in
+    let leaf : it.size + c.from.result ≡ it.size + m = leaf_at it.size m c.from.result c.from.ensures in
+    let long : length new ≡ length it.words.items =
+    c.overtake.auto.words ∙ ap length c.deref_mut-else-self-word.ensures.value in
+    let within : m < length it.times.items = subst (λ ts. m < length ts) (sym c.self.view_is) c.requires in
+    let before : word_of c.args.time m ≤ it.least = subst (λ y. y ≤ it.least) x c.if-self-word.false in
+    let set : SetsLeaf (it.size + m) (word_of c.args.time m) it.words.items new =
+    subst (λ k. SetsLeaf k (word_of c.args.time m) it.words.items new) leaf
+    (subst (λ y. SetsLeaf (it.size + c.from.result) y it.words.items new) x
+    (subst (λ ws. SetsLeaf (it.size + c.from.result) c.word-word.result ws new) c.deref_mut-else-self-word.ensures.value
+    c.overtake.ensures.leaves)) in
+    let tree : AreWinnersBeside (it.size + m) new = subst (λ k. AreWinnersBeside k new) leaf c.overtake.ensures.tree in
+    subst (λ k. IsTournament it.size (slice_set it.times.items k c.args.time) (written it.words.len it.words.items new)
+    c.word-word.result) (sym c.from-2.ensures)
+    (put_back it.size it.words.len (slice_set it.times.items m c.args.time) it.words.items c.deref_mut-else-self-word.result.now new
+    c.word-word.result it.words.ok.0 c.deref_mut-else-self-word.ensures.value c.overtake.auto.words
+    (subst (λ y. IsTournament it.size (slice_set it.times.items m c.args.time) new y) (sym x)
+    (overtaken it.size it.times.items it.words.items new it.least m c.args.time c.self.invariant within before long set tree)))
