@@ -213,13 +213,13 @@ def test_two_kinds_of_timers_do_not_stand_over_each_other(tmp_path):
 
 def bars_at(axes):
     """Of each tick of an axis what stands there: the box of each mean's mark and bar, in dots."""
-    found = {}
+    found: dict[float, list[Bbox]] = {}
     ticks = axes.get_xticks()
     for lines in (it for it in axes.containers if isinstance(it, ErrorbarContainer)):
         marks, caps, (bars,) = lines.lines
         for segment, (x, _) in zip(bars.get_segments(), marks.get_xydata()):
             (left, low), (right, high) = axes.transData.transform(segment)
-            half = max([marks.get_markersize(), *(2 * cap.get_markersize() / 2 for cap in caps)]) / 2 * axes.figure.dpi / 72
+            half = max(line.get_markersize() for line in (marks, *caps)) / 2 * axes.figure.dpi / 72
             box = Bbox([(left - half, low), (right + half, high)])
             found.setdefault(min(ticks, key=lambda tick: abs(tick - x)), []).append(box)
     return found
