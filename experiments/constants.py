@@ -40,7 +40,7 @@ def session(seed: int) -> Scenario:
 def ends(given: Scenario) -> dict[str, int]:
     """The nearest and the farthest of a session's losers; of several that are as far the first."""
     nodes = [member.node for member in given.members]
-    behind = losers(given.tree, nodes[0], nodes[1:], given.outages[0].link)
+    behind = losers(given.tree, nodes[0], nodes[1:], given.settled.outages[0].link)
     far = given.tree.distances(nodes[0])
     return {"nearest": nodes.index(min(behind, key=far.__getitem__)),
             "farthest": nodes.index(max(behind, key=far.__getitem__))}
@@ -74,7 +74,7 @@ def moves(table_of: Callable[[Scenario, int], pandas.DataFrame], seeds: Iterable
     for seed in seeds:
         given = session(seed)
         table = table_of(given, seed)
-        starts = [draw.at for draw in given.draws][::2]
+        starts = [draw.at for draw in given.settled.draws][::2]
         for end, member in ends(given).items():
             found.append(after_rounds(table, starts, member).assign(seed=seed, end=end))
     return pandas.concat(found, ignore_index=True)

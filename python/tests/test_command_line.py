@@ -174,15 +174,15 @@ def test_lost_packets_that_may_be_repairs_are_refused(capsys):
     assert main([*words, "--any-packet"]) == 0
     slow = scenario.chain(3, delay=10).drawing(9, every=100)
     with pytest.raises(ScenarioError) as fault:
-        slow.lose(every=4, link=0)
+        slow.lose(every=4, link=0).check()
     assert f"srm-scenarios: {fault.value}\n".replace("any_packet=True", "--any-packet") == told
-    assert [drop.count for drop in slow.lose(every=4, link=0, any_packet=True).drops] == [0, 4, 8]
+    assert [drop.count for drop in slow.lose(every=4, link=0, any_packet=True).settled.drops] == [0, 4, 8]
 
 
 def test_session_without_words_is_that_of_the_package(capsys):
     assert main("star --size 9 --seed 3 --drop-link adjacent --drop-every 2".split()) == 0
     made = read_scenario(capsys.readouterr().out)
-    assert replace(made, comments=(), until=None, version=None, seed=0) == scenario.star(9).lose(every=2, link=0)
+    assert replace(made, comments=(), until=None, version=None, seed=0) == scenario.star(9).lose(every=2, link=0).settled
 
 
 def test_lost_packets_are_data_up_to_the_earliest_repair(srm_lab, capsys):

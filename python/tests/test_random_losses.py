@@ -62,16 +62,16 @@ def test_rates_from_the_least_to_all():
 def test_of_one_sender_or_of_the_first_packets_they_are_listed():
     given = scenario.chain(3).drawing(5)
     for made in (given.lose(rate=1, link=1, packets=2), replace(given, version=3).lose(rate=1, link=1, packets=2)):
-        assert (made.drops, made.random_losses, made.least_version) == ((Drop(1, 0, 0), Drop(1, 0, 1)), (), 1)
-    assert len(given.lose(rate=1, sender=0).drops) == 10
+        assert (made.settled.drops, made.random_losses, made.least_version) == ((Drop(1, 0, 0), Drop(1, 0, 1)), (), 1)
+    assert len(given.lose(rate=1, sender=0).settled.drops) == 10
 
 
 def test_a_loss_that_may_come_before_is_looked_at_where_data_has_to_be_lost():
     given = scenario.chain(3, delay=10).drawing(9, every=100)
     # the loss of the first draw may be found when the second comes, and asked for and repaired before the third
     with pytest.raises(scenario.ScenarioError, match="packet 4 of the source is drawn at tick 400, and from tick 150 on"):
-        given.lose(rate=0.01, link=0).lose(every=4, link=1)
-    given.lose(rate=0.01, link=0, first=801).lose(every=1, link=1, packets=2)
+        given.lose(rate=0.01, link=0).lose(every=4, link=1).check()
+    given.lose(rate=0.01, link=0, first=801).lose(every=1, link=1, packets=2).check()
 
 
 @pytest.mark.parametrize("seed", [0, 5, 2**63 - 1])

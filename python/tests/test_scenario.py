@@ -108,16 +108,16 @@ def taken(nodes, seed):
 
 def test_listed_losses_at_random_are_those_of_a_rate_and_a_seed():
     given = replace(scenario.chain(11, seed=3).drawing(400), version=3)
-    drops = given.lose(rate=0.1).drops
+    drops = given.lose(rate=0.1).settled.drops
     # 10 links and 400 packets: 400 drops expected, with a standard deviation of 19
     assert 300 < len(drops) < 500 and len(set(drops)) == len(drops)
-    assert drops == given.lose(rate=0.1).drops != given.lose(rate=0.1, seed=4).drops
-    assert given.lose(rate=0).drops == ()
-    assert given.lose(rate=1, link=2, packets=3).drops == (Drop(2, 0, 0), Drop(2, 0, 1), Drop(2, 0, 2))
+    assert drops == given.lose(rate=0.1).settled.drops != given.lose(rate=0.1, seed=4).settled.drops
+    assert given.lose(rate=0).settled.drops == ()
+    assert given.lose(rate=1, link=2, packets=3).settled.drops == (Drop(2, 0, 0), Drop(2, 0, 1), Drop(2, 0, 2))
 
 
 def test_every_third_packet_is_lost():
-    assert scenario.chain(4).drawing(7).lose(every=3, link="hops:2").drops == tuple(
+    assert scenario.chain(4).drawing(7).lose(every=3, link="hops:2").settled.drops == tuple(
         Drop(1, 0, count) for count in (0, 3, 6))
 
 
@@ -142,17 +142,17 @@ SLOW = scenario.chain(3, delay=10).drawing(9, every=100)  # from member 0 to mem
 ])
 def test_data_is_lost_and_no_repair_in_place_of_it(given, words, tick):
     with pytest.raises(ScenarioError, match=rf"packet \d of the source is drawn at tick \d00, and from tick {tick} on"):
-        given.lose(**words)
+        given.lose(**words).text()
 
 
 def test_losses_of_one_of_several_senders():
     given = scenario.chain(6, seed=3).role([4], "sender").drawing(50).drawing(30, member=4)
-    assert given.lose(every=10, link="adjacent", sender=4).drops in (
+    assert given.lose(every=10, link="adjacent", sender=4).settled.drops in (
         tuple(Drop(link, 4, count) for count in (0, 10, 20)) for link in (3, 4))
     given = replace(given, version=2)
-    assert {drop.sender for drop in given.lose(rate=0.2).drops} == {0, 4}
-    of_one = given.lose(rate=0.2, sender=4).drops
-    assert {drop.sender for drop in of_one} == {4} and set(of_one) <= set(given.lose(rate=0.2).drops)
+    assert {drop.sender for drop in given.lose(rate=0.2).settled.drops} == {0, 4}
+    of_one = given.lose(rate=0.2, sender=4).settled.drops
+    assert {drop.sender for drop in of_one} == {4} and set(of_one) <= set(given.lose(rate=0.2).settled.drops)
 
 
 def test_outage_has_both_its_ticks():
@@ -185,7 +185,7 @@ def test_one_seed_gives_one_scenario_and_verbs_choose_apart():
     (lambda: scenario.chain(3).lose(every=2), "every needs a link"),
     (lambda: scenario.chain(3).lose(rate=0.5, sender=3), "sender is 3, and has to be 0 to 2"),
     (lambda: scenario.chain(3).lose(rate=1.5), "rate is 1.5, and has to be from 0 to 1"),
-    (lambda: scenario.chain(900).lose(rate=1, packets=100), "`drop` has 89900 elements, and may have 65535"),
+    (lambda: scenario.chain(900).lose(rate=1, packets=100).text(), "`drop` has 89900 elements, and may have 65535"),
     (lambda: scenario.chain(3).lose(rate=1e-7), "rate is 1e-07, which has more than six decimals"),
     (lambda: scenario.chain(3).lose(rate=float("nan")), "rate is nan, and has to be from 0 to 1"),
     (lambda: scenario.chain(3).lose(rate=True), "rate is True, and has to be from 0 to 1"),
@@ -262,7 +262,7 @@ def test_adaptive_timers_in_one_line():
 
 
 def test_rounds_take_the_place_of_a_senders_draws_only():
-    made = scenario.chain(4, delay=10).role([3], "sender").draw(5, member=3).session(40, member=1).rounds(2, 1, every=100)
+    made = scenario.chain(4, delay=10).role([3], "sender").draw(5, member=3).session(40, member=1).rounds(2, 1, every=100).settled
     assert [(draw.member, draw.at) for draw in made.draws] == [(3, 5), (0, 0), (0, 100), (0, 200), (0, 300)]
     assert [(session.member, session.at) for session in made.sessions] == [(1, 40)]
     assert [(outage.link, outage.first, outage.end) for outage in made.outages] == [(1, 10, 11), (1, 210, 211)]
@@ -270,5 +270,5 @@ def test_rounds_take_the_place_of_a_senders_draws_only():
 
 @pytest.mark.parametrize("link, expected", [(0, 0), (2, 20), ("adjacent", 0), ("hops:3", 20)])
 def test_link_of_rounds_is_chosen_as_that_of_losses(link, expected):
-    outage, = scenario.chain(4, delay=10).rounds(1, link, every=9).outages
+    outage, = scenario.chain(4, delay=10).rounds(1, link, every=9).settled.outages
     assert outage.first == expected

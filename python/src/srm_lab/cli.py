@@ -8,13 +8,14 @@ from contextlib import contextmanager
 from dataclasses import replace
 from functools import cache
 
-from . import graphs, losses, tree
+from . import __version__, graphs, losses, tree
 from .errors import ScenarioError
 from .graphs import Delays
 from .limits import MOST_NUMBERS, MOST_TIME, NEWEST, within
+from .parsing import Parser
 from .parts import CONSTANTS, Member, Session
-from .scenario import DELAY, DRAWS, EVERY, Scenario, Ticks, from_router_map, place_members, thousandths
-from .setting import setting
+from .scenario import DELAY, DRAWS, EVERY, Members, Scenario, Ticks, from_router_map, place_members, seed_of
+from .timing import BACKOFF, Timing
 from .tree import Tree
 
 ABOUT = """Writes a scenario file of srm_lab to standard output.
@@ -72,23 +73,34 @@ def as_options() -> Iterator[None]:
         raise ScenarioError(str(fault).replace("no default delay is given", "--delay gives none")
                             .replace("spanning_tree=\"shortest\" or \"minimum\"", "--spanning-tree shortest or minimum")
                             .replace("give a factor", "give a --factor")
+                            .replace("lose_operations", "--lose-operations")
                             .replace("any_packet=True", "--any-packet")) from None
 
 
 def members_of(options: argparse.Namespace, made: Tree, rng: random.Random) -> list[int]:
     """The members' nodes, the source's first and the others in rising order."""
-    if options.members != "all" and not options.members.isdigit():
-        raise ScenarioError(f"--members {options.members}: say a number or all")
-    count = options.members
-    if count != "all":
-        count = within("--members", int(count), 1, max(1, len(made.hosts())))
+    members: Members = options.members
+    if options.members.isdigit():
+        members = within("--members", int(options.members), 1, max(1, len(made.hosts())))
+    elif members != "all":
+        members = [host_of(made, name, f"--members {members}: say a number or all, or name nodes, parted by commas; "
+                           f"{name} is") for name in options.members.split(",")]
     source = options.source
+    if source not in ("first", "random"):
+        source = host_of(made, source, f"--source {source}:")
+    return place_members(made, members, source, rng)
+
+
+def host_of(made: Tree, name: str, told: str) -> int | str:
+    """A node's name, or its number where the network has no names; `told` begins what is told of a node that is none."""
+    node: int | str = int(name) if name.isdigit() and not made.names else name
     try:
-        return place_members(made, count, int(source) if source.isdigit() and not made.names else source, rng)
-    except ScenarioError as fault:
-        if source in ("first", "random"):
-            raise
-        raise ScenarioError(f"--source {source}: no node that may host a member") from fault
+        is_host = made.number(node) != made.hub
+    except ScenarioError:
+        is_host = False
+    if not is_host:
+        raise ScenarioError(f"{told} no node that may host a member")
+    return node
 
 
 def ticks(text: str) -> Ticks:
@@ -129,7 +141,7 @@ def mapped(options: argparse.Namespace) -> tuple[Tree, list[int]]:
 
 def build(options: argparse.Namespace) -> Scenario:
     """The scenario of a parsed command line."""
-    rng = random.Random(options.seed)
+    rng = random.Random(seed_of(options.seed))
     if options.kind == "map":
         made, nodes = mapped(options)
         made = with_delays(made, options, rng)
@@ -139,16 +151,18 @@ def build(options: argparse.Namespace) -> Scenario:
     members = tuple(Member(node, "receiver" if place else "sender", place + 1) for place, node in enumerate(nodes))
     scenario = replace(Scenario(made, members, options.until, seed=options.seed), **constants(options, len(nodes)))
     lossy = in_rounds if options.rounds is not None else with_drops
-    return disturbed(lossy(scenario, options, rng), options).check()
+    with as_options():
+        found = disturbed(lossy(scenario, options, rng), options).check()
+        if found.drops and not options.any_packet:
+            losses.check_that_data_is_lost(found.settled, [drop.count for drop in found.drops])
+    return found
 
 
 def constants(options: argparse.Namespace, members: int) -> dict[str, int]:
     """The timer constants in thousandths, with `--adaptive` their limits and the factor of backoff besides."""
-    texts = {name: getattr(options, name) for name in CONSTANTS}
-    given = {name: thousandths(text, members) for name, text in texts.items() if text is not None}
-    if options.adaptive:
-        return setting(members, given)
-    return {name: thousandths(text, members) for name, text in FIXED.items()} | given
+    given = {name: text for name in CONSTANTS if (text := getattr(options, name)) is not None}
+    keys = Timing(given, is_adaptive=True) if options.adaptive else Timing(FIXED | given)
+    return keys.keys(members) | ({} if options.backoff is None else {BACKOFF: options.backoff})
 
 
 def with_draws(scenario: Scenario, options: argparse.Namespace) -> Scenario:
@@ -165,7 +179,7 @@ def in_rounds(scenario: Scenario, options: argparse.Namespace, rng: random.Rando
     """The scenario with the rounds of loss that the command line asks for."""
     if options.drop_link is None:
         raise ScenarioError("--rounds needs --drop-link")
-    given = [name for name in ("draws", "drop_every", "drop_packet") if getattr(options, name)]
+    given = [name for name in ("draws", "drop_every", "drop_packet", "lose_operations") if getattr(options, name)]
     if given or options.start:
         name = "--" + (given or ["start"])[0].replace("_", "-")
         raise ScenarioError(f"--rounds says which packets are drawn and lost: leave out {name}")
@@ -174,22 +188,23 @@ def in_rounds(scenario: Scenario, options: argparse.Namespace, rng: random.Rando
 
 
 def with_drops(scenario: Scenario, options: argparse.Namespace, rng: random.Random) -> Scenario:
-    """The scenario with the source's draws, and the packets of it that one link drops."""
+    """The scenario with the source's draws, and the packets or operations of it that one link loses."""
     scenario = with_draws(scenario, options)
+    given = [name for name in ("drop_every", "drop_packet", "lose_operations") if getattr(options, name) is not None]
     if options.drop_link is None:
-        if options.drop_every is not None or options.drop_packet:
-            raise ScenarioError("--drop-every and --drop-packet need --drop-link")
+        if given:
+            raise ScenarioError("--drop-every, --drop-packet and --lose-operations need --drop-link")
         return scenario
     link = losses.link_of(options.drop_link, scenario, rng)
-    with as_options():
-        if options.drop_every is not None:
-            every = within("--drop-every", options.drop_every, 1, MOST_NUMBERS)
-            return scenario.lose(every=every, link=link, any_packet=options.any_packet)
-        made = scenario.drop(link, [within("the number of a lost packet", count, 0, NEWEST.count)
-                                    for count in options.drop_packet or [0]])
-        if not options.any_packet:
-            losses.check_that_data_is_lost(made)
-    return made
+    if given[1:]:
+        raise ScenarioError(f"{' and '.join('--' + name.replace('_', '-') for name in given[:2])} exclude each other")
+    if options.drop_every is not None:
+        return scenario.lose(every=within("--drop-every", options.drop_every, 1, MOST_NUMBERS), link=link,
+                             any_packet=options.any_packet)
+    if options.lose_operations is not None:
+        return scenario.lose_operations(within("--lose-operations", options.lose_operations, 1, MOST_NUMBERS), link)
+    return scenario.drop(link, [within("the number of a lost packet", count, 0, NEWEST.count)
+                                for count in options.drop_packet or [0]])
 
 
 def disturbed(scenario: Scenario, options: argparse.Namespace) -> Scenario:
@@ -203,16 +218,16 @@ def disturbed(scenario: Scenario, options: argparse.Namespace) -> Scenario:
     return scenario if options.loss is None else scenario.lose(rate=options.loss)
 
 
-def common_options() -> argparse.ArgumentParser:
+def common_options() -> Parser:
     """The options of every kind of network."""
-    common = argparse.ArgumentParser(add_help=False)
+    common = Parser(add_help=False)
     add = common.add_argument
     add("--delay", type=int, help=f"delay of each link (default {DELAY}; of a file: of edges that have none)")
     add("--delay-to", type=int, metavar="MOST", help="random delays from --delay to this")
     add("--back", type=int, metavar="DELAY", help="delay of each link in the other direction (default the same)")
     add("--back-to", type=int, metavar="MOST", help="random delays in the other direction, from --back to this")
-    add("--members", default="all", metavar="N", help="how many members, the source among them, or all (default); "
-        "of a map also their names, parted by commas")
+    add("--members", default="all", metavar="N", help="how many members, the source among them, or all (default), or "
+        "their nodes by numbers or names, parted by commas")
     add("--source", default="first", metavar="NODE", help="the source's node: number, name, first (default) or random")
     add("--seed", type=int, default=0, help="seed of all random choices (default 0)")
     for name, default in FIXED.items():
@@ -220,6 +235,8 @@ def common_options() -> argparse.ArgumentParser:
     add("--adaptive", action="store_true", help="members adapt their timers, with the limits and the backoff of Floyd "
         "et al. (1997) for so many members; C1 and C2 begin with 2, D1 and D2 with log10 of the members, where no "
         "constant is given")
+    add("--backoff", type=int, choices=(2, 3), help="how many times as long a backoff makes a request timer (default 2, of "
+        "adaptive timers 3)")
     add("--draws", type=int, help=f"how many draws (default {DRAWS})")
     add("--every", type=int, help=f"ticks from a draw to the next (default {EVERY}, in rounds as many as 64 rounds of "
         "requests and repairs take)")
@@ -227,6 +244,8 @@ def common_options() -> argparse.ArgumentParser:
     add("--drop-link", metavar="LINK", help="a number, adjacent (to the source), random, or hops:H")
     add("--drop-packet", type=int, action="append", metavar="COUNT", help="lose this packet; repeatable (default 0)")
     add("--drop-every", type=int, metavar="K", help="lose packets 0, K, 2 K and so on")
+    add("--lose-operations", type=int, metavar="K", help="lose operations 0, K, 2 K and so on, whatever else the source "
+        "sends, by an outage of one tick for each")
     add("--rounds", type=int, metavar="N", help="N losses on --drop-link that lie apart: the source draws twice in each "
         "round, and an outage of one tick loses the first of the two")
     add("--any-packet", action="store_true", help="the lost packets may be repairs of the source")
@@ -243,12 +262,11 @@ def common_options() -> argparse.ArgumentParser:
 
 
 @cache
-def parser() -> argparse.ArgumentParser:
+def parser() -> Parser:
     """The command line's parser."""
     common = common_options()
-    whole = argparse.ArgumentParser(
-        prog="srm-scenarios", description=ABOUT, formatter_class=argparse.RawDescriptionHelpFormatter
-    )
+    whole = Parser(prog="srm-scenarios", description=ABOUT, formatter_class=argparse.RawDescriptionHelpFormatter)
+    whole.add_argument("-V", "--version", action="version", version=f"srm-scenarios {__version__}")
     kinds = whole.add_subparsers(dest="kind", required=True, metavar="KIND")
     for kind, told in (
         ("chain", "nodes in a row"),

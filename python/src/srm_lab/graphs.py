@@ -1,5 +1,7 @@
 """Networks from networkx graphs, GraphML, GML and lists of edges."""
 import math
+import re
+from collections import Counter, defaultdict
 from collections.abc import Iterable
 from dataclasses import dataclass
 from pathlib import Path
@@ -77,50 +79,50 @@ def check_names(nodes: Iterable[Any]) -> None:
 
 
 def links_of(graph: Any, delays: Delays) -> list[tuple[Any, Any, int, int]]:
-    """Each edge with its delays; of a directed graph the two edges between two nodes are one link."""
-    links: dict[tuple[Any, Any], tuple[Any, Any, int, int]] = {}
-    many = []
+    """Each edge with its delays; of a directed graph an edge and one back are one link."""
+    links: list[tuple[Any, Any, int, int]] = []
+    single: defaultdict[tuple[Any, Any], list[int]] = defaultdict(list)  # of a directed graph: links that lack an edge back
     found = 0
     for a, b, data in graph.edges(data=True):
         edge = f"edge {a} - {b}"
         found += delays.attribute in data
         delay = delays.of(edge, data, delays.attribute)
         back = delay if delays.back is None else delays.of(edge, data, delays.back)
-        if graph.is_directed() and (b, a) in links and a != b:
-            links[b, a] = (*links[b, a][:3], delay)
-        elif (a, b) in links:
-            many.append((a, b, delay, back))
+        if graph.is_directed() and a != b and single[b, a]:
+            place = single[b, a].pop(0)
+            links[place] = (*links[place][:3], delay)
         else:
-            links[a, b] = (a, b, delay, back)
+            single[a, b].append(len(links))
+            links.append((a, b, delay, back))
     if not found and delays.attribute != "delay" and graph.number_of_edges():
         raise ScenarioError(f"no edge has an attribute {delays.attribute!r}")
-    return [*links.values(), *many]
+    return links
 
 
 def _spanned(nodes: list[Any], links: list[tuple[Any, Any, int, int]], which: str, root: Any) -> list:
-    """The links of a spanning tree."""
+    """The links of a spanning tree; of parallel ones the shortest."""
     import networkx
 
     if which not in SPANNING:
         raise ScenarioError(f"spanning_tree is {which!r}, and has to be one of {', '.join(SPANNING)}")
-    simple = networkx.Graph()
-    simple.add_nodes_from(nodes)
-    for link in sorted(links, key=lambda link: -(link[2] + link[3])):  # of parallel edges the shortest stays
+    graph = networkx.MultiGraph()
+    graph.add_nodes_from(nodes)
+    for place, link in sorted(enumerate(links), key=lambda one: -(one[1][2] + one[1][3])):
         if link[0] != link[1]:
-            simple.add_edge(link[0], link[1], weight=link[2] + link[3], link=link)
-    if not networkx.is_connected(simple):
+            graph.add_edge(link[0], link[1], key=place, weight=link[2] + link[3])
+    if not networkx.is_connected(graph):
         raise ScenarioError("the graph is not connected, so it has no spanning tree")
     if which == "minimum":
-        chosen = networkx.minimum_spanning_tree(simple).edges
+        kept = {place for _, _, place in networkx.minimum_spanning_edges(graph, keys=True, data=False)}
     else:
         if root is None:
             root = nodes[0]
-        if root not in simple:
+        if root not in graph:
             raise ScenarioError(f"the root {root!r} is no node of the graph")
-        near, _ = networkx.dijkstra_predecessor_and_distance(simple, root)
-        chosen = [(before[0], node) for node, before in near.items() if before]
-    kept = {simple.edges[edge]["link"] for edge in chosen}
-    return [link for link in links if link in kept]
+        near, _ = networkx.dijkstra_predecessor_and_distance(graph, root)
+        ways = (graph[before[0]][node] for node, before in near.items() if before)
+        kept = {min((data["weight"], place) for place, data in way.items())[1] for way in ways}
+    return [link for place, link in enumerate(links) if place in kept]
 
 
 def from_file(path: str | Path, delays: Delays = Delays(), spanning_tree: str | None = None,
@@ -141,16 +143,17 @@ def node_of(graph: Any, name: Any) -> Any:
 def read_graph(path: str | Path, attribute: str = "delay") -> Any:
     """The graph in a GraphML or GML file, or in a list of edges (`node node` or `node node delay` in each line).
 
-    The delays of a list of edges become this attribute.
+    A node has its `label` as its name, where no other has the same, and else its id. The delays of a list of edges become
+    this attribute.
     """
     import networkx  # here, since most scenarios are made without it, and it takes long to load
 
     name = str(path).lower()
     try:
         if name.endswith(".graphml"):
-            return networkx.read_graphml(path)
+            return _by_labels(networkx.read_graphml(path))
         if name.endswith(".gml"):
-            return networkx.read_gml(path, label=None if _has_no_labels(path) else "label")
+            return _by_labels(_gml(Path(path).read_text(encoding="utf-8")))
         if name.endswith((".edges", ".edgelist", ".txt")):
             return _edge_list(path, attribute)
     except OSError as fault:
@@ -162,9 +165,22 @@ def read_graph(path: str | Path, attribute: str = "delay") -> Any:
     raise ScenarioError(f"{path}: the name has to end in .graphml, .gml, .edges, .edgelist or .txt")
 
 
-def _has_no_labels(path: str | Path) -> bool:
-    with open(path, encoding="utf-8") as text:
-        return not any(line.split()[:1] == ["label"] for line in text)
+def _gml(text: str) -> Any:
+    """The graph of a text in GML, with its nodes' ids; it may have parallel edges, whether or not it says so."""
+    import networkx
+
+    text = re.sub(r"^([^#\n]*?\bgraph\s*\[)", r"\1 multigraph 1 ", text, count=1, flags=re.MULTILINE)
+    return networkx.parse_gml(text, label=None)
+
+
+def _by_labels(graph: Any) -> Any:
+    """The same graph, in which a node has its label as its name where no other node has it as its label or its id."""
+    import networkx
+
+    labels = {node: str(label) for node, label in graph.nodes(data="label") if label not in (None, "")}
+    times, ids = Counter(labels.values()), {str(node): node for node in graph}
+    names = {node: label for node, label in labels.items() if times[label] == 1 and ids.get(label, node) == node}
+    return networkx.relabel_nodes(graph, names)
 
 
 def _edge_list(path: str | Path, attribute: str) -> Any:

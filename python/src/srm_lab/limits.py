@@ -1,6 +1,7 @@
 """The ranges of the scenario format (docs/FORMATS.md), one row for each of its versions."""
 from collections.abc import Sequence
 from dataclasses import dataclass, replace
+from operator import index
 from typing import Any
 
 from .errors import ScenarioError
@@ -56,9 +57,13 @@ def are_within(values: Sequence[Any], least: int, most: int) -> bool:
 
 
 def within(what: str, value: object, least: int, most: int) -> int:
-    """The value, if it is a whole number from least to most."""
-    if isinstance(value, bool) or not isinstance(value, int):
+    """The value, if it is a whole number, also one of numpy's, from least to most."""
+    try:
+        number = index(value)  # type: ignore[arg-type]
+    except TypeError:
+        number = None
+    if number is None or isinstance(value, bool):
         raise ScenarioError(f"{what} is {value!r}, and has to be a whole number")
-    if not least <= value <= most:
-        raise ScenarioError(f"{what} is {value}, and has to be {least} to {most}")
-    return value
+    if not least <= number <= most:
+        raise ScenarioError(f"{what} is {number}, and has to be {least} to {most}")
+    return number

@@ -1,11 +1,13 @@
 """Which links lose packets, and whether the lost packets are known to be data."""
 import random
+from bisect import bisect_left
+from collections import Counter
 from collections.abc import Callable, Iterable
 from typing import TYPE_CHECKING
 
 from .errors import ScenarioError
-from .limits import within
-from .parts import Drop, Outage, RandomLoss
+from .limits import MOST_NUMBERS, within
+from .parts import Draw, Drop, Outage, RandomLoss
 from .tree import Tree
 
 if TYPE_CHECKING:
@@ -86,6 +88,17 @@ def losers(tree: Tree, source: int, nodes: Iterable[int], link: int) -> list[int
     return [node for node in nodes if node in behind]
 
 
+def drawn(given: "Scenario", sender: int) -> list[Draw]:
+    """The draws that a sender sends, in order: once a page is full it sends no more of that page's."""
+    numbers: Counter[int] = Counter()
+    found = []
+    for draw in sorted((draw for draw in given.draws if draw.member == sender), key=lambda draw: draw.at):
+        numbers[draw.page] += 1
+        if numbers[draw.page] <= MOST_NUMBERS:
+            found.append(draw)
+    return found
+
+
 def first_lost(given: "Scenario", sender: int, draws: list[int]) -> dict[int, int]:
     """For each link that loses draws of a sender, made at these ticks, the place of the first of them.
 
@@ -98,7 +111,9 @@ def first_lost(given: "Scenario", sender: int, draws: list[int]) -> dict[int, in
     for one in taking:
         link = given.tree.links[one.link]
         comes = min(way[link.a], way[link.b])
-        lost += [(one.link, place) for place, at in enumerate(draws) if one.is_on(at + comes)]
+        place = bisect_left(draws, one.first - comes)
+        if place < len(draws) and one.is_on(draws[place] + comes):
+            lost.append((one.link, place))
     return {link: place for link, place in sorted(lost, reverse=True)}
 
 
@@ -113,24 +128,39 @@ def least_behind(tree: Tree, source: int, costs: dict[int, int]) -> dict[int, in
     return found
 
 
+def shortest(given: "Scenario", constant: str, trip: int) -> int:
+    """The shortest timer of a constant, of a round trip."""
+    return max(1, given.least(constant) * (trip // 2) // 1000)
+
+
+def times_to_ask(given: "Scenario", source: int) -> dict[int, int]:
+    """For each member's node the least time from its finding a loss of the source to its request."""
+    trips = given.tree.round_trips(source)
+    return {one.node: shortest(given, "c1", trips[one.node]) for one in given.members if one.node != source}
+
+
 def times_to_answer(given: "Scenario", source: int, sender: int) -> dict[int, int]:
     """For each member's node the least time from its finding a loss of the source to what the sender sends for it.
 
     Its shortest request timer, the request's way, and the sender's shortest repair timer; or the sender's own request.
     """
-    trips, to_sender = given.tree.round_trips(source), given.tree.round_trips(sender)
-    from_sender = given.tree.distances(sender)
+    to_sender, from_sender = given.tree.round_trips(sender), given.tree.distances(sender)
+    return {node: time if node == sender else time + to_sender[node] - from_sender[node] + shortest(
+        given, "d1", to_sender[node]) for node, time in times_to_ask(given, source).items()}
 
-    def shortest(constant: str, trip: int) -> int:
-        return max(1, given.least(constant) * (trip // 2) // 1000)
 
-    return {one.node: shortest("c1", trips[one.node]) + (
-                to_sender[one.node] - from_sender[one.node] + shortest("d1", to_sender[one.node])
-                if one.node != sender else 0) for one in given.members if one.node != source}
+def first_request(given: "Scenario") -> int | None:
+    """A tick before which no member sends a request, or a repair, or None where nobody asks for anything."""
+    return _earliest(given, lambda source: times_to_ask(given, source))
 
 
 def first_answer(given: "Scenario", sender: int) -> int | None:
-    """A tick before which a member sends no request and no repair, or None where nobody asks for anything.
+    """A tick before which a member sends no request and no repair, or None where nobody asks for anything."""
+    return _earliest(given, lambda source: times_to_answer(given, source, given.members[sender].node))
+
+
+def _earliest(given: "Scenario", times_of: Callable[[int], dict[int, int]]) -> int | None:
+    """The earliest tick at which something is sent so long after a member's node found a loss of a source's node.
 
     A loss is found when the next draw or a session message comes to a loser, one of another member's no earlier than the
     draw itself would; who comes late asks for what was before.
@@ -138,10 +168,10 @@ def first_answer(given: "Scenario", sender: int) -> int | None:
     ticks = []
     for other in sorted({draw.member for draw in given.draws}):
         source = given.members[other].node
-        draws = sorted(draw.at for draw in given.draws if draw.member == other)
-        times = times_to_answer(given, source, given.members[sender].node)
-        ticks += [one.join + times[one.node] for one in given.members if one.pages and one.node in times]
-        way = given.tree.distances(source)
+        draws = [draw.at for draw in drawn(given, other)]
+        times, way = times_of(source), given.tree.distances(source)
+        ticks += [one.join + times[one.node] for one in given.members if one.node in times and (
+            one.pages or one.role in ("sender", "receiver") and one.join > draws[0] + way[one.node])]
         behind = least_behind(given.tree, source, {node: way[node] + time for node, time in times.items()})
         for link, place in first_lost(given, other, draws).items():
             if link in behind:
@@ -151,23 +181,20 @@ def first_answer(given: "Scenario", sender: int) -> int | None:
     return min(ticks, default=None)
 
 
-def check_that_data_is_lost(given: "Scenario", sender: int = 0) -> None:
-    """Refuses drops of a sender's packets whose count may not be that of its draw of this number.
+def check_that_data_is_lost(given: "Scenario", counts: Iterable[int], sender: int = 0) -> None:
+    """Refuses to drop a sender's packets of these counts where one may not be that of its draw of this number.
 
     A packet count runs over all that a sender sends. It is the number of the draw as long as the sender has sent no
     request, no repair and no session message before.
     """
-    draws = sorted(draw.at for draw in given.draws if draw.member == sender)
-    counts = [drop.count for drop in given.drops if drop.sender == sender]
+    draws = [draw.at for draw in drawn(given, sender)]
+    others = [first_answer(given, sender), *(session.at for session in given.sessions if session.member == sender)]
+    limit = min((at for at in others if at is not None), default=None)
     for count in counts:
         if not 0 <= count < len(draws):
             raise ScenarioError(f"there is no draw {count} to lose: there are {len(draws)}")
-    others = [first_answer(given, sender), *(session.at for session in given.sessions if session.member == sender)]
-    limit = min((at for at in others if at is not None), default=None)
-    late = [count for count in counts if limit is not None and draws[count] >= limit]
-    if late:
-        raise ScenarioError(
-            f"packet {late[0]} of the source is drawn at tick {draws[late[0]]}, and from tick {limit} on the source may "
-            "have sent repairs or a session message, which count too: draw faster, lose fewer packets, lengthen the "
-            "delays, or say any_packet=True"
-        )
+        if limit is not None and draws[count] >= limit:
+            raise ScenarioError(
+                f"packet {count} of the source is drawn at tick {draws[count]}, and from tick {limit} on the source may have "
+                "sent repairs or a session message, which count too: lose_operations goes by operations; or draw faster, "
+                "lose fewer packets, lengthen the delays, or say any_packet=True")

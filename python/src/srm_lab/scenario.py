@@ -4,32 +4,34 @@
     scenario.random_tree(nodes=200, members=60, seed=7).lose(rate=0.01).leave(members=20, at=(40_000, 120_000))
 
 Every function and verb gives a scenario that the format takes, or raises ScenarioError with a sentence that names the
-key and the rule. Times and delays are in ticks. All random choices are those of the scenario's seed, of each verb its
-own.
+key and the rule. Rules of losses (`lose`, `lose_operations`, `rounds`) are kept until the scenario is written: then
+they take what the other verbs said, before them or after, and what a rule cannot do is refused. Times and delays are in
+ticks. All random choices are those of the scenario's seed, of each verb its own.
 """
 import hashlib
-import math
 import random
 from collections.abc import Collection, Iterable
-from dataclasses import dataclass, replace
-from decimal import Decimal, InvalidOperation
+from dataclasses import dataclass, field, replace
+from decimal import Decimal
 from functools import cached_property
 from pathlib import Path
-from typing import Any
+from typing import TYPE_CHECKING, Any
 
-from . import graphs, losses, router_map, shown, tree as trees, writing
+from . import graphs, loss_rules, losses, router_map, shown, tree as trees, writing
 from .checks import check
 from .errors import ScenarioError, perhaps, spelled, verbs_spelled
 from .graphs import Delays
 from .kept import kept
-from .limits import MOST_NUMBERS, MOST_TIME, NEWEST, VERSIONS, Limits, within
+from .limits import MOST_NUMBERS, MOST_SEED, MOST_TIME, NEWEST, VERSIONS, Limits, within
+from .loss_rules import EveryOperation, EveryPacket, ListedLosses, Rounds, Rule
 from .parts import CONSTANTS, LIMITS, Draw, Drop, Member, Outage, RandomLoss, Session
-from .setting import logarithm, setting
+from .timing import BACKOFF, Timing
 from .tree import Tree
 
 # a session's links, and its source's draws: they are over before the first loss is asked for
 DELAY, DRAWS, EVERY = 1000, 100, 1
 Ticks = int | tuple[int, int]
+Members = int | str | Iterable[Any]  # how many, `all`, or the nodes' names or numbers
 
 
 @verbs_spelled
@@ -39,7 +41,8 @@ class Scenario:
 
     Where `until` is None, the end leaves time for 64 rounds of asking and repairing after the last draw, session
     message or join. Where `version` is None, the first version of the format that has room is written.
-    `comments` are the lines in front of the file; the names of nodes stand there as well.
+    `comments` are the lines in front of the file; the names of nodes stand there as well. `rules` are losses that are
+    told by a rule; in `settled` stand the drops, outages and draws that they come to.
     """
 
     tree: Tree
@@ -66,21 +69,39 @@ class Scenario:
     d1_most: int | None = None
     d2_most: int | None = None
     backoff: int = 2
+    rules: tuple[Rule, ...] = ()
+    timings: tuple[Timing, ...] = field(default=(), repr=False, compare=False)  # what verbs said of the constants
 
     # ---- what it says ----------------------------------------------------------
 
     @cached_property
     def end(self) -> int:
         """Events before this tick are handled."""
-        return self.until if self.until is not None else self._room()
+        return self.until if self.until is not None else self.settled._room()
+
+    @cached_property
+    def settled(self) -> "Scenario":
+        """This scenario with the drops, outages and draws that its rules of losses come to, in place of the rules."""
+        if not self.rules:
+            return self
+        made = loss_rules.settled(self._bare, self.rules)
+        made = self._bare._with(draws=made.draws, drops=made.drops, outages=made.outages)
+        for rule in self.rules:
+            rule.check(made)
+        return made
+
+    @cached_property
+    def _bare(self) -> "Scenario":
+        """This scenario without its rules of losses."""
+        return replace(self, rules=()) if self.rules else self
 
     def _room(self) -> int:
         """An end that leaves time for 64 rounds of asking and repairing after the last thing that is to happen."""
         last = max([*(draw.at for draw in self.draws), *(session.at for session in self.sessions),
                     *(member.join for member in self.members)], default=0)
-        return min(MOST_TIME, last + self._recovery())
+        return min(MOST_TIME, last + self.recovery())
 
-    def _recovery(self) -> int:
+    def recovery(self) -> int:
         """Time for 64 rounds of asking and repairing, of members that are as far from each other as any are."""
         nodes = [member.node for member in self.members] or [0]
         first = self.tree.round_trips(nodes[0])
@@ -109,6 +130,8 @@ class Scenario:
     @cached_property
     def least_version(self) -> int:
         """The first version of the format that has room for this scenario."""
+        if self.rules:
+            return self.settled.least_version
         for version, limits in VERSIONS.items():
             fits = self._fits(limits) and (limits.large or "parent" not in self.tree.shorthand)
             two_way = limits.two_way or self.tree.is_even and "back" not in self.tree.shorthand
@@ -122,7 +145,7 @@ class Scenario:
     @property
     def is_large(self) -> bool:
         """Whether only a version with larger networks has room for so many nodes, members and other elements."""
-        return not self._fits(VERSIONS[2])
+        return not self.settled._fits(VERSIONS[2])
 
     def _fits(self, limits: Limits) -> bool:
         """Whether a version has room for so many nodes and elements."""
@@ -132,7 +155,8 @@ class Scenario:
 
     def source(self) -> int:
         """The member that draws first, or member 0."""
-        return min(self.draws, key=lambda draw: draw.at).member if self.draws else 0
+        draws = self.settled.draws
+        return min(draws, key=lambda draw: draw.at).member if draws else 0
 
     def wants(self, member: int, page: int) -> bool:
         """Whether operations from before this member came to the page concern it."""
@@ -158,7 +182,7 @@ class Scenario:
     def outages_of(self) -> dict[int, list[Outage]]:
         """The outages of each link that has some."""
         found: dict[int, list[Outage]] = {}
-        for outage in self.outages:
+        for outage in self.settled.outages:
             found.setdefault(outage.link, []).append(outage)
         return found
 
@@ -166,7 +190,7 @@ class Scenario:
     def drops_of(self) -> dict[tuple[int, int], frozenset[int]]:
         """The links that drop a packet, for each (sender, count) that some link drops."""
         found: dict[tuple[int, int], set[int]] = {}
-        for drop in self.drops:
+        for drop in self.settled.drops:
             found.setdefault((drop.sender, drop.count), set()).add(drop.link)
         return {packet: frozenset(links) for packet, links in found.items()}
 
@@ -181,8 +205,9 @@ class Scenario:
     # ---- its text --------------------------------------------------------------
 
     def check(self) -> "Scenario":
-        """This scenario, or ScenarioError with the first thing that the format refuses."""
-        return self._checked
+        """This scenario, or ScenarioError with the first thing that the format refuses, or that a rule of losses does."""
+        self.settled._checked
+        return self
 
     @cached_property
     def _checked(self) -> "Scenario":
@@ -191,11 +216,11 @@ class Scenario:
 
     def table(self) -> dict[str, Any]:
         """The keys and values of the scenario file."""
-        return writing.table_of(self.check())
+        return writing.table_of(self.check().settled)
 
     def text(self) -> str:
         """The scenario file."""
-        return writing.text_of(self.check())
+        return writing.text_of(self.check().settled)
 
     def digest(self) -> str:
         """The SHA-256 of the scenario file, but for `comments`: what tells scenarios apart."""
@@ -217,34 +242,54 @@ class Scenario:
         return path
 
     def __repr__(self) -> str:
-        return f"<Scenario: {shown.line_of(self)}>"
+        return f"<Scenario: {shown.line_of(self._shown)}>"
 
     def _repr_html_(self) -> str:
-        return shown.scenario_html(self)
+        return shown.scenario_html(self._shown)
+
+    @property
+    def _shown(self) -> "Scenario":
+        """What is shown of it: with what its rules of losses come to, but where they are refused."""
+        try:
+            return self.settled
+        except ScenarioError:
+            return self._bare
 
     # ---- verbs -----------------------------------------------------------------
+
+    if not TYPE_CHECKING:  # which is to see what is misspelt
+        def __getattr__(self, name: str) -> Any:
+            if name.startswith("_"):
+                raise AttributeError(name)
+            raise AttributeError(f"a scenario has no {name!r}{perhaps(name, (*vars(type(self)), *vars(self)))}")
 
     def _with(self, **changes: Any) -> "Scenario":
         """This scenario with changes; elements that were checked already, and stay, are not checked again.
 
-        What one version of the format takes, each later one does.
+        What one version of the format takes, each later one does. Rules of losses wait until the scenario is written.
         """
         made = replace(self, **changes)
-        if "_checked" in vars(self) and made.least_version >= self.least_version:
-            check(made, changes)
-            vars(made)["_checked"] = made
-        return made.check()
+        before, after = self._bare, made._bare
+        if "_checked" in vars(before) and after.least_version >= before.least_version:
+            check(after, changes)
+            vars(after)["_checked"] = after
+        after._checked
+        return made
+
+    def _seed(self, seed: int | None) -> int:
+        return self.seed if seed is None else seed_of(seed)
 
     def _rng(self, verb: str, seed: int | None) -> random.Random:
-        return random.Random(f"{verb} {self.seed if seed is None else seed}")
+        return random.Random(f"{verb} {self._seed(seed)}")
 
     def constants(self, **values: float | str) -> "Scenario":
         """Sets `c1`, `c2`, `d1` or `d2`: a number with at most three decimals, or `log10` or `sqrt` of the members.
 
-        `c1_least`, `c1_most` and so on say how far members adapt a constant.
+        `c1_least`, `c1_most` and so on say how far members adapt a constant. `backoff`, 2 or 3, is how many times as long
+        a backoff makes a request timer.
         """
-        _check_constants(values, (*CONSTANTS, *LIMITS))
-        return self._with(**{name: thousandths(str(value), len(self.members)) for name, value in values.items()})
+        _check_constants(values, (*CONSTANTS, *LIMITS, BACKOFF))
+        return self._timed(Timing(values))
 
     def adaptive(self, **first: float | str) -> "Scenario":
         """Lets members adapt their timers, with the limits and the backoff of Floyd et al. (1997) for so many members.
@@ -253,12 +298,24 @@ class Scenario:
         numbers these are. Without it, or after `constants(...)` has set limits, timers are as the constants say.
         """
         _check_constants(first, CONSTANTS)
-        given = {name: thousandths(str(value), len(self.members)) for name, value in first.items()}
-        return self._with(**setting(len(self.members), given))
+        return self._timed(Timing(first, is_adaptive=True))
+
+    def _timed(self, timing: Timing) -> "Scenario":
+        return self._with(timings=(*self.timings, timing), **timing.keys(len(self.members)))
+
+    def in_version(self, version: int) -> "Scenario":
+        """Writes the scenario in this version of the format, 1 to 4, in place of the first that has room for it."""
+        return self._with(version=version)
 
     def ends(self, until: int) -> "Scenario":
         """Handles events before this tick only."""
         return self._with(until=until)
+
+    def delay(self, delay: int, most: int | None = None, seed: int | None = None) -> "Scenario":
+        """Gives each link this delay in both directions, or a random one from `delay` to `most`."""
+        if most is None:
+            return self._with(tree=self.tree.with_delay(delay))
+        return self._with(tree=self.tree.with_delays(delay, most, self._rng("delay", seed)))
 
     def back(self, delay: int, most: int | None = None, seed: int | None = None) -> "Scenario":
         """Gives the other direction of each link this delay, or a random one from `delay` to `most`."""
@@ -270,7 +327,9 @@ class Scenario:
     def member(self, node: int | str, role: str = "receiver", **keys: Any) -> "Scenario":
         """Puts one more member on a node, named by its number or its name; `keys` are those of Member."""
         keys.setdefault("stream", len(self.members) + 1)
-        return self._with(members=(*self.members, Member(self.tree.number(node), role, **keys)))
+        members = (*self.members, Member(self.tree.number(node), role, **keys))
+        again = {key: value for timing in self.timings for key, value in timing.keys(len(members)).items()}
+        return self._with(members=members, **again)
 
     def role(self, members: Iterable[int], role: str, pages: Iterable[int] | None = None) -> "Scenario":
         """Gives members a role; `pages` are those that late members want."""
@@ -317,13 +376,13 @@ class Scenario:
 
         A session message follows `every` ticks after the last of them, so that a loss of the last one is found too.
         """
-        within("count", count, 0, MOST_NUMBERS)
-        within("every", every, 1, MOST_TIME)
-        within("start", start, 0, MOST_TIME)
+        count, every = within("count", count, 0, MOST_NUMBERS), within("every", every, 1, MOST_TIME)
+        start = within("start", start, 0, MOST_TIME)
         own = tuple(Draw(member, page, number, start + number * every) for number in range(count))
         told = (Session(member, start + count * every),) if count else ()
         return self._with(draws=(*(one for one in self.draws if one.member != member), *own),
-                          sessions=(*(one for one in self.sessions if one.member != member), *told))
+                          sessions=(*(one for one in self.sessions if one.member != member), *told),
+                          rules=tuple(one for one in self.rules if not isinstance(one, Rounds) or one.sender != member))
 
     def rounds(self, count: int, link: int | str, every: int | None = None, seed: int | None = None,
                sender: int = 0, page: int = 0) -> "Scenario":
@@ -334,12 +393,13 @@ class Scenario:
         as many as 64 rounds of asking and repairing take, so that a round is over before the next begins.
         """
         number = losses.link_of(str(link), self, self._rng("rounds", seed), sender)
-        every = self._recovery() if every is None else within("every", every, 1, MOST_TIME)
-        made = self.drawing(2 * within("count", count, 0, MOST_NUMBERS // 2), every, 0, sender, page)
-        arrival = losses.arrival(made.tree, made.members[sender].node, number)
-        outages = tuple(Outage(number, at, at + 1) for at in range(arrival, arrival + 2 * count * every, 2 * every))
-        kept = tuple(session for session in made.sessions if session.member != sender)
-        return made._with(outages=(*made.outages, *outages), sessions=kept)
+        if every is not None:
+            within("every", every, 1, MOST_TIME)
+        rule = Rounds(within("count", count, 0, MOST_NUMBERS // 2), number, every, sender, within("page", page, 0, NEWEST.page))
+        return self.drawing(0, member=sender)._ruled(rule)
+
+    def _ruled(self, rule: Rule) -> "Scenario":
+        return self._with(rules=(*self.rules, rule))
 
     def drop(self, link: int, count: int | Iterable[int], sender: int = 0) -> "Scenario":
         """Lets a link drop a packet of a sender, or several, by their numbers among all that it sends, from 0."""
@@ -360,33 +420,42 @@ class Scenario:
         With `every` a link drops the packets 0, K, 2 K and so on of the `sender`, by default member 0. `link` says which
         one: a number, `adjacent` to the sender, `random`, or `hops:H` away from it; with a rate all links do where none
         is named. A packet counts among all that its sender sends; the first `packets` may be dropped, by default as many
-        as it draws. Every K-th has to be data of the draws, losses and timers that the scenario has by now: where a
-        repair might come in place of it that is refused, unless `any_packet` allows it.
+        as it draws. Every K-th has to be data: where a repair might come in place of it the scenario is not written, unless
+        `any_packet` allows it. See `lose_operations` for draws that last longer than the first recovery.
         """
         if (rate is None) == (every is None):
             raise ScenarioError("lose: give either a rate or every")
         has_place = bool(stream or first or last is not None)
         if sender is not None:
             within("sender", sender, 0, max(0, len(self.members) - 1))
-        rng, one = self._rng("lose", seed), sender or 0
-        named = None if link is None else losses.link_of(str(link), self, rng, one)
+        one = sender or 0
+        named = None if link is None else losses.link_of(str(link), self, self._rng("lose", seed), one)
+        if packets is not None:
+            within("packets", packets, 0, NEWEST.count)
         if every is not None:
             if named is None:
                 raise ScenarioError("lose: every needs a link")
             if has_place:
                 raise ScenarioError("lose: stream, first and last go with a rate")
-            counts = range(0, self._packets(one, packets), within("every", every, 1, NEWEST.elements))
-            made = self.drop(named, counts, one)
-            if not any_packet:
-                losses.check_that_data_is_lost(made, one)
-            return made
+            return self._ruled(EveryPacket(named, within("every", every, 1, NEWEST.elements), one, packets, any_packet))
         if sender is None and packets is None and (self.version not in VERSIONS or VERSIONS[self.version].losses):
             return self._lossy(_probability(rate), named, stream, first, last)
         if has_place:
             raise ScenarioError("lose: stream, first and last are of losses at random, which know no sender and no packets, "
                                 "and which only version 4 has")
-        found = losses.bernoulli(self, _probability(rate), named, rng, lambda sender: self._packets(sender, packets))
-        return self._with(drops=(*self.drops, *(drop for drop in found if sender in (None, drop.sender))))
+        return self._ruled(ListedLosses(_probability(rate), named, sender, packets, self._seed(seed)))
+
+    def lose_operations(self, every: int, link: int | str, seed: int | None = None, sender: int = 0) -> "Scenario":
+        """Loses the operations 0, K, 2 K and so on of a sender on one link, whatever else is sent.
+
+        The link, which is chosen as by `lose`, is out for the one tick at which each of them comes to it. Where another
+        operation or a session message would come to it in such a tick, that is refused. A request or a repair may, and
+        then is lost too: so lost operations have to be 100 ticks apart from the tick on at which the first is sent, and
+        at most one packet in a hundred is. With long delays, which make a tick a short time, it is one of many more.
+        How many were, the table of links tells: all that `dropped` has above the number of lost operations.
+        """
+        number = losses.link_of(str(link), self, self._rng("lose", seed), sender)
+        return self._ruled(EveryOperation(number, within("every", every, 1, MOST_NUMBERS), sender))
 
     def _lossy(self, rate: float, link: int | None, stream: int, first: int, last: int | None) -> "Scenario":
         """Lets a link lose packets at random, or all links."""
@@ -397,10 +466,6 @@ class Scenario:
         links = range(len(self.tree.links)) if link is None else (link,)
         made = tuple(RandomLoss(one, share, stream, first, end) for one in links if share)
         return self._with(random_losses=(*self.random_losses, *made))
-
-    def _packets(self, sender: int, packets: int | None) -> int:
-        drawn = sum(draw.member == sender for draw in self.draws)
-        return drawn if packets is None else within("packets", packets, 0, NEWEST.count)
 
     def outage(self, link: int, first: int, last: int) -> "Scenario":
         """Lets a link drop each packet that comes to it from tick `first` to tick `last`, both in it."""
@@ -453,24 +518,24 @@ def _numbers(what: str, given: int | Iterable[int]) -> list[int]:
     return [within(what, one, 0, MOST_TIME) for one in several]
 
 
-def thousandths(text: str, members: int) -> int:
-    """A timer constant in thousandths: of a number with at most three decimals, or of log10 or sqrt of the members."""
-    if text in ("log10", "sqrt"):
-        return logarithm(members) if text == "log10" else round(1000 * math.sqrt(members))
-    try:
-        number = Decimal(text) * 1000
-    except InvalidOperation:
-        raise ScenarioError(f"{text!r} is no number, log10 or sqrt") from None
-    if not number.is_finite() or number != int(number):
-        raise ScenarioError(f"{text} has more than three decimals, and the format has thousandths")
-    return within(f"{text} in thousandths", int(number), 0, NEWEST.constant)
+def seed_of(seed: Any) -> int:
+    """A seed of random choices."""
+    return within("seed", seed, 0, MOST_SEED)
 
 
 # ---- scenarios on networks of a kind -------------------------------------------
 
+if not TYPE_CHECKING:
+    def __getattr__(name: str) -> Any:
+        if name.startswith("_"):
+            raise AttributeError(name)
+        makers = [word for word, one in globals().items() if getattr(one, "__annotations__", {}).get("return") is Scenario]
+        raise AttributeError(f"srm_lab.scenario has no {name!r}{perhaps(name, makers)}")
+
+
 @spelled
 @kept
-def chain(nodes: int, members: int | str = "all", source: int | str = "first", delay: int = DELAY,
+def chain(nodes: int, members: Members = "all", source: int | str = "first", delay: int = DELAY,
           seed: int = 0) -> Scenario:
     """Nodes in a row. See `on` for the other words."""
     return on(trees.chain(nodes, delay), members, source, seed)
@@ -478,7 +543,7 @@ def chain(nodes: int, members: int | str = "all", source: int | str = "first", d
 
 @spelled
 @kept
-def star(nodes: int, members: int | str = "all", source: int | str = "first", delay: int = DELAY,
+def star(nodes: int, members: Members = "all", source: int | str = "first", delay: int = DELAY,
          seed: int = 0) -> Scenario:
     """A hub, node 0, without a member, and a link from it to each other node. See `on` for the other words."""
     return on(trees.star(nodes, delay), members, source, seed)
@@ -486,7 +551,7 @@ def star(nodes: int, members: int | str = "all", source: int | str = "first", de
 
 @spelled
 @kept
-def regular_tree(nodes: int, degree: int = 4, members: int | str = "all", source: int | str = "first",
+def regular_tree(nodes: int, degree: int = 4, members: Members = "all", source: int | str = "first",
                  delay: int = DELAY, seed: int = 0) -> Scenario:
     """A tree whose inner nodes have this degree, as far as the nodes last. See `on` for the other words."""
     return on(trees.bounded_degree(nodes, degree, delay), members, source, seed)
@@ -494,35 +559,50 @@ def regular_tree(nodes: int, degree: int = 4, members: int | str = "all", source
 
 @spelled
 @kept
-def random_tree(nodes: int, members: int | str = "all", source: int | str = "first", delay: int = DELAY,
+def random_tree(nodes: int, members: Members = "all", source: int | str = "first", delay: int = DELAY,
                 seed: int = 0) -> Scenario:
     """A random labelled tree: each one of this size has the same chance. See `on` for the other words."""
     return on(trees.random_labelled(nodes, delay, random.Random(f"tree {seed}")), members, source, seed)
 
 
 @spelled
+def from_parents(parent: Iterable[int], delay: int | Iterable[int] = DELAY, back: int | Iterable[int] | None = None,
+                 members: Members = "all", source: int | str = "first", seed: int = 0) -> Scenario:
+    """A network by the parents of nodes 1, 2 and so on, as the format's `parent` tells it; node 0 has none.
+
+    `delay` is that of each link from the parent to the child, or has one for each link, and `back` the same of the other
+    direction, by default as long. See `on` for the other words.
+    """
+    return on(trees.by_parents(parent, delay, back), members, source, seed)
+
+
+@spelled
 def from_graph(graph: Any, delays: Delays | int = Delays(), spanning_tree: str | None = None,
-               members: int | str = "all", source: int | str = "first", seed: int = 0) -> Scenario:
+               members: Members = "all", source: int | str = "first", seed: int = 0) -> Scenario:
     """A networkx graph whose nodes keep their names; `delays` says where its delays stand, or is that of each link.
 
-    The shortest spanning tree is that of the source, where the source is named.
+    The shortest spanning tree is that of the source, where the source is named. See `on` for the other words.
     """
     delays = Delays(default=delays) if isinstance(delays, int) else delays
-    root = source if source in graph else None
+    root = graphs.node_of(graph, source)
+    root = root if root in graph else None
     return on(graphs.from_graph(graph, delays, spanning_tree, root), members, source, seed)
 
 
 @spelled
 def from_file(path: str | Path, delays: Delays | int = Delays(), spanning_tree: str | None = None,
-              members: int | str = "all", source: int | str = "first", seed: int = 0) -> Scenario:
-    """The graph in a GraphML or GML file, or a list of edges, as `from_graph` takes it."""
+              members: Members = "all", source: int | str = "first", seed: int = 0) -> Scenario:
+    """The graph in a GraphML or GML file, or a list of edges, as `from_graph` takes it.
+
+    A node has its `label` as its name, where no other has the same, and else its id.
+    """
     delays = Delays(default=delays) if isinstance(delays, int) else delays
     root = None if source in ("first", "random") else str(source)
     return on(graphs.from_file(path, delays, spanning_tree, root), members, source, seed)
 
 
 @spelled
-def from_router_map(graph: Any, delays: Delays | int = Delays(), members: int | str | Iterable[Any] = "all",
+def from_router_map(graph: Any, delays: Delays | int = Delays(), members: Members = "all",
                     source: Any = "first", seed: int = 0) -> Scenario:
     """A session on a map of routers of any size: the tree of shortest ways from the source to the members.
 
@@ -554,11 +634,11 @@ def from_router_map(graph: Any, delays: Delays | int = Delays(), members: int | 
 
 
 @spelled
-def on(tree: Tree, members: int | str = "all", source: int | str = "first", seed: int = 0) -> Scenario:
+def on(tree: Tree, members: Members = "all", source: int | str = "first", seed: int = 0) -> Scenario:
     """A session on a network: member 0, a sender, draws 100 times, a tick apart, and the others receive.
 
-    `members` is how many there are, the source among them, on nodes chosen at random, or `all`. `source` is a node by
-    its number or name, `first` or `random`. `drawing` puts other draws in place of these.
+    `members` is how many there are, the source among them, on nodes chosen at random; or their nodes, by numbers or
+    names; or `all`. `source` is a node by its number or name, `first` or `random`. `drawing` puts other draws in place of these.
     """
     return _session(tree, place_members(tree, members, source, random.Random(f"members {seed}")), seed)
 
@@ -566,24 +646,29 @@ def on(tree: Tree, members: int | str = "all", source: int | str = "first", seed
 def _session(tree: Tree, nodes: Iterable[int], seed: int) -> Scenario:
     """A session of members on these nodes, the source's first."""
     made = tuple(Member(node, "receiver" if place else "sender", place + 1) for place, node in enumerate(nodes))
-    return Scenario(tree, made, seed=seed).drawing(DRAWS)
+    return Scenario(tree, made, seed=seed_of(seed)).drawing(DRAWS)
 
 
-def place_members(tree: Tree, members: int | str, source: int | str, rng: random.Random) -> list[int]:
+def place_members(tree: Tree, members: Members, source: int | str, rng: random.Random) -> list[int]:
     """The members' nodes, the source's first and the others in rising order."""
     hosts = tree.hosts()
     if not hosts:
         raise ScenarioError("no node may host a member")
-    if source in ("first", "random"):
-        node = hosts[0] if source == "first" else rng.choice(hosts)
-    else:
-        node = tree.number(source)
-        if node not in hosts:
-            raise ScenarioError(f"source {source}: no node that may host a member")
+    node = hosts[0] if source == "first" else rng.choice(hosts) if source == "random" else _host(tree, source, "source")
     others = [host for host in hosts if host != node]
-    if members != "all":
-        others = sorted(rng.sample(others, within("members", members, 1, len(hosts)) - 1))
-    return [node, *others]
+    if isinstance(members, str):
+        return [node, *(others if members == "all" else {_host(tree, members, "members")} - {node})]
+    if isinstance(members, Iterable):
+        return [node, *sorted({_host(tree, name, "members") for name in members} - {node})]
+    return [node, *sorted(rng.sample(others, within("members", members, 1, len(hosts)) - 1))]
+
+
+def _host(tree: Tree, name: int | str, what: str) -> int:
+    """The node of this name or number, if it may host a member."""
+    node = tree.number(name)
+    if node == tree.hub:
+        raise ScenarioError(f"{what} {name}: no node that may host a member")
+    return node
 
 
 @spelled

@@ -143,8 +143,16 @@ class Tree:
     def _kept(self) -> dict[str, dict[int, dict[int, int]]]:
         return {}
 
+    def with_delay(self, delay: int) -> "Tree":
+        """The same tree with this delay at each link, in both directions."""
+        shorthand = {key: value for key, value in self.shorthand.items() if key not in ("back", "backs", "delays")}
+        links = _even(((link.a, link.b) for link in self.links), delay)
+        return replace(self, links=links, shorthand={**shorthand, "delay": delay} if shorthand else {})
+
     def with_delays(self, least: int, most: int, rng: random.Random) -> "Tree":
         """The same tree with a random delay from least to most at each link, the same in both directions."""
+        if self.hub is not None:
+            raise ScenarioError("the format has one delay for all links of a star")
         within("the least delay", least, 1, MOST_DELAY)
         within("the greatest delay", most, least, MOST_DELAY)
         links = tuple(Link.both_ways(link.a, link.b, rng.randint(least, most)) for link in self.links)
@@ -226,6 +234,20 @@ def of_parents(keys: dict[str, Any]) -> Tree:
     links = tuple(Link(near, node, *ticks) for node, (near, *ticks) in enumerate(zip(parent, delays, backs), 1))
     shorthand = {key: keys[key] for key in ("topology", "parent", "delay", "delays", "back", "backs") if key in keys}
     return Tree(len(parent) + 1, links, shorthand)
+
+
+def by_parents(parent: Iterable[int], delay: int | Iterable[int], back: int | Iterable[int] | None = None) -> Tree:
+    """The tree of the parents of nodes 1, 2 and so on: a delay for all links or for each, and so of the other direction."""
+    keys: dict[str, Any] = {"topology": "parents", "parent": list(parent)}
+    for key, ticks in (("delay", delay), ("back", back)):
+        if isinstance(ticks, Iterable):
+            keys[f"{key}s"] = list(ticks)
+            if len(keys[f"{key}s"]) != len(keys["parent"]):
+                raise ScenarioError(f"{key} has {len(keys[f'{key}s'])} numbers, and has to have one for each of the "
+                                    f"{len(keys['parent'])} links")
+        elif ticks is not None:
+            keys[key] = ticks
+    return of_parents(keys)
 
 
 def random_labelled(size: int, delay: int, rng: random.Random) -> Tree:

@@ -8,6 +8,8 @@ from collections.abc import Sequence
 from pathlib import Path
 
 from ..errors import ScenarioError
+from ..limits import MOST_SEED, within
+from ..parsing import Parser
 from ..reading import read_scenario
 from ..tables import read_trace
 from ..traces import find_program
@@ -22,10 +24,9 @@ that which was installed with this package, or by srm_lab of the PATH.
 COLUMNS = ["time", "member", "cause", "ref", "result", "lost", "sent"]
 
 
-def parser() -> argparse.ArgumentParser:
+def parser() -> Parser:
     """The command line's parser."""
-    made = argparse.ArgumentParser(prog="srm-scenarios page", description=ABOUT,
-                                   formatter_class=argparse.RawDescriptionHelpFormatter)
+    made = Parser(prog="srm-scenarios page", description=ABOUT, formatter_class=argparse.RawDescriptionHelpFormatter)
     add = made.add_argument
     add("scenario", metavar="SCENARIO", help="the scenario file")
     add("trace", metavar="TRACE", nargs="?", help="its trace (default: the run is made)")
@@ -88,6 +89,7 @@ def comments_of(text: str) -> list[str]:
 
 def made(options: argparse.Namespace) -> str:
     """The page of the command line."""
+    within("--seed", options.seed, 0, MOST_SEED)
     scenario = Path(options.scenario).read_bytes()
     text = scenario.decode("utf-8-sig")
     title = options.title or Path(options.scenario).stem

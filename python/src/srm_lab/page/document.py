@@ -44,7 +44,7 @@ class Document:
 
     def about(self, title: str, comments: list[str]) -> dict[str, Any]:
         """All but the columns: the scenario, and what of the trace is there."""
-        given = self.given
+        given = self.given.settled
         members = [[it.node, it.role, it.stream, it.join, it.leave, list(it.pages or ())] for it in given.members]
         return {
             "title": title,
