@@ -1,12 +1,12 @@
 # bash completion of srm-scenarios
 _srm_scenarios() {
     local word=${COMP_WORDS[COMP_CWORD]} before=${COMP_WORDS[COMP_CWORD-1]} options
-    local common="--delay --delay-to --back --back-to --members --source --seed --c1 --c2 --d1 --d2 --adaptive --draws --every
-        --start --drop-link --drop-packet --drop-every --rounds --any-packet --loss --outage --join --leave --session-after
-        --no-session --until --help"
+    local common="--delay --delay-to --back --back-to --members --source --seed --c1 --c2 --d1 --d2 --adaptive --backoff --draws
+        --every --start --drop-link --drop-packet --drop-every --lose-operations --rounds --any-packet --loss --outage --join
+        --leave --session-after --no-session --until --help"
     COMPREPLY=()
     if (( COMP_CWORD == 1 )); then
-        mapfile -t COMPREPLY < <(compgen -W "chain star tree random file map page --help" -- "$word")
+        mapfile -t COMPREPLY < <(compgen -W "chain star tree random file map page --help --version" -- "$word")
         return
     fi
     case $before in
@@ -14,6 +14,7 @@ _srm_scenarios() {
         --source) mapfile -t COMPREPLY < <(compgen -W "first random" -- "$word"); return ;;
         --drop-link) mapfile -t COMPREPLY < <(compgen -W "adjacent random hops:" -- "$word"); return ;;
         --c1 | --c2 | --d1 | --d2) mapfile -t COMPREPLY < <(compgen -W "log10 sqrt" -- "$word"); return ;;
+        --backoff) mapfile -t COMPREPLY < <(compgen -W "2 3" -- "$word"); return ;;
         --spanning-tree) mapfile -t COMPREPLY < <(compgen -W "shortest minimum" -- "$word"); return ;;
         --program) mapfile -t COMPREPLY < <(compgen -c -- "$word"); return ;;
         --adaptive | --any-packet | --no-session | --help) ;;

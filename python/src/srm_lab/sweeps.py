@@ -13,6 +13,7 @@ from .frames import COLUMNS, Frames
 from .parts import CONSTANTS, LIMITS
 from .runs import CACHE, Job, asked_of, origin, perform_all, seeds_of, workers_of
 from .scenario import Scenario
+from .timing import BACKOFF
 
 Maker = Scenario | Callable[..., Scenario] | None
 Parameters = Mapping[str, Any]
@@ -144,7 +145,7 @@ def maker_of(make: Maker, values: dict[str, dict[Any, Any]]) -> tuple[Callable[.
         raise TypeError("a sweep needs a function that gives the scenario, or a scenario, or one parameter whose values "
                         "are scenarios: {\"network\": {\"small\": ..., \"large\": ...}}")
     for name in values:
-        if name not in (*CONSTANTS, *LIMITS, *networks):
+        if name not in (*CONSTANTS, *LIMITS, BACKOFF, *networks):
             raise ScenarioError(f"parameter {name!r} is no constant of timers{perhaps(name, CONSTANTS)}: give a function "
                                 "that makes the scenario of it")
 
