@@ -154,6 +154,9 @@ TWO = scenario.chain(4, delay=10).role([3], "sender")
     (lambda: scenario.chain(3, delay=10).drawing(8, every=25).lose_operations(every=2, link=1),
      "link 1 is out at tick 60 and again at 110, and from tick 85 on requests"),
     (lambda: scenario.chain(3, delay=10).rounds(4, 1, every=25), "link 1 is out at tick 60 and again at 110"),
+    *((lambda words=words: getattr(scenario.chain(4, members=[1]), words[0])(link=2, **words[1]),
+       "link 2 is on no way from member 0 to another member") for words in (
+        ("lose", {"every": 2}), ("lose_operations", {"every": 2}), ("rounds", {"count": 2}))),
     (lambda: SLOW.lose_operations(every=0, link=0), "every is 0, and has to be 1 to 4096"),
     (lambda: SLOW.lose_operations(every=2, link=2), "there is no link 2"),
     (lambda: SLOW.lose_operations(every=2, link=0, sender=3), "sender is 3, and has to be 0 to 2"),

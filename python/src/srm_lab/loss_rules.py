@@ -45,6 +45,7 @@ class EveryPacket:
         return replace(given, drops=(*given.drops, *(Drop(self.link, self.sender, count) for count in self._counts(given))))
 
     def check(self, given: "Scenario") -> None:
+        check_link(given, self.link, self.sender)
         if not self.any_packet:
             check_that_data_is_lost(given, self._counts(given), self.sender)
 
@@ -83,6 +84,7 @@ class EveryOperation:
         return with_outages(given, self.link, self._ticks(given))
 
     def check(self, given: "Scenario") -> None:
+        check_link(given, self.link, self.sender)
         check_outages(given, self.link, self._ticks(given), drawn(given, self.sender)[::self.every])
 
     def _ticks(self, given: "Scenario") -> list[int]:
@@ -105,6 +107,7 @@ class Rounds:
         return with_outages(made, self.link, self._ticks(given))
 
     def check(self, given: "Scenario") -> None:
+        check_link(given, self.link, self.sender)
         check_outages(given, self.link, self._ticks(given), self._draws(given)[::2])
 
     def _draws(self, given: "Scenario") -> list[Draw]:
@@ -131,6 +134,13 @@ def packets_of(given: "Scenario", sender: int, packets: int | None) -> int:
 def with_outages(given: "Scenario", link: int, ticks: Iterable[int]) -> "Scenario":
     """A scenario whose link is out in these ticks."""
     return replace(given, outages=(*given.outages, *(Outage(link, at, at + 1) for at in dict.fromkeys(ticks))))
+
+
+def check_link(given: "Scenario", link: int, sender: int) -> None:
+    """Refuses a link that none of a sender's packets comes to."""
+    nodes = [member.node for member in given.members]
+    if link not in links_in_use(given.tree, nodes[sender], nodes):
+        raise ScenarioError(f"link {link} is on no way from member {sender} to another member, so that it loses nothing")
 
 
 def check_outages(given: "Scenario", link: int, ticks: Iterable[int], lost: Iterable[Draw]) -> None:

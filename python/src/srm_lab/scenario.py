@@ -85,7 +85,8 @@ class Scenario:
         if not self.rules:
             return self
         made = loss_rules.settled(self._bare, self.rules)
-        made = self._bare._with(draws=made.draws, drops=made.drops, outages=made.outages)
+        parts = {name: getattr(made, name) for name in ("draws", "drops", "outages")}
+        made = self._bare._with(**{name: part for name, part in parts.items() if part is not getattr(self, name)})
         for rule in self.rules:
             rule.check(made)
         return made
@@ -269,8 +270,10 @@ class Scenario:
         What one version of the format takes, each later one does. Rules of losses wait until the scenario is written.
         """
         made = replace(self, **changes)
+        if changes.keys() == {"rules"}:
+            vars(made)["_bare"] = self._bare
         before, after = self._bare, made._bare
-        if "_checked" in vars(before) and after.least_version >= before.least_version:
+        if before is not after and "_checked" in vars(before) and after.least_version >= before.least_version:
             check(after, changes)
             vars(after)["_checked"] = after
         after._checked
