@@ -1,6 +1,6 @@
 -- What holds of every network, and of the orders.
-use Rattle.std.specs.Prelude.{◌≡◌, ◌≢◌, ◌↔◌, ℕ, ◌+◌, ◌/◌, ◌<◌, ◌≤◌, true, false, not, All, Contains, List, [], ◌∷◌, ◌++◌}
-use Rattle.std.specs.Prelude.{length, Option, Some, None}
+use Rattle.std.specs.Prelude.{◌≡◌, ◌≢◌, ◌↔◌, ℕ, ◌+◌, ◌/◌, ◌<◌, ◌≤◌, true, false, not, All, Contains, List, [], ◌∷◌}
+use Rattle.std.specs.Prelude.{◌++◌, length, Option, Some, None}
 use Rattle.std.specs.List.{list_any}
 use Rattle.std.specs.declared.cmp.Ordering.{Ordering}
 use Rattle.std.specs.declared.cmp.Ordering.TheVariants.{Equal}
@@ -12,7 +12,8 @@ use Rattle.srm_net.specs.declared.packet.PacketId.{PacketId}
 use Rattle.srm_net.specs.Orders.{Ascends}
 use Rattle.srm_net.specs.declared.link.LinkSpec.{LinkSpec}
 use Rattle.srm_net.specs.Network.{Network, IsPath, IsTree, IsAlike, IsNetwork}
-use Rattle.srm_net.specs.Paths.{route, member_route, distance, round, hops, drop_cmp, is_listed, reaches, crosses, drops_at}
+use Rattle.srm_net.specs.Paths.{route, member_route, distance, round, hops, drop_cmp, is_listed, reaches, crosses}
+use Rattle.srm_net.specs.Paths.{drops_at}
 use Rattle.srm_net.specs.Paths.{Stop, stop, takes_out}
 use Rattle.srm_net.specs.DropRules.{DropRules, is_out, may_drop, with_seed}
 use Rattle.srm_net.specs.Fates.{is_on_way, joins_members}
