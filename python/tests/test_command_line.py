@@ -175,7 +175,11 @@ def test_lost_packets_that_may_be_repairs_are_refused(capsys):
     slow = scenario.chain(3, delay=10).drawing(9, every=100)
     with pytest.raises(ScenarioError) as fault:
         slow.lose(every=4, link=0).check()
-    assert f"srm-scenarios: {fault.value}\n".replace("any_packet=True", "--any-packet") == told
+    named = {"any_packet=True": "--any-packet", "lose_operations": "--lose-operations"}
+    said = f"srm-scenarios: {fault.value}\n"
+    for verb, option in named.items():
+        said = said.replace(verb, option)
+    assert said == told
     assert [drop.count for drop in slow.lose(every=4, link=0, any_packet=True).settled.drops] == [0, 4, 8]
 
 

@@ -1,12 +1,12 @@
 -- What is seen of the cells and next times of all members, where one of them changes.
-use Rattle.std.proofs.Common.{◌≡◌, ℕ, zero, suc, List, [], ◌∷◌, length, map, All, zero-add, ◌+◌, Option, Some, None, Result, Ok, Err}
+use Rattle.std.proofs.Common.{◌≡◌, ℕ, zero, suc, List, [], ◌∷◌, length, map, zero-add, ◌+◌, Option, Some, None, Result, Ok, Err}
 use Rattle.std.proofs.Common.{refl, sym, ap}
 use Rattle.std.proofs.Common.{◌∙◌, subst, slice_get, slice_set, arith}
 use Rattle.std.proofs.lemmas.Grind.{common_steps}
 use Rattle.std.proofs.Math.ListN.{length-set}
 use Rattle.std.proofs.lemmas.List.{length-map}
 use Rattle.std.specs.List.{range_with_len}
-use Rattle.std.proofs.lemmas.List.Elements.{All-set, All-head, All-tail}
+use Rattle.std.proofs.lemmas.List.Elements.{All-set}
 use Rattle.std.specs.declared.vec.IntoIter.{IntoIter}
 use Rattle.std.specs.Vec.Iter.{into_iter_items, into_iter_len}
 use Rattle.srm_member.specs.declared.row.Row.{Row}
@@ -18,16 +18,14 @@ use Rattle.srm_cell.specs.Views.{IsSoundCell, TellsStep, Refuses, event_of, plai
 use Rattle.srm_engine.specs.Seen.{AreFrom, AreInOrder, AreSeen, AreWhole, ShowCells, TakesStep, TellsOwnStep, plain_cells, times_of}
 use Rattle.srm_engine.specs.declared.cells.Cells.{Cells}
 use Rattle.srm_engine.proofs.CellLists.{first_from}
+use Rattle.srm_model.proofs.NamesKept.{get_map}
+use Rattle.srm_net.proofs.Lists.{all_get}
 use Rattle.std.proofs.lemmas.Option.{same_Some}
 
 -- the next times of the cells of member i and on
 abbrev pub times_from : ℕ → List PlainCell → List (Option ℕ)
 times_from i [] = []
 times_from i (p ∷ ps) = time_of (next_event i p) ∷ times_from (suc i) ps
-
-length-times_from : (i : ℕ) (ps : List PlainCell) → length (times_from i ps) ≡ length ps
-length-times_from i [] = refl
-length-times_from i (p ∷ ps) = ap suc (length-times_from (suc i) ps)
 
 -- an iterator with nothing left
 pub no_items : {X Z : Type 0} (it : IntoIter X Z) → into_iter_len it ≡ 0 → into_iter_items it ≡ []
@@ -49,17 +47,6 @@ map_get g [] i x h = cc
 map_get g (y ∷ ys) zero x h = ap (λ z. Some (g z)) (same_Some y x h)
 map_get g (y ∷ ys) (suc i) x h = map_get g ys i x h
 
-all_at : {A : Type 0} (P : A → Type 0) (xs : List A) (i : ℕ) (x : A) → All P xs → slice_get xs i ≡ Some x → P x
-all_at P [] i x h g = cc
-all_at P (y ∷ ys) zero x h g = subst P (same_Some y x g) (All-head P y ys h)
-all_at P (y ∷ ys) (suc i) x h g = all_at P ys i x (All-tail P y ys h) g
-
-map_has : {A B : Type 0} (g : A → B) (xs : List A) (i : ℕ) (y : B) → slice_get (map g xs) i ≡ Some y
-    → (x : A) × (slice_get xs i ≡ Some x) × (g x ≡ y)
-map_has g [] i y h = cc
-map_has g (x ∷ xs) zero y h = (x, refl, same_Some (g x) y h)
-map_has g (x ∷ xs) (suc i) y h = map_has g xs i y h
-
 range_at : (i n m k : ℕ) → slice_get (range_with_len i n) m ≡ Some k → k ≡ i + m
 range_at i zero m k h = cc
 range_at i (suc n) zero k h = let e = same_Some i k h in omega arith
@@ -67,7 +54,7 @@ range_at i (suc n) (suc m) k h = let e = range_at (i + 1) n m k h in omega arith
 
 module _ {M : Type 0} (f : M → Record) where
   pub sound_at : (i : ℕ) (cs : List (Cell M)) (k : ℕ) (c : Cell M) → AreFrom f i cs → slice_get cs k ≡ Some c → IsSoundCell f c
-  sound_at i cs k c h at = all_at (IsSoundCell f) cs k c h.sound at
+  sound_at i cs k c h at = all_get (IsSoundCell f) cs k c h.sound at
 
   pub number_at : (i : ℕ) (cs : List (Cell M)) (k : ℕ) (c : Cell M) → AreFrom f i cs → slice_get cs k ≡ Some c → c.number ≡ i + k
   number_at i cs k c h at = range_at i (length cs) k c.number
@@ -125,7 +112,7 @@ module _ {M : Type 0} (f : M → Record) where
 
   pub shown_at : (cs : Cells M) (ps : List PlainCell) (m : ℕ) (p : PlainCell) → ShowCells f cs ps → slice_get ps m ≡ Some p
       → (c : Cell M) × (slice_get cs.cells.items m ≡ Some c) × (plain_cell f c ≡ p)
-  shown_at cs ps m p h at = map_has (plain_cell f) cs.cells.items m p (ap (λ l. slice_get l m) h.1 ∙ at)
+  shown_at cs ps m p h at = get_map (plain_cell f) cs.cells.items m p (ap (λ l. slice_get l m) h.1 ∙ at)
 
   times_shown : (i : ℕ) (cs : List (Cell M)) → AreFrom f i cs → times_of f cs ≡ times_from i (plain_cells f cs)
   times_shown i [] h = refl

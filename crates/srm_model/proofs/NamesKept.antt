@@ -720,8 +720,8 @@ module _ (s : Setting) (fit : IsFit s) where
   ends w names j None None h = absurd h
   ends w names j None (Some x) h = subst (EndsHolding w.trace j) (sym h.1) (ends_by w names j h.0 h.2 h.3)
 
-get_map : {A B : Type 0} (f : A → B) (xs : List A) (j : ℕ) (y : B) → slice_get (map f xs) j ≡ Some y → (x : A) × (slice_get xs j ≡ Some x)
-    × (f x ≡ y)
+pub get_map : {A B : Type 0} (f : A → B) (xs : List A) (j : ℕ) (y : B) → slice_get (map f xs) j ≡ Some y
+    → (x : A) × (slice_get xs j ≡ Some x) × (f x ≡ y)
 get_map f [] j y h = cc
 get_map f (x ∷ xs) zero y h = (x, refl, same_Some _ _ h)
 get_map f (x ∷ xs) (suc j) y h = get_map f xs j y h
