@@ -14,12 +14,6 @@ pub row_is_put : (P : Result Row CellFault → Type 0) (old new : List Row) (row
 row_is_put P old new row (Ok u) put none ok refused = (row, ok, put)
 row_is_put P old new row (Err e) put none ok refused = subst (λ x. P (Err x)) (sym none) refused
 
--- what follows of the row is so where it is put
-pub put_so : {E : Type 0} (P Q : Result Row E → Type 0) (old new : List Row) (r : Result (Unit {0}) E)
-    → ((x : Result Row E) → P x → Q x) → PutsRow P old r new → PutsRow Q old r new
-put_so P Q old new (Ok u) f puts = (puts.0, f (Ok puts.0) puts.1, puts.2)
-put_so P Q old new (Err e) f puts = f (Err e) puts
-
 -- of one row alone that is the last of so many
 pub last_is : (xs : List Row) (n : ℕ) (row : Row) (o : Option Row) → xs ≡ row ∷ [] → n ≡ length xs
     → (0 < n → o ≡ Some (slice_index_or xs (n - 1) row)) → o ≡ Some row

@@ -626,13 +626,6 @@ sibling x = by (halves x) (xor_add_and x 1) (and_mask x 1)
     by (inl e) sum low = inl (e, omega arith)
     by (inr e) sum low = inr (e, omega arith)
 
-pub sibling_within : (es : List ℕ) (n x : ℕ) → length es ≡ 2 * n → x < length es → bit_xor x 1 < length es
-sibling_within es n x size within = by (bit_xor x 1) (sibling x)
-  where
-    by : (y : ℕ) → IsSibling x y → y < length es
-    by y (inl h) = let e = h.0 in let f = h.1 in omega arith
-    by y (inr h) = let e = h.0 in let f = h.1 in omega arith
-
 -- where a word stands at x, the lesser of it and its sibling is that of the two below the word above
 pub winner_above : (ws : List ℕ) (x w : ℕ) → word_at ws x ≡ w → min w (word_at ws (bit_xor x 1)) ≡ winner_below ws (x / 2)
 winner_above ws x w at = by (bit_xor x 1) (sibling x)

@@ -10,7 +10,7 @@ use Rattle.srm_net.specs.Roles.{is_listener}
 use Rattle.srm_member.specs.React.{Reaction, expire_repair, expire_repair_by_entry, expire_request, expire_request_by_entry, back_off}
 use Rattle.srm_member.specs.React.{react, with_request_delay, with_request_first, with_repair_first}
 use Rattle.srm_member.specs.React.{react_listener, request_length, with_rest, without}
-use Rattle.srm_member.specs.Record.{Active, Gone, MemberState, Missing, Record, Repairing, count_if, timers_at}
+use Rattle.srm_member.specs.Record.{Active, MemberState, Missing, Repairing, count_if, timers_at}
 use Rattle.srm_member.specs.declared.cause.Cause.{Cause}
 use Rattle.srm_member.specs.declared.cause.Cause.TheVariants.{Answer, Ask}
 use Rattle.srm_member.specs.declared.fixed.Fixed.{Fixed}
@@ -120,10 +120,6 @@ pub record IsSound (m : MemberState) : Type 0 where
   pub asks : T (is_sorted name_cmp m.missing)
   pub answers : T (is_sorted name_cmp m.repairs)
   pub listener : is_listener m.fixed.role ≡ true → (m.missing ≡ []) × (m.repairs ≡ [])
-
-abbrev pub SoundRecord : Record → Type 0
-SoundRecord (Active m) = IsSound m
-SoundRecord (Gone f) = Unit {0}
 
 abbrev SameTables : MemberState → MemberState → Type 0
 SameTables m n = (n.missing ≡ m.missing) × (n.repairs ≡ m.repairs)
