@@ -63,10 +63,15 @@ impl NextTimes {
         requires { member < length self.old }
         ensures { self.new ≡ slice_set self.old member time }
     {
+        let place = usize::from(member);
+        // A packet on its way to a member is mostly not its next event, and leaves its time as it is.
+        if self.times[place] == time {
+            return;
+        }
+        self.times[place] = time;
         let first = self.size + (self.least % NUMBERS) as usize;
-        let leaf = self.size + usize::from(member);
+        let leaf = self.size + place;
         let word = word(time, member);
-        self.times[usize::from(member)] = time;
         if leaf == first {
             self.least = replay(&mut self.words, leaf, word, self.least / NUMBERS);
         } else if self.least < word {

@@ -19,20 +19,20 @@ invariant_of-self c =
     let m = c.args.member in
     let new = c.replay-self-inside.new.words in
     let x = c.word-word.ensures in
-    let leaf : it.size + c.from.result ≡ it.size + m = leaf_at it.size m c.from.result c.from.ensures in
+    let leaf : it.size + c.from-place.result ≡ it.size + m = leaf_at it.size m c.from-place.result c.from-place.ensures in
     let first = c.if-leaf-first.true in
     let long : length new ≡ length it.words.items = c.replay-self-inside.auto.words ∙ ap length c.deref_mut.ensures.value in
     let within : m < length it.times.items = subst (λ ts. m < length ts) (sym c.self.view_is) c.requires in
     let own : it.least % 65536 ≡ m = omega arith in
     let set : SetsLeaf (it.size + m) (word_of c.args.time m) it.words.items new =
     subst (λ k. SetsLeaf k (word_of c.args.time m) it.words.items new) leaf
-    (subst (λ y. SetsLeaf (it.size + c.from.result) y it.words.items new) x
-    (subst (λ ws. SetsLeaf (it.size + c.from.result) c.word-word.result ws new) c.deref_mut.ensures.value
+    (subst (λ y. SetsLeaf (it.size + c.from-place.result) y it.words.items new) x
+    (subst (λ ws. SetsLeaf (it.size + c.from-place.result) c.word-word.result ws new) c.deref_mut.ensures.value
     c.replay-self-inside.ensures.leaves)) in
     let rep : IsReplayed (it.size + m) (it.least / 65536) c.replay-self-inside.result new =
     subst (λ k. IsReplayed k (it.least / 65536) c.replay-self-inside.result new) leaf c.replay-self-inside.ensures.replayed in
     subst (λ k. IsTournament it.size (slice_set it.times.items k c.args.time) (written it.words.len it.words.items new)
-    c.replay-self-inside.result) (sym c.from-2.ensures)
+    c.replay-self-inside.result) (sym c.from-place.ensures)
     (put_back it.size it.words.len (slice_set it.times.items m c.args.time) it.words.items c.deref_mut.result.now new
     c.replay-self-inside.result it.words.ok.0 c.deref_mut.ensures.value c.replay-self-inside.auto.words
     (replayed it.size it.times.items it.words.items new it.least c.replay-self-inside.result m c.args.time c.self.invariant within own
@@ -44,7 +44,7 @@ invariant_of-self-then-self-word c =
     let m = c.args.member in
     let new = c.climb.new.words in
     let x = c.word-word.ensures in
-    let leaf : it.size + c.from.result ≡ it.size + m = leaf_at it.size m c.from.result c.from.ensures in
+    let leaf : it.size + c.from-place.result ≡ it.size + m = leaf_at it.size m c.from-place.result c.from-place.ensures in
     let other = c.if-leaf-first.false in
     let long : length new ≡ length it.words.items =
     c.climb.auto.words ∙ ap length c.deref_mut-then-self-word.ensures.value in
@@ -53,15 +53,15 @@ invariant_of-self-then-self-word c =
     let after : it.least < word_of c.args.time m = subst (λ y. it.least < y) x c.if-self-word.true in
     let set : SetsLeaf (it.size + m) (word_of c.args.time m) it.words.items new =
     subst (λ k. SetsLeaf k (word_of c.args.time m) it.words.items new) leaf
-    (subst (λ y. SetsLeaf (it.size + c.from.result) y it.words.items new) x
-    (subst (λ ws. SetsLeaf (it.size + c.from.result) c.word-word.result ws new) c.deref_mut-then-self-word.ensures.value
+    (subst (λ y. SetsLeaf (it.size + c.from-place.result) y it.words.items new) x
+    (subst (λ ws. SetsLeaf (it.size + c.from-place.result) c.word-word.result ws new) c.deref_mut-then-self-word.ensures.value
     c.climb.ensures.leaves)) in
     let tree : AreWinnersBeside (it.size + it.least % 65536) new =
     c.climb.ensures.tree (it.size + it.least % 65536)
     (subst (λ ws. AreWinnersBeside (it.size + it.least % 65536) ws) (sym c.deref_mut-then-self-word.ensures.value)
     c.self.invariant.tree) in
     subst (λ k. IsTournament it.size (slice_set it.times.items k c.args.time) (written it.words.len it.words.items new) it.least)
-    (sym c.from-2.ensures)
+    (sym c.from-place.ensures)
     (put_back it.size it.words.len (slice_set it.times.items m c.args.time) it.words.items c.deref_mut-then-self-word.result.now new
     it.least it.words.ok.0 c.deref_mut-then-self-word.ensures.value c.climb.auto.words
     (climbed it.size it.times.items it.words.items new it.least m c.args.time c.self.invariant within apart after long set tree))
@@ -72,19 +72,19 @@ invariant_of-self-else-self-word c =
     let m = c.args.member in
     let new = c.overtake.new.words in
     let x = c.word-word.ensures in
-    let leaf : it.size + c.from.result ≡ it.size + m = leaf_at it.size m c.from.result c.from.ensures in
+    let leaf : it.size + c.from-place.result ≡ it.size + m = leaf_at it.size m c.from-place.result c.from-place.ensures in
     let long : length new ≡ length it.words.items =
     c.overtake.auto.words ∙ ap length c.deref_mut-else-self-word.ensures.value in
     let within : m < length it.times.items = subst (λ ts. m < length ts) (sym c.self.view_is) c.requires in
     let before : word_of c.args.time m ≤ it.least = subst (λ y. y ≤ it.least) x c.if-self-word.false in
     let set : SetsLeaf (it.size + m) (word_of c.args.time m) it.words.items new =
     subst (λ k. SetsLeaf k (word_of c.args.time m) it.words.items new) leaf
-    (subst (λ y. SetsLeaf (it.size + c.from.result) y it.words.items new) x
-    (subst (λ ws. SetsLeaf (it.size + c.from.result) c.word-word.result ws new) c.deref_mut-else-self-word.ensures.value
+    (subst (λ y. SetsLeaf (it.size + c.from-place.result) y it.words.items new) x
+    (subst (λ ws. SetsLeaf (it.size + c.from-place.result) c.word-word.result ws new) c.deref_mut-else-self-word.ensures.value
     c.overtake.ensures.leaves)) in
     let tree : AreWinnersBeside (it.size + m) new = subst (λ k. AreWinnersBeside k new) leaf c.overtake.ensures.tree in
     subst (λ k. IsTournament it.size (slice_set it.times.items k c.args.time) (written it.words.len it.words.items new)
-    c.word-word.result) (sym c.from-2.ensures)
+    c.word-word.result) (sym c.from-place.ensures)
     (put_back it.size it.words.len (slice_set it.times.items m c.args.time) it.words.items c.deref_mut-else-self-word.result.now new
     c.word-word.result it.words.ok.0 c.deref_mut-else-self-word.ensures.value c.overtake.auto.words
     (subst (λ y. IsTournament it.size (slice_set it.times.items m c.args.time) new y) (sym x)
