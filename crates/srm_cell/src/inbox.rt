@@ -129,7 +129,8 @@ fn is_in_turn(line: &VecDeque<CompactFlight>, flight: (u64, PacketId)) -> bool
 // Puts a flight into a line, at a place.
 //
 // A full line grows by a quarter, and not to the double: all its slots are used in turn, and those of many members that are too
-// many would take each other's place in the processor's caches.
+// many would take each other's place in the processor's caches. It grows by three more, since in large networks three to six
+// packets are on their way to a member at most, and growing costs more than slots.
 fn put_at(
     line: &mut VecDeque<CompactFlight>,
     place: usize,
@@ -140,7 +141,7 @@ fn put_at(
     ensures err { OnErr result (line.new.items ≡ line.old.items) }
 {
     if line.len() == line.capacity() {
-        let more = line.len() / 4 + 2;
+        let more = line.len() / 4 + 3;
         line.reserve_exact(more)?;
     }
     if place == line.len() {
