@@ -19,6 +19,7 @@ in_table : (rules : List Rule) (d : Data) (ms : Members) (f : Finding) → d ≡
 in_table rules d ms finding.NoTable is h = absurd h
 in_table rules d ms (finding.Unknown key near) is h = (ms, is, h)
 in_table rules d ms (finding.Missing r) is h = (ms, is, h)
+in_table rules d ms (finding.Below r p i) is h = (ms, is, h)
 in_table rules d ms (finding.Wrong r) is h = (ms, is, h)
 in_table rules d ms (finding.Refused r) is h = (ms, is, h)
 in_table rules d ms (finding.BadItem r i) is h = (ms, is, h)
@@ -39,6 +40,7 @@ pub broken_at : (r : Rule) (ms : Members) (d : Data) (f : Finding) → get_membe
 broken_at r ms d finding.NoTable at h = absurd h
 broken_at r ms d (finding.Unknown key near) at h = absurd h
 broken_at r ms d (finding.Missing s) at h = absurd h
+broken_at r ms d (finding.Below s p i) at h = absurd h
 broken_at r ms d (finding.Wrong s) at h = (d, at, h)
 broken_at r ms d (finding.BadItem s i) at h = (d, at, h)
 broken_at r ms d (finding.BadLength s n) at h = (d, at, h)
@@ -50,6 +52,7 @@ in_array : (r : Rule) (d : Data) (f : Finding) → BreaksArray r (array_of (Some
 in_array r d finding.NoTable h = absurd h
 in_array r d (finding.Unknown key near) h = absurd h
 in_array r d (finding.Missing s) h = absurd h
+in_array r d (finding.Below s p i) h = absurd h
 in_array r d (finding.Wrong s) h = absurd h
 in_array r d (finding.BadItem s i) h = h
 in_array r d (finding.BadLength s n) h = h

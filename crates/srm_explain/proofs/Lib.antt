@@ -3,3 +3,4 @@ mod Closed
 mod Found
 mod Listed
 mod Values
+mod Ways

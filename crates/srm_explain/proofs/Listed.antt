@@ -1,7 +1,6 @@
 -- The links of a draft, and lists that are not empty.
 use Rattle.std.proofs.Common.{◌≡◌, ◌≢◌, ◌∙◌, ◌-◌, List, [], ◌∷◌}
 use Rattle.std.proofs.Common.{length, Option, Some, None, ap, arith, ◌<◌}
-use Rattle.std.specs.Prelude.{◌||◌}
 use Rattle.srm_scenario.specs.declared.draft.Draft.{Draft}
 use Rattle.srm_scenario.specs.declared.topology.Topology.{Topology}
 use Rattle.srm_scenario.specs.Drafts.{links_listed}

@@ -7,6 +7,8 @@ use Rattle.std.specs.Str.{bytes_eq}
 use Rattle.toml.specs.Data.{Data, Members, table, as_table, get_member}
 use Rattle.srm_scenario.specs.declared.fault.Part.{Part}
 use Rattle.srm_scenario.specs.declared.fault.Part.TheVariants as part
+use Rattle.srm_scenario.specs.declared.form.Form.{Form}
+use Rattle.srm_scenario.specs.declared.parts.Constants.{Constants}
 use Rattle.srm_scenario.specs.declared.key.Key.{Key}
 use Rattle.srm_scenario.specs.declared.key.Key.TheVariants as key
 use Rattle.srm_scenario.specs.declared.rule.Kind.{Kind}
@@ -31,16 +33,20 @@ use Rattle.srm_explain.specs.declared.finding.Finding.TheVariants as finding
 abbrev pub is_shaped : Members → Bool
 is_shaped top = is_some (get_member (codes "topology") top)
 
--- the rules of a part of a file in a version of the format, where this is the top table
+-- the rules of a part of a file in a version of the format, where the top table has these constants and this form
+abbrev pub rules_with : Version → Part → Constants → Form → List Rule
+rules_with version part.Top first form = top_rules version first form
+rules_with version part.Link first form = link_rules version
+rules_with version part.Member first form = member_rules version
+rules_with version part.Draw first form = draw_rules version
+rules_with version part.Session first form = session_rules version
+rules_with version part.Drop first form = drop_rules version
+rules_with version part.Outage first form = outage_rules version
+rules_with version part.Loss first form = loss_rules version
+
+-- the same, where this is the top table
 abbrev pub rules_for : Version → Part → Members → List Rule
-rules_for version part.Top top = top_rules version (constants_of top) (form_of top)
-rules_for version part.Link top = link_rules version
-rules_for version part.Member top = member_rules version
-rules_for version part.Draw top = draw_rules version
-rules_for version part.Session top = session_rules version
-rules_for version part.Drop top = drop_rules version
-rules_for version part.Outage top = outage_rules version
-rules_for version part.Loss top = loss_rules version
+rules_for version p top = rules_with version p (constants_of top) (form_of top)
 
 -- the same, in the version that the top table names
 abbrev pub rules_in : Part → Members → List Rule
@@ -56,6 +62,14 @@ array_key part.Session = Some key.Session
 array_key part.Drop = Some key.Drop
 array_key part.Outage = Some key.Outage
 array_key part.Loss = Some key.Loss
+
+-- the name of the array whose elements a part is
+abbrev pub name_at : Option Key → List ℕ
+name_at None = []
+name_at (Some k) = name_of k
+
+abbrev pub word_of : Part → List ℕ
+word_of p = name_at (array_key p)
 
 -- the elements of the array at a key; none where there is no key
 abbrev pub elements_of : Option Key → Members → List Data
@@ -140,10 +154,25 @@ abbrev pub BreaksKind : Rule → Data → Finding → Type 0
 BreaksKind r d (finding.Wrong s) = (s ≡ r) × (is_kind r.kind d ≡ false)
 BreaksKind r d f = BreaksArray r (array_of (Some d)) f
 
+-- whether the value is a table with this key
+abbrev pub holds_key : Key → Data → Bool
+holds_key k (table ms) = is_some (get_member (name_of k) ms)
+holds_key k d = false
+
+-- the value at this place has this key
+abbrev pub HoldsAt : Key → List Data → ℕ → Type 0
+HoldsAt k ds i = (d : Data) × (slice_get ds i ≡ Some d) × (holds_key k d ≡ true)
+
+-- an element of an array of this table has this key
+abbrev pub StandsBelow : Members → Key → Part → ℕ → Type 0
+StandsBelow ms k p i = HoldsAt k (elements_of (array_key p) ms) i
+
 -- the rule is broken as is told: its key has to be there and is not, or must not be there and is, or what stands at it
 -- is not of the rule's kind, or passes its range in a copy
 abbrev pub IsBroken : Rule → Members → Finding → Type 0
 IsBroken r ms (finding.Missing s) = (s ≡ r) × (r.need ≡ Required) × (get_member (name_of r.key) ms ≡ None)
+IsBroken r ms (finding.Below s p i) =
+    (s ≡ r) × (r.need ≡ Required) × (get_member (name_of r.key) ms ≡ None) × StandsBelow ms r.key p i
 IsBroken r ms (finding.Refused s) = (s ≡ r) × (r.need ≡ Refused) × IsSome (get_member (name_of r.key) ms)
 IsBroken r ms (finding.Passed s copy n) = (s ≡ r) × PassesRange r ms copy n
 IsBroken r ms finding.NoTable = ⊥
@@ -215,9 +244,18 @@ IsReasonOfKind top kind reason =
     ((reason ≡ codes "; version 3 has \"parents\" too") × (kind ≡ Word Topologies) × (names_parents top ≡ true))
     ⊎ (reason ≡ [])
 
--- what follows a sentence: of a key that is not allowed the reason, and of a value what is said besides of its kind
+-- what is said besides of an unknown key: of one of the top table, that it is one
+abbrev pub IsReasonOfUnknown : Members → List ℕ → List ℕ → Type 0
+IsReasonOfUnknown top key reason =
+    ((reason ≡ codes "\n  it is a key of the top table, whose keys come before the first [[..]]")
+    × (list_any (λ r. bytes_eq (name_of r.key) key) (rules_in part.Top top) ≡ true))
+    ⊎ (reason ≡ [])
+
+-- what follows a sentence: of a key that is not allowed the reason, of an unknown one whether the top table has it, and
+-- of a value what is said besides of its kind
 abbrev pub FollowsSentence : Part → Members → Finding → List ℕ → Type 0
 FollowsSentence p top (finding.Refused r) reason = IsReason p top r.key reason
+FollowsSentence p top (finding.Unknown key near) reason = IsReasonOfUnknown top (string_bytes key) reason
 FollowsSentence p top (finding.Wrong r) reason = IsReasonOfKind top r.kind reason
 FollowsSentence p top f reason = reason ≡ []
 
@@ -260,6 +298,13 @@ item_sentence r i = name_of r.key ++ (codes " is " ++ (allowed r.kind ++ item_is
 abbrev pub length_sentence : Rule → ℕ → List ℕ
 length_sentence r n = name_of r.key ++ (codes " is " ++ (allowed r.kind ++ (codes "; these are " ++ decimal n)))
 
+-- what is said of a key that stands in an element of a part
+abbrev pub below_sentence : Rule → Part → ℕ → List ℕ
+below_sentence r p i =
+    name_of r.key
+    ++ (codes " is missing: it stands in " ++ (word_of p ++ (codes " " ++ (decimal i
+    ++ (codes ", and keys of the top table come before the first [[" ++ (word_of p ++ codes "]]"))))))
+
 -- what is said of what is wrong with a table beside these rules
 abbrev pub sentence_of : List Rule → Finding → List ℕ
 sentence_of rules finding.NoTable = codes "this is no table\n  the keys of one here are" ++ keys_of rules
@@ -269,6 +314,7 @@ sentence_of rules (finding.Unknown key (Some near)) =
     codes "there is no such key here; did you mean "
     ++ (name_of near ++ (codes "?\n  the keys here are" ++ keys_of rules))
 sentence_of rules (finding.Missing r) = name_of r.key ++ (codes " is missing: it is " ++ allowed r.kind)
+sentence_of rules (finding.Below r p i) = below_sentence r p i
 sentence_of rules (finding.Wrong r) = name_of r.key ++ (codes " is " ++ allowed r.kind)
 sentence_of rules (finding.BadItem r i) = item_sentence r i
 sentence_of rules (finding.BadLength r n) = length_sentence r n

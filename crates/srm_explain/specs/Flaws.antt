@@ -1,10 +1,10 @@
 -- Why the links of a scenario make no tree of its nodes, and what is said of that.
-use Rattle.std.specs.Prelude.{◌≡◌, ◌≢◌, ℕ, ◌+◌, ◌-◌, ◌<◌, ◌≤◌, ◌==◌, Bool, true, false, not, ◌&&◌, ◌||◌, nat_le}
+use Rattle.std.specs.Prelude.{◌≡◌, ◌≢◌, ℕ, ◌+◌, ◌-◌, ◌<◌, ◌≤◌, ◌==◌, Bool, true, false, not, ◌&&◌, ◌||◌, nat_le, nat_lt}
 use Rattle.std.specs.Prelude.{List, [], ◌∷◌, ◌++◌, Option, Some, None, length, take, unwrap_or, option_map, slice_get}
 use Rattle.std.specs.Prelude.{get_or, codes, decimal, if◌then◌else◌}
 use Rattle.std.specs.List.{list_all, AllByRecursion}
 use Rattle.srm_net.specs.declared.link.LinkSpec.{LinkSpec}
-use Rattle.srm_net.specs.Network.{plain_network}
+use Rattle.srm_net.specs.Network.{plain_network, IsWalk}
 use Rattle.srm_scenario.specs.declared.key.Key.{Key}
 use Rattle.srm_scenario.specs.declared.key.Key.TheVariants as key
 use Rattle.srm_scenario.specs.Trees.{has_way}
@@ -41,6 +41,12 @@ abbrev pub IsCircle : List LinkSpec → List ℕ → Type 0
 IsCircle links [] = ⊥
 IsCircle links (v ∷ vs) = Climbs links (v ∷ vs) v
 
+-- these links, which stand before link l, lead from one of its ends to the other: it closes a circle
+abbrev pub Closes : List LinkSpec → ℕ → List ℕ → Type 0
+Closes links l ls =
+    (k : LinkSpec) × (slice_get links l ≡ Some k) × (list_all (λ m. nat_lt m l) ls ≡ true)
+    × (ns : List ℕ) × IsWalk links k.b ls k.a ns
+
 -- for this reason these links make no tree of so many nodes, where they are those to parents or not
 abbrev pub IsFlaw : Bool → ℕ → List LinkSpec → Flaw → Type 0
 IsFlaw parents nodes links (flaw.NoEnd link key n) =
@@ -49,6 +55,7 @@ IsFlaw parents nodes links (flaw.NoParent v n) =
     (parents ≡ true) × (link : ℕ) × (v ≡ link + 1) × (k : LinkSpec) × (slice_get links link ≡ Some k)
     × (n ≡ nodes) × (nodes ≤ k.a)
 IsFlaw parents nodes links (flaw.Circle vs) = (parents ≡ true) × IsCircle links vs.items
+IsFlaw parents nodes links (flaw.Closing l ls) = (parents ≡ false) × Closes links l ls.items
 IsFlaw parents nodes links (flaw.LinkCount n m) = (n ≡ nodes) × (m ≡ length links) × (length links + 1 ≢ nodes)
 IsFlaw parents nodes links (flaw.Unreached vs) =
     (vs.items ≢ []) × AllByRecursion (IsUnreached nodes links) vs.items
@@ -74,6 +81,12 @@ circle_sentence ns =
     then codes "node " ++ (decimal (get_or ns 0 0) ++ codes " is its own parent")
     else codes "these nodes make a circle, each a child of the next, the last of the first:" ++ first_spaced ns
 
+-- what is said of a link that closes a circle with these
+abbrev pub closing_sentence : ℕ → List ℕ → List ℕ
+closing_sentence l [] = codes "link " ++ (decimal l ++ codes " joins a node to itself")
+closing_sentence l ls =
+    codes "link " ++ (decimal l ++ (codes " closes a circle with links before it:" ++ first_spaced ls))
+
 -- what is said of a reason
 abbrev pub flaw_sentence : Flaw → List ℕ
 flaw_sentence (flaw.NoEnd link key nodes) =
@@ -86,6 +99,7 @@ flaw_sentence (flaw.NoParent node nodes) =
     codes "the parent of node "
     ++ (decimal node ++ (codes " is no node: " ++ (decimal nodes ++ codes " in all, numbered from 0")))
 flaw_sentence (flaw.Circle nodes) = circle_sentence nodes.items
+flaw_sentence (flaw.Closing link earlier) = closing_sentence link earlier.items
 flaw_sentence (flaw.Unreached nodes) = codes "not reached from node 0:" ++ first_spaced nodes.items
 
 -- ---- marks

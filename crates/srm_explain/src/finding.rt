@@ -1,4 +1,5 @@
 //! What is wrong with the keys of a table.
+use srm_scenario::fault::Part;
 use srm_scenario::key::Key;
 use srm_scenario::rule::Rule;
 
@@ -16,6 +17,15 @@ pub enum Finding {
     },
     /// The table lacks the key of this rule.
     Missing(Rule),
+    /// The table lacks the key of this rule, and an element of one of its arrays has it.
+    Below {
+        /// The rule.
+        rule: Rule,
+        /// The array.
+        part: Part,
+        /// The place of the element.
+        place: usize,
+    },
     /// What stands at the key of this rule is not what the rule asks for.
     Wrong(Rule),
     /// An element of the array at the key of this rule is not what the rule asks for.

@@ -25,6 +25,13 @@ pub enum Flaw {
         /// Those nodes, each the child of the next one, and the last one that of the first.
         nodes: Vec<u16>,
     },
+    /// A link closes a circle with earlier ones.
+    Closing {
+        /// The number of the link.
+        link: u16,
+        /// Those that lead from its second end to its first: none where that is one node.
+        earlier: Vec<u16>,
+    },
     /// There is not one link fewer than nodes.
     LinkCount {
         /// How many nodes there are.

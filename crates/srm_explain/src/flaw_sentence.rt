@@ -1,6 +1,6 @@
 //! What is said of what keeps links from making a tree of the nodes.
 ghost use Rattle.std.specs.Prelude.{◌≡◌, IfOk, string_bytes};
-ghost use Rattle.srm_explain.specs.Flaws.{circle_sentence, first_spaced, flaw_sentence, spaced};
+ghost use Rattle.srm_explain.specs.Flaws.{circle_sentence, closing_sentence, first_spaced, flaw_sentence, spaced};
 ghost use Rattle.srm_explain.specs.Explanations.{flaw_notes};
 
 use crate::flaw::Flaw;
@@ -40,6 +40,7 @@ fn flaw_sentence(alloc: Global, flaw: &Flaw) -> Result<String, AllocError>
             "the parent of node {node} is no node: {nodes} in all, numbered from 0"
         ),
         Flaw::Circle { nodes } => circle_sentence(alloc, nodes),
+        Flaw::Closing { link, earlier } => closing_sentence(alloc, *link, earlier),
         Flaw::Unreached { nodes } => {
             let numbers = first_spaced(alloc, nodes)?;
             format!(in alloc; "not reached from node 0:{numbers}")
@@ -59,6 +60,18 @@ fn circle_sentence(alloc: Global, nodes: &[u16]) -> Result<String, AllocError>
     let told = format!(in alloc;
         "these nodes make a circle, each a child of the next, the last of the first:{numbers}"
     )?;
+    Ok(told)
+}
+
+// What is said of a link that closes a circle with these.
+fn closing_sentence(alloc: Global, link: u16, earlier: &[u16]) -> Result<String, AllocError>
+    ensures { IfOk result (λ s. string_bytes s ≡ closing_sentence link earlier.now) }
+{
+    if earlier.is_empty() {
+        return format!(in alloc; "link {link} joins a node to itself");
+    }
+    let numbers = first_spaced(alloc, earlier)?;
+    let told = format!(in alloc; "link {link} closes a circle with links before it:{numbers}")?;
     Ok(told)
 }
 

@@ -5,6 +5,7 @@ ghost use Rattle.srm_explain.specs.Misfits.{links_of};
 ghost use Rattle.srm_explain.specs.Flaws.{is_closed, is_even, IsFlaw, IsUnreached};
 
 use crate::circles::circle_in;
+use crate::closing::closing_in;
 use crate::flaw::Flaw;
 use crate::reached::{is_reached, reached_from_0};
 use srm_net::link::LinkSpec;
@@ -14,8 +15,8 @@ use std::alloc::{AllocError, Global};
 
 /// Why the links of a draft make no tree of its nodes, where they are those to the parents that its table lists, or else those that
 /// it lists. If an end of a link is no node, that is told alone. Else of parents it is told which nodes make a circle; and of other
-/// links how many there are, where these are too many or too few, and which nodes are not reached from node 0. The links of a
-/// topology make a tree.
+/// links which one is the first to close a circle, how many there are, where these are too many or too few, and which nodes are not
+/// reached from node 0. The links of a topology make a tree.
 ///
 /// # Errors
 /// Memory ran out.
@@ -78,6 +79,9 @@ fn flaws_of_links(alloc: Global, nodes: u16, links: &[LinkSpec]) -> Result<Vec<F
     if let Some(flaw) = end_in(nodes, links) {
         flaws.push(flaw)?;
         return Ok(flaws);
+    }
+    if let Some(flaw) = closing_in(alloc, nodes, links)? {
+        flaws.push(flaw)?;
     }
     if let Some(flaw) = count_in(nodes, links) {
         flaws.push(flaw)?;

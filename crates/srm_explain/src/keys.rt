@@ -1,10 +1,14 @@
 //! What is wrong with the keys of a table, beside the rules of its part.
-ghost use Rattle.std.specs.Prelude.{◌≡◌, false, Some, IfOk, IfSome, option_map};
+ghost use Rattle.std.specs.Prelude.{◌≡◌, false, Some, None, IfOk, IfSome, option_map};
+ghost use Rattle.toml.specs.Data.{get_member};
 ghost use Rattle.toml.specs.View.{table_view, view};
+ghost use Rattle.srm_scenario.specs.declared.rule.Need.TheVariants.{Required};
+ghost use Rattle.srm_scenario.specs.Keys.{name_of};
 ghost use Rattle.srm_scenario.specs.Rules.{is_kind};
 ghost use Rattle.srm_explain.specs.Findings.{array_key, element_of, BreaksKind, FindsAt, FindsIn, IsBroken, IsFinding};
 
 use crate::arrays::broken_array;
+use crate::below::{Place, below};
 use crate::finding::Finding;
 use crate::nearest::nearest;
 use crate::passing::passed_in;
@@ -171,8 +175,20 @@ fn missing_at(table: &Table, rule: Rule) -> Option<Finding>
     match table.get(rule.key.name()) {
         Some(_) => None,
         None => match rule.need {
-            Need::Required => Some(Finding::Missing(rule)),
+            Need::Required => Some(lacking(table, rule)),
             Need::Optional | Need::Refused => None,
         },
+    }
+}
+
+// That the table lacks the key of a rule, and in which element that stands, if it stands in one.
+fn lacking(table: &Table, rule: Rule) -> Finding
+    requires need { rule.need ≡ Required }
+    requires lacks { get_member (name_of rule.key) (table_view table.now) ≡ None }
+    ensures { IsBroken rule (table_view table.now) result }
+{
+    match below(table, rule.key) {
+        Some(Place { part, place }) => Finding::Below { rule, part, place },
+        None => Finding::Missing(rule),
     }
 }

@@ -2,7 +2,9 @@
 #![tactic(auto)]
 
 mod arrays;
+mod below;
 mod circles;
+mod closing;
 mod copies;
 mod element;
 pub mod explanation;
@@ -22,6 +24,9 @@ mod passing;
 mod picture;
 mod pictures;
 mod reached;
+pub mod remarks;
+pub mod rule_document;
+mod rule_text;
 mod rules_in;
 mod sentence;
 mod span;

@@ -11,7 +11,7 @@ use srm_scenario::key::Key;
 use std::alloc::{AllocError, Global};
 
 /// The line in which stands why links make no tree: the end of a link or the parent that is no node, the parent of a node in a
-/// circle, or else the number of nodes.
+/// circle, the link that closes one, or else the number of nodes.
 ///
 /// # Errors
 /// Memory ran out.
@@ -30,18 +30,36 @@ pub(crate) fn picture_of_flaw(
             };
             picture_of_parent(alloc, text, node)
         }
-        _ => picture_of_value(alloc, text, Part::Top, 0, Key::Nodes),
+        Flaw::Closing { link, .. } => picture_of_element(
+            alloc,
+            text,
+            Key::Link,
+            usize::from(*link),
+        ),
+        Flaw::LinkCount { .. } | Flaw::Unreached { .. } => {
+            picture_of_value(alloc, text, Part::Top, 0, Key::Nodes)
+        }
     }
 }
 
 // The line in which the parent of a node stands.
 fn picture_of_parent(alloc: Global, text: &[u8], node: usize) -> Result<String, AllocError> {
+    picture_of_element(alloc, text, Key::Parent, node.saturating_sub(1))
+}
+
+// The line in which the element at a place of an array stands.
+fn picture_of_element(
+    alloc: Global,
+    text: &[u8],
+    array: Key,
+    place: usize,
+) -> Result<String, AllocError> {
     let found = find(
         alloc,
         text,
         Target {
-            array: Some(Key::Parent.name()),
-            place: node.saturating_sub(1),
+            array: Some(array.name()),
+            place,
             key: "",
         },
     )?;
@@ -81,6 +99,12 @@ pub(crate) fn picture_of_finding(
     let found = find(alloc, text, Target { array, place, key })?;
     let item = item_of(alloc, text, part, finding)?;
     let span = match finding {
+        Finding::Below { rule, part, place } => {
+            let array = array_name(*part);
+            let key = rule.key.name();
+            let place = *place;
+            find(alloc, text, Target { array, place, key })?.key
+        }
         Finding::NoTable | Finding::Missing(_) => found.element,
         Finding::Unknown { .. } | Finding::Refused(_) => found.key,
         _ => item.or(found.value),
@@ -94,7 +118,7 @@ fn key_of(finding: &Finding) -> &str {
         Finding::NoTable => "",
         Finding::Unknown { key, .. } => key.as_str(),
         Finding::Missing(rule) | Finding::Wrong(rule) | Finding::Refused(rule) => rule.key.name(),
-        Finding::BadItem { rule, .. } => rule.key.name(),
+        Finding::BadItem { rule, .. } | Finding::Below { rule, .. } => rule.key.name(),
         Finding::BadLength { rule, .. } => rule.key.name(),
         Finding::Passed { rule, .. } => rule.key.name(),
     }

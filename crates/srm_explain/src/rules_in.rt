@@ -3,17 +3,19 @@ ghost use Rattle.std.specs.Prelude.{◌≡◌, true, IfOk, is_some, codes};
 ghost use Rattle.std.specs.List.{list_any};
 ghost use Rattle.toml.specs.Data.{get_member};
 ghost use Rattle.toml.specs.View.{table_view};
-ghost use Rattle.srm_explain.specs.Findings.{allows, rules_for, rules_in, FollowsSentence, IsReason, IsReasonAmong, IsReasonOfKind, IsTopologyReason, is_for_parents, is_shaped};
+ghost use Rattle.srm_explain.specs.Findings.{allows, rules_for, rules_in, rules_with, FollowsSentence, IsReason, IsReasonAmong, IsReasonOfKind, IsReasonOfUnknown, IsTopologyReason, is_for_parents, is_shaped};
 
 use crate::finding::Finding;
 use srm_scenario::fault::Part;
+use srm_scenario::form::Form;
 use srm_scenario::key::Key;
+use srm_scenario::parts::Constants;
 use srm_scenario::rule::{Kind, Need, Rule, Words};
 use srm_scenario::rules::{
     draw_rules, drop_rules, link_rules, loss_rules, member_rules, outage_rules, session_rules,
     top_rules,
 };
-use srm_scenario::table::{has_key, number, says};
+use srm_scenario::table::{has_key, is_known, number, says};
 use srm_scenario::top::{constants_of, form_of};
 use srm_scenario::version::Version;
 use std::alloc::{AllocError, Global};
@@ -38,10 +40,24 @@ fn rules_for(
 ) -> Result<Vec<Rule>, AllocError>
     ensures { IfOk result (λ rules. rules.items ≡ rules_for version part (table_view top.now)) }
 {
+    rules_with(alloc, version, part, constants_of(top), form_of(top))
+}
+
+/// The rules of a part in a version of the format, where the top table has these constants and this form.
+///
+/// # Errors
+/// Memory ran out.
+pub(crate) fn rules_with(
+    alloc: Global,
+    version: Version,
+    part: Part,
+    first: Constants,
+    form: Form,
+) -> Result<Vec<Rule>, AllocError>
+    ensures { IfOk result (λ rules. rules.items ≡ rules_with version part first form) }
+{
     match part {
-        Part::Top => {
-            Vec::from_slice(alloc, &top_rules(version, constants_of(top), form_of(top)))
-        }
+        Part::Top => Vec::from_slice(alloc, &top_rules(version, first, form)),
         Part::Link => Vec::from_slice(alloc, &link_rules(version)),
         Part::Member => Vec::from_slice(alloc, &member_rules(version)),
         Part::Draw => Vec::from_slice(alloc, &draw_rules(version)),
@@ -59,7 +75,7 @@ fn allows(rules: &[Rule], key: Key) -> bool
     rules.iter().any(|rule| rule.key.name() == key.name() && !matches!(rule.need, Need::Refused))
 }
 
-/// What follows the sentence of a finding: of a key that is not allowed the reason.
+/// What follows the sentence of a finding: of a key that is not allowed the reason, and of an unknown one whether the top table has it.
 ///
 /// # Errors
 /// Memory ran out.
@@ -74,8 +90,20 @@ pub(crate) fn reason_after(
     match finding {
         Finding::Refused(rule) => reason_for(alloc, part, top, rule.key),
         Finding::Wrong(rule) => Ok(reason_of_kind(top, rule.kind)),
+        Finding::Unknown { key, .. } => reason_of_unknown(alloc, top, key.as_str()),
         _ => Ok(""),
     }
+}
+
+// What follows the sentence of an unknown key: of one of the top table, that it is one.
+fn reason_of_unknown(alloc: Global, top: &Table, key: &str) -> Result<&'static str, AllocError>
+    ensures { IfOk result (λ reason. IsReasonOfUnknown (table_view top.now) key.now reason.now) }
+{
+    let rules = rules_in(alloc, Part::Top, top)?;
+    if is_known(key, &rules) {
+        return Ok("\n  it is a key of the top table, whose keys come before the first [[..]]");
+    }
+    Ok("")
 }
 
 // What follows the sentence of a value that is not of its rule's kind: of a topology that a later version has, that it has it.

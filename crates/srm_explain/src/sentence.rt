@@ -1,9 +1,11 @@
 //! What is said of what is wrong with the keys of a table.
 ghost use Rattle.std.specs.Prelude.{◌≡◌, IfOk, string_bytes};
 ghost use Rattle.srm_scenario.specs.declared.rule.Kind.TheVariants.{Word};
-ghost use Rattle.srm_explain.specs.Findings.{allowed, item_sentence, keys_of, length_sentence, passed_sentence, sentence_of};
+ghost use Rattle.srm_explain.specs.Findings.{allowed, below_sentence, item_sentence, keys_of, length_sentence, passed_sentence, sentence_of, word_of};
 
 use crate::finding::Finding;
+use crate::keys::array_key;
+use srm_scenario::fault::Part;
 use srm_scenario::rule::{Kind, Need, Rule, Words};
 use std::alloc::{AllocError, Global};
 
@@ -41,6 +43,7 @@ pub(crate) fn sentence_of(
             let allowed = allowed(alloc, rule.kind)?;
             format!(in alloc; "{name} is missing: it is {allowed}")
         }
+        Finding::Below { rule, part, place } => below_sentence(alloc, *rule, *part, *place),
         Finding::Wrong(rule) => {
             let name = rule.key.name();
             let allowed = allowed(alloc, rule.kind)?;
@@ -53,6 +56,28 @@ pub(crate) fn sentence_of(
             format!(in alloc; "{name} is not allowed")
         }
         Finding::Passed { rule, copy, number } => passed_sentence(alloc, *rule, *copy, *number),
+    }
+}
+
+// What is said of a key that stands in an element of a part.
+fn below_sentence(alloc: Global, rule: Rule, part: Part, place: usize) -> Result<String, AllocError>
+    ensures { IfOk result (λ s. string_bytes s ≡ below_sentence rule part place) }
+{
+    let name = rule.key.name();
+    let word = word_of(part);
+    let told = format!(in alloc;
+        "{name} is missing: it stands in {word} {place}, and keys of the top table come before the first [[{word}]]"
+    )?;
+    Ok(told)
+}
+
+/// The name of the array whose elements a part is; empty of the top table.
+pub(crate) fn word_of(part: Part) -> &'static str
+    ensures { result.now ≡ word_of part }
+{
+    match array_key(part) {
+        Some(key) => key.name(),
+        None => "",
     }
 }
 
