@@ -1,7 +1,7 @@
 //! What the words of the command line ask for.
-ghost use Rattle.std.specs.Prelude.{◌≡◌, ◌<◌, ◌≤◌, ◌^◌, true, false, [], Some, IfOk, IfSome, string_bytes};
+ghost use Rattle.std.specs.Prelude.{◌≡◌, ◌<◌, ◌≤◌, ◌^◌, true, false, Some, IfOk, IfSome, string_bytes};
 ghost use Rattle.clap.specs.Words.{kind_of};
-ghost use Rattle.srm_command_line.specs.CommandLine.{TakesNumber, TellsKind, asks_to_explain};
+ghost use Rattle.srm_command_line.specs.CommandLine.{IsCountOfRuns, AsksForRuns, TakesNumber, TellsKind, asks_to_explain};
 ghost use Rattle.srm_options.specs.Asked.{MayBeAsked, MayBeReplicated, MayShareBag};
 
 use crate::line_fault::LineFault;
@@ -28,7 +28,7 @@ const USAGE: &str = "srm_lab [OPTIONS] < scenario.toml";
 const NO_FILE: &str = "\na scenario is read from standard input: srm_lab < scenario.toml\n";
 
 const AFTER_HELP: &str = "Exit status:
-  0  the table was written, or this help
+  0  the table was written, or this help, or the rules
   1  refused: one line on standard error says why
   2  the command line was refused, and standard input was not read
 
@@ -84,6 +84,8 @@ const SHOW: &str = "show";
 const CHECK: &str = "check";
 
 const EXPLAIN: &str = "explain";
+
+const RULES: &str = "rules";
 
 const LAST_SEED: u64 = 9_223_372_036_854_775_807;
 
@@ -197,8 +199,13 @@ const EXPLAIN_FLAG: Flag = Flag {
     about: "After the line of a refusal say what to mend",
 };
 
+const RULES_FLAG: Flag = Flag {
+    name: RULES,
+    about: "Only print the rules of scenario files, as JSON",
+};
+
 /// The options that take nothing, in the order in which help lists them, after the others.
-static FLAGS: [Flag; 2] = [CHECK_FLAG, EXPLAIN_FLAG];
+static FLAGS: [Flag; 3] = [CHECK_FLAG, EXPLAIN_FLAG, RULES_FLAG];
 
 /// The options of every day, in the order in which help lists them.
 static EVERYDAY: [OptionLine; 3] = [SEED_LINE, REPLICATIONS_LINE, SHOW_LINE];
@@ -239,10 +246,12 @@ const SHOWS: [(&str, Show); 6] = [
 /// 1. `Line`: `clap` refuses the words; or `Help`, where help or the version is asked for before that.
 /// 2. `BadWord`: the text of an option is none of its words, and no number that it takes; or replications are asked for whose last
 ///    seed is past the greatest, or with the engine of windows.
+/// 3. `Rules`: they are asked for.
 ///
 /// `NoMemory` may come at any place. That the order is so is shown by tests.
 pub fn options_of<S: AsStr>(alloc: Global, words: &[S]) -> Result<(u64, Options), LineFault>
-    ensures { IfOk result MayBeAsked }
+    ensures asked { IfOk result MayBeAsked }
+    ensures replications { IfOk result AsksForRuns }
 {
     match read_words(alloc, words) {
         Ok((seed, options, _)) => Ok((seed, options)),
@@ -260,7 +269,8 @@ pub(crate) fn options_here<S: AsStr>(
     alloc: Global,
     words: &[S],
 ) -> Result<(u64, Options), LineFault>
-    ensures { IfOk result MayBeAsked }
+    ensures asked { IfOk result MayBeAsked }
+    ensures replications { IfOk result AsksForRuns }
 {
     let (seed, mut options, told) = match read_words(alloc, words) {
         Ok(read) => read,
@@ -284,7 +294,8 @@ fn processors(rt: &impl Threads) -> u8
 
 // What the words ask for, and whether they say how many workers.
 fn read_words<S: AsStr>(alloc: Global, words: &[S]) -> Result<(u64, Options, bool), LineFault>
-    ensures { IfOk result (λ read. MayBeAsked (read.0, read.1)) }
+    ensures asked { IfOk result (λ read. MayBeAsked (read.0, read.1)) }
+    ensures replications { IfOk result (λ read. AsksForRuns (read.0, read.1)) }
 {
     match command(alloc, Wording::Any)?.try_get_matches_from(words) {
         Ok(matches) => read_matches(&matches),
@@ -294,7 +305,8 @@ fn read_words<S: AsStr>(alloc: Global, words: &[S]) -> Result<(u64, Options, boo
 
 // The same, of words that `clap` has read.
 fn read_matches(matches: &ArgMatches<'_>) -> Result<(u64, Options, bool), LineFault>
-    ensures { IfOk result (λ read. MayBeAsked (read.0, read.1)) }
+    ensures asked { IfOk result (λ read. MayBeAsked (read.0, read.1)) }
+    ensures replications { IfOk result (λ read. AsksForRuns (read.0, read.1)) }
 {
     let seed = number(matches, SEED, SEEDS)?;
     let workers = number(matches, WORKERS, COUNTS_OF_WORKERS)?;
@@ -305,6 +317,9 @@ fn read_matches(matches: &ArgMatches<'_>) -> Result<(u64, Options, bool), LineFa
     if !may_be_replicated(seed, options.engine, replications) {
         return Err(LineFault::BadWord);
     }
+    if matches.get_flag(RULES) {
+        return Err(LineFault::Rules);
+    }
     let told = matches.value_source(WORKERS) == Some(ValueSource::CommandLine);
     Ok((seed, options, told))
 }
@@ -312,7 +327,7 @@ fn read_matches(matches: &ArgMatches<'_>) -> Result<(u64, Options, bool), LineFa
 // Whether so many runs may be made, if replications are asked for: the last seed is one, and the runs are not in windows.
 fn may_be_replicated(seed: u64, engine: Engine, replications: Option<u32>) -> bool
     requires seed { seed < 2 ^ 63 }
-    requires count { IfSome replications (λ count. 1 ≤ count) }
+    requires count { IfSome replications IsCountOfRuns }
     ensures { result ≡ true → MayBeReplicated seed engine replications }
 {
     match replications {
@@ -344,15 +359,15 @@ fn options_among(
 }
 
 /// What is told of refused words after their line: `clap`'s message, which names the word and what may stand in its place, and
-/// where a word is no option how a scenario is read. It is empty where no word asks for an explanation.
+/// where a word is no option how a scenario is read. Where no word asks for an explanation it is this hint.
 ///
 /// # Errors
 /// [`AllocError`].
-pub fn message_of<S: AsStr>(alloc: Global, words: &[S]) -> Result<String, AllocError>
-    ensures silent { asks_to_explain S.text words.now ≡ false → IfOk result (λ message. string_bytes message ≡ []) }
+pub fn message_of<S: AsStr>(alloc: Global, words: &[S], hint: &str) -> Result<String, AllocError>
+    ensures silent { asks_to_explain S.text words.now ≡ false → IfOk result (λ message. string_bytes message ≡ hint.now) }
 {
     if !asks_to_explain(words) {
-        return Ok(String::new(alloc));
+        return String::from_str(alloc, hint);
     }
     match command(alloc, Wording::Words)?.try_get_matches_from(words) {
         Ok(matches) => message_of_numbers(alloc, &matches),
@@ -426,7 +441,8 @@ fn message_of_number(
 enum Wording {
     /// Any text is taken, so that what the program refuses comes after all that `clap` does.
     Any,
-    /// Where an option takes words alone, other text is refused.
+    /// Where an option takes words alone, other text is refused; and a number below 0 is a text that an option may be given, so that
+    /// the message is of the number.
     Words,
 }
 
@@ -512,6 +528,7 @@ fn arg_of<'a>(alloc: Global, option: OptionLine, wording: Wording) -> Arg<'a> {
         .long(option.name)
         .value_name(option.takes)
         .value_parser(parser)
+        .allow_negative_numbers(matches!(wording, Wording::Words))
         .help(option.about);
     match option.default {
         None => arg,
@@ -547,7 +564,7 @@ fn number(matches: &ArgMatches<'_>, name: &str, reader: Reader) -> Result<u64, L
 
 // How many runs are to be made, where that is told.
 fn count_of_runs(matches: &ArgMatches<'_>) -> Result<Option<u32>, LineFault>
-    ensures { IfOk result (λ count. IfSome count (λ n. 1 ≤ n)) }
+    ensures { IfOk result (λ count. IfSome count IsCountOfRuns) }
 {
     if matches.get_one::<u64>(REPLICATIONS).is_none() {
         return Ok(None);

@@ -13,6 +13,8 @@ pub enum LineFault {
         /// What is to be printed.
         text: String,
     },
+    /// The rules of scenarios are asked for, by words that nothing else keeps from a run.
+    Rules,
     /// Memory ran out.
     NoMemory,
 }

@@ -5,10 +5,12 @@ use srm_program::program::program;
 use srm_program::request::request_of;
 use srm_report::outlet::WriteOutlet;
 use srm_scenario::feed::ReadFeed;
+use std::io::IsTerminal;
 use std::process::ExitCode;
 
 fn main(rt: HostRuntime) -> ExitCode {
-    let request = request_of(&rt, rt.alloc(), std::env::args(&rt));
+    let at_terminal = rt.stderr().is_terminal();
+    let request = request_of(&rt, rt.alloc(), std::env::args(&rt), at_terminal);
     let mut feed = ReadFeed::new(rt.stdin());
     let mut outlet = WriteOutlet::new(rt.stdout());
     let mut errors = WriteOutlet::new(rt.stderr());

@@ -11,6 +11,7 @@ pub line_of_refused_words : (f : Fault) → status_of_fault f ≡ 2 → line_of_
 line_of_refused_words (fault.Line line.Line) e = refl
 line_of_refused_words (fault.Line line.BadWord) e = refl
 line_of_refused_words (fault.Line (line.Help text)) e = absurd (omega arith)
+line_of_refused_words (fault.Line line.Rules) e = absurd (omega arith)
 line_of_refused_words (fault.Line line.NoMemory) e = absurd (omega arith)
 line_of_refused_words (fault.Scenario f) e = absurd (omega arith)
 line_of_refused_words (fault.Lab f) e = absurd (omega arith)

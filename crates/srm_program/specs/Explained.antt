@@ -1,11 +1,12 @@
 -- What is told of a refusal after its line.
-use Rattle.std.specs.Prelude.{◌≡◌, ◌⊎◌, ℕ, Bool, true, false, List, [], ◌++◌, codes, decimal, Option, Some, None}
+use Rattle.std.specs.Prelude.{◌≡◌, ◌⊎◌, ◌&&◌, ℕ, Bool, true, false, List, [], ◌++◌, codes, decimal, Option, Some, None}
 use Rattle.std.specs.Prelude.{Result, Ok, Err}
 use Rattle.srm_net.specs.Least.{least_delay}
 use Rattle.srm_scenario.specs.Faults.{scenario_of_text}
 use Rattle.srm_scenario.specs.Plain.{PlainScenario, network_of}
 use Rattle.srm_scenario.specs.declared.fault.ScenarioFault.TheVariants.{ReadFault, TooLong}
 use Rattle.srm_explain.specs.Explanations.{note, Explains}
+use Rattle.srm_explain.specs.Remarks.{Remarks}
 use Rattle.srm_program.specs.declared.fault.LabFault.{LabFault}
 use Rattle.srm_program.specs.declared.fault.LabFault.TheVariants as lab
 use Rattle.srm_command_line.specs.declared.line_fault.LineFault.{LineFault}
@@ -48,16 +49,31 @@ ExplainsFault text (fault.Lab lab.BadWidth) told = ExplainsWidth text told
 ExplainsFault text (fault.Lab f) told = told ≡ note (lab_sentence f)
 ExplainsFault text fault.NoMemory told = told ≡ note (codes "there was no memory left")
 
--- what may follow the line of a fault of a session that read this text: nothing where no explanation is asked for, and
--- else its explanation, unless there was no memory for it
-abbrev pub MayFollow : Bool → List ℕ → Fault → List ℕ → Type 0
-MayFollow false text f told = told ≡ []
-MayFollow true text f told = (told ≡ []) ⊎ ExplainsFault text f told
+-- what is told of a fault where no explanation is asked for: this message, and nothing where standard output failed
+abbrev pub unexplained : List ℕ → Fault → List ℕ
+unexplained message (fault.Lab (lab.WriteFault written)) = []
+unexplained message f = message
+
+-- what may follow the line of a fault of a session that read this text: this message where no explanation is asked for,
+-- and else its explanation, unless there was no memory for it
+abbrev pub MayFollow : Bool → List ℕ → List ℕ → Fault → List ℕ → Type 0
+MayFollow false message text f told = told ≡ unexplained message f
+MayFollow true message text f told = (told ≡ []) ⊎ ExplainsFault text f told
 
 -- what is told after the line of a fault, where a session read this text: of refused words their message
 abbrev pub FollowsLine : Bool → List ℕ → List ℕ → Fault → List ℕ → Type 0
 FollowsLine asks message text (fault.Line f) told = told ≡ message
-FollowsLine asks message text f told = MayFollow asks text f told
+FollowsLine asks message text f told = MayFollow asks message text f told
+
+-- whether words ask for remarks on a scenario that is accepted
+abbrev pub asks_remarks : Result (ℕ × Options) LineFault → Bool
+asks_remarks (Ok asked) = asked.1.check && asked.1.explain
+asks_remarks (Err f) = false
+
+-- what is remarked of an accepted text: nothing where no remarks are asked for, or there was no memory for them
+abbrev pub MayRemark : Bool → List ℕ → List ℕ → Type 0
+MayRemark false text told = told ≡ []
+MayRemark true text told = (told ≡ []) ⊎ Remarks text told
 
 -- the text that is kept after a session that was given this text: the same, wherever a fault is one of the text itself;
 -- none where the feed failed or words were refused; and where a text was too long or memory ran out all of it or none

@@ -10,7 +10,8 @@ use Rattle.srm_program.specs.declared.fault.Fault.{Fault}
 use Rattle.srm_program.specs.declared.fault.Fault.TheVariants as fault
 use Rattle.srm_options.specs.declared.options.Options.{Options}
 use Rattle.srm_command_line.specs.declared.request.Request.{Request}
-use Rattle.srm_program.specs.Explained.{asks_explanation, FollowsLine}
+use Rattle.srm_explain.specs.RuleDocument.{rule_document}
+use Rattle.srm_program.specs.Explained.{asks_explanation, asks_remarks, FollowsLine, MayRemark}
 use Rattle.srm_program.specs.RefusalLines.{line_of_fault}
 pub use Rattle.srm_options.specs.Asked.{MayBeAsked}
 use Rattle.srm_program.specs.Sessions.{TellsFeed, TellsTextRefusals, ReadsSessionToEnd}
@@ -37,6 +38,7 @@ abbrev pub status_of_fault : Fault → ℕ
 status_of_fault (fault.Line line.Line) = 2
 status_of_fault (fault.Line line.BadWord) = 2
 status_of_fault (fault.Line (line.Help text)) = 0
+status_of_fault (fault.Line line.Rules) = 0
 status_of_fault f = 1
 
 -- what an outlet took of help: all of it, or as many bytes as the fault tells
@@ -46,9 +48,15 @@ WritesHelp help old new (Err (fault.Lab (WriteFault written))) =
     Appends old new (take written help) × (written < length help)
 WritesHelp help old new (Err f) = ⊥
 
--- what comes of a command line for which nothing is run: help; or its refusal, and nothing is written
+-- what an outlet took of the rules of scenarios: as of help, and nothing where there was no memory for them
+abbrev pub WritesRules : {T : Type 0} → Option (List ℕ) → Option (List ℕ) → Result T Fault → Type 0
+WritesRules old new (Err fault.NoMemory) = Keeps old new
+WritesRules old new r = WritesHelp rule_document old new r
+
+-- what comes of a command line for which nothing is run: help, or the rules; or its refusal, and nothing is written
 abbrev pub RunsNothing : {T : Type 0} → LineFault → Option (List ℕ) → Option (List ℕ) → Result T Fault → Type 0
 RunsNothing (line.Help help) old new r = WritesHelp (string_bytes help) old new r
+RunsNothing line.Rules old new r = WritesRules old new r
 RunsNothing f old new r = (r ≡ Err (fault.Line f)) × Keeps old new
 
 -- what comes of what the command line asks for, of a feed that gave this text and has this left: a session, or nothing
@@ -75,12 +83,21 @@ TakesFaultLine d f told =
     TakesEither d (full_line (line_of_fault f)) told
     ⊎ ((status_of_fault f ≢ 2) × TakesLine d (full_line (codes "refused: no-memory")))
 
--- what an outlet for errors took, where a session was given this text: nothing after success, and after a refusal its
--- line and what is asked for to follow it
-abbrev pub TellsErrors : {T : Type 0} → Device → Bool → List ℕ → List ℕ → Result T Fault → Type 0
-TellsErrors d asks message given (Ok v) = (d.fails ≡ d.failed) × Keeps d.old d.new
-TellsErrors d asks message given (Err f) =
-    (told : List ℕ) × FollowsLine asks message given f told × TakesFaultLine d f told
+-- what an outlet for errors took of remarks: nothing where there is none
+abbrev pub TakesRemarks : Device → List ℕ → Type 0
+TakesRemarks d [] = (d.fails ≡ d.failed) × Keeps d.old d.new
+TakesRemarks d told = TakesLine d told
+
+-- the remarks on this text that are asked for or not
+abbrev pub RemarksSo : Device → Bool → List ℕ → Type 0
+RemarksSo d asks text = (told : List ℕ) × MayRemark asks text told × TakesRemarks d told
+
+-- what an outlet for errors took, where a session was given this text: after success the remarks that are asked for,
+-- and after a refusal its line and what is asked for to follow it
+abbrev pub TellsErrors : {T : Type 0} → Device → Bool → Bool → List ℕ → List ℕ → Result T Fault → Type 0
+TellsErrors d explains remarks message given (Ok v) = RemarksSo d remarks given
+TellsErrors d explains remarks message given (Err f) =
+    (told : List ℕ) × FollowsLine explains message given f told × TakesFaultLine d f told
 
 -- the exit status: 0 after success
 abbrev pub exit_status : {T : Type 0} → Result T Fault → ℕ
@@ -98,7 +115,8 @@ AnswersSo holds request feed outlet errors status =
     × CarriesOut request.asked given outlet.old outlet.new feed.new done
     × (feed.fails ≡ reading_failures done feed.failed)
     × (outlet.fails ≡ session_failures done outlet.failed)
-    × TellsErrors errors (asks_explanation request.asked) (string_bytes request.message) given done
+    × TellsErrors errors (asks_explanation request.asked) (asks_remarks request.asked) (string_bytes request.message)
+    given done
     × (status ≡ exit_status done)
 
 -- so, whatever comes of it

@@ -22,11 +22,12 @@ part_word part.Drop = codes "drop"
 part_word part.Outage = codes "outage"
 part_word part.Loss = codes "loss"
 
--- the line of a command line for which nothing is run; where help is asked for there is none
+-- the line of a command line for which nothing is run; where help or the rules are asked for there is none
 abbrev pub command_line : LineFault → List ℕ
 command_line line.Line = codes "command line refused"
 command_line line.BadWord = codes "command line refused"
 command_line (line.Help text) = []
+command_line line.Rules = []
 command_line line.NoMemory = codes "refused: no-memory"
 
 -- the line of a scenario that is refused

@@ -1,11 +1,12 @@
 //! What is told of a fault after its line.
 ghost use Rattle.std.specs.Prelude.{◌≡◌, IfOk, string_bytes};
-ghost use Rattle.srm_program.specs.Explained.{asks_explanation, lab_sentence, width_sentence, ExplainsFault, ExplainsWidth, FollowsLine, MayFollow};
+ghost use Rattle.srm_program.specs.Explained.{asks_explanation, asks_remarks, lab_sentence, unexplained, width_sentence, ExplainsFault, ExplainsWidth, FollowsLine, MayFollow, MayRemark};
 ghost use Rattle.srm_options.specs.declared.options.Options.{Options};
 
 use crate::fault::{Fault, LabFault, LineFault};
 use crate::options::Options;
 use srm_explain::explanation::explain;
+use srm_explain::remarks::remarks;
 use srm_scenario::reading::scenario_of_text;
 use std::alloc::{AllocError, Global};
 
@@ -16,6 +17,29 @@ pub(crate) fn asks_explanation(asked: &Result<(u64, Options), LineFault>) -> boo
     match asked {
         Ok((_, options)) => options.explain,
         Err(_) => false,
+    }
+}
+
+/// Whether remarks are to be made on a scenario that is accepted, as the words of a command line ask for.
+pub(crate) fn asks_remarks(asked: &Result<(u64, Options), LineFault>) -> bool
+    ensures { result ≡ asks_remarks asked.now }
+{
+    match asked {
+        Ok((_, options)) => options.check && options.explain,
+        Err(_) => false,
+    }
+}
+
+/// What is remarked of an accepted text, which is nothing where no remarks are asked for, or where there was no memory for them.
+pub(crate) fn remarked(alloc: Global, asks: bool, text: &[u8]) -> String
+    ensures { MayRemark asks text.now (string_bytes result) }
+{
+    if !asks {
+        return String::new(alloc);
+    }
+    match remarks(alloc, text) {
+        Ok(told) => told,
+        Err(AllocError) => String::new(alloc),
     }
 }
 
@@ -31,21 +55,31 @@ pub(crate) fn following(
 {
     match fault {
         Fault::Line(_) => message,
-        _ => told_of(alloc, asks, fault, text),
+        _ => told_of(alloc, asks, message, fault, text),
     }
 }
 
-// What is told of the fault of a session that read this text, which is nothing where no explanation is asked for, or where there was no
-// memory for it.
-fn told_of(alloc: Global, asks: bool, fault: &Fault, text: &[u8]) -> String
-    ensures { MayFollow asks text.now fault.now (string_bytes result) }
+// What is told of the fault of a session that read this text: this message where no explanation is asked for, and else nothing where
+// there was no memory for one.
+fn told_of(alloc: Global, asks: bool, message: String, fault: &Fault, text: &[u8]) -> String
+    ensures { MayFollow asks (string_bytes message) text.now fault.now (string_bytes result) }
 {
     if !asks {
-        return String::new(alloc);
+        return unexplained(alloc, message, fault);
     }
     match explained(alloc, fault, text) {
         Ok(told) => told,
         Err(AllocError) => String::new(alloc),
+    }
+}
+
+// What is told of a fault where no explanation is asked for: this message, and nothing where standard output failed.
+fn unexplained(alloc: Global, message: String, fault: &Fault) -> String
+    ensures { string_bytes result ≡ unexplained (string_bytes message) fault.now }
+{
+    match fault {
+        Fault::Lab(LabFault::WriteFault { .. }) => String::new(alloc),
+        _ => message,
     }
 }
 

@@ -37,7 +37,7 @@ fn line_of_line_fault(alloc: Global, fault: &LineFault) -> Result<String, NoMemo
     let line = match fault {
         LineFault::Line => "command line refused",
         LineFault::BadWord => "command line refused",
-        LineFault::Help { .. } => "",
+        LineFault::Help { .. } | LineFault::Rules => "",
         LineFault::NoMemory => "refused: no-memory",
     };
     Ok(String::from_str(alloc, line)?)

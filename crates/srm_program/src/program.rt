@@ -2,18 +2,19 @@
 ghost use Rattle.std.specs.Prelude.{◌≡◌, ◌<◌, ◌-◌, ◌^◌, ℕ, List, [], IfOk, string_bytes};
 ghost use Rattle.srm_program.specs.Explained.{KeepsText};
 ghost use Rattle.srm_program.specs.RefusalLines.{line_of_fault};
-ghost use Rattle.srm_program.specs.Program.{device, exit_status, full_line, status_of_fault, AnswersRequest, MayBeAsked, RefusesRequest, RunsNothing, TakesEither, TakesFaultLine, TakesLine, TellsErrors};
+ghost use Rattle.srm_program.specs.Program.{device, exit_status, full_line, status_of_fault, AnswersRequest, MayBeAsked, RefusesRequest, RemarksSo, RunsNothing, TakesEither, TakesFaultLine, TakesLine, TellsErrors, WritesHelp, WritesRules};
 ghost use Rattle.srm_program.specs.Sessions.{reading_failures, session_failures};
 
-use crate::explained::{asks_explanation, following};
+use crate::explained::{asks_explanation, asks_remarks, following, remarked};
 use crate::fault::{Fault, LabFault, LineFault};
 use crate::line::{NoMemory, line_of};
 use crate::request::Request;
 use crate::session::{Simulated, simulate};
+use srm_explain::rule_document::rule_document;
 use srm_report::outlet::Outlet;
 use srm_report::writing::{WriteFault, write_out};
 use srm_scenario::feed::Feed;
-use std::alloc::Global;
+use std::alloc::{AllocError, Global};
 use std::marker::Sync;
 use std::sync::Wait;
 use std::thread::Threads;
@@ -52,19 +53,36 @@ pub fn program<R: Threads + Wait + Sync, F: Feed, O: Outlet, E: Outlet>(
 {
     let Request { asked, message } = request;
     let explains = asks_explanation(&asked);
+    let remarks = asks_remarks(&asked);
+    let wish = Wish {
+        explains,
+        remarks,
+        message,
+    };
     match asked {
         Ok((seed, options)) => {
             let simulated = simulate(rt, alloc, feed, seed, options, outlet);
-            conclude(alloc, explains, message, simulated, errors)
+            conclude(alloc, wish, simulated, errors)
         }
         Err(fault) => {
             let unread = run_nothing(alloc, fault, outlet);
-            conclude(alloc, explains, message, unread, errors)
+            conclude(alloc, wish, unread, errors)
         }
     }
 }
 
-// Writes the help that is asked for, or refuses the command line.
+/// What is asked for to be told beside lines of refusals.
+#[derive(Drop)]
+struct Wish {
+    /// Whether refusals are explained.
+    explains: bool,
+    /// Whether remarks are made on a scenario that is accepted.
+    remarks: bool,
+    /// What follows the line of refused words; and of any other refusal, where none is explained.
+    message: String,
+}
+
+// Writes the help or the rules that are asked for, or refuses the command line.
 fn run_nothing<O: Outlet>(alloc: Global, fault: LineFault, outlet: &mut O) -> Simulated
     requires { O.failures outlet.old < 2 ^ 64 - 1 }
     ensures read { (n : ℕ) → n ≡ reading_failures result.done n }
@@ -73,38 +91,74 @@ fn run_nothing<O: Outlet>(alloc: Global, fault: LineFault, outlet: &mut O) -> Si
     ensures text { KeepsText result.done [] result.text.items }
 {
     match fault {
-        LineFault::Help { text } => match write_out(outlet, text.as_bytes()) {
-            Ok(()) => Simulated::unread(alloc, Ok(())),
-            Err(WriteFault { written }) => {
-                Simulated::unread(alloc, Err(Fault::Lab(LabFault::WriteFault { written })))
-            }
-        },
+        LineFault::Help { text } => Simulated::unread(alloc, write_help(text.as_str(), outlet)),
+        LineFault::Rules => Simulated::unread(alloc, write_rules(alloc, outlet)),
         fault => Simulated::unread(alloc, Err(Fault::Line(fault))),
     }
 }
 
-// Tells a refusal, and what follows it, on the outlet for errors. Gives the exit status.
-fn conclude<E: Outlet>(
-    alloc: Global,
-    explains: bool,
-    message: String,
-    simulated: Simulated,
-    errors: &mut E,
-) -> u8
+// Writes help.
+fn write_help<O: Outlet>(help: &str, outlet: &mut O) -> Result<(), Fault>
+    requires { O.failures outlet.old < 2 ^ 64 - 1 }
+    ensures read { (n : ℕ) → n ≡ reading_failures result n }
+    ensures failures { O.failures outlet.new ≡ session_failures result (O.failures outlet.old) }
+    ensures taken { WritesHelp help.now (O.taken outlet.old) (O.taken outlet.new) result }
+{
+    match write_out(outlet, help.as_bytes()) {
+        Ok(()) => Ok(()),
+        Err(WriteFault { written }) => Err(Fault::Lab(LabFault::WriteFault { written })),
+    }
+}
+
+// Writes the rules of scenarios.
+fn write_rules<O: Outlet>(alloc: Global, outlet: &mut O) -> Result<(), Fault>
+    requires { O.failures outlet.old < 2 ^ 64 - 1 }
+    ensures read { (n : ℕ) → n ≡ reading_failures result n }
+    ensures failures { O.failures outlet.new ≡ session_failures result (O.failures outlet.old) }
+    ensures taken { WritesRules (O.taken outlet.old) (O.taken outlet.new) result }
+{
+    match rule_document(alloc) {
+        Ok(text) => write_help(text.as_str(), outlet),
+        Err(AllocError) => Err(Fault::NoMemory),
+    }
+}
+
+// Tells a refusal, and what follows it, or what is remarked, on the outlet for errors. Gives the exit status.
+fn conclude<E: Outlet>(alloc: Global, wish: Wish, simulated: Simulated, errors: &mut E) -> u8
     requires { E.failures errors.old < 2 ^ 64 - 1 }
     ensures status { result ≡ exit_status simulated.done }
     ensures told { (given : List ℕ) → KeepsText simulated.done given simulated.text.items
         → TellsErrors (device (E.taken errors.old) (E.taken errors.new) (E.failures errors.old) (E.failures errors.new))
-        explains (string_bytes message) given simulated.done }
+        wish.explains wish.remarks (string_bytes wish.message) given simulated.done }
 {
     let Simulated { done, text } = simulated;
     match done {
-        Ok(()) => 0,
+        Ok(()) => {
+            remark(alloc, wish.remarks, &text, errors);
+            0
+        }
         Err(fault) => {
+            let Wish {
+                explains,
+                message,
+                ..
+            } = wish;
             let told = following(alloc, explains, message, &fault, &text);
             tell(alloc, &fault, told.as_str(), errors);
             status_of(&fault)
         }
+    }
+}
+
+// Tells what is remarked of a text that is accepted, if remarks are asked for and there are some.
+fn remark<E: Outlet>(alloc: Global, asks: bool, text: &[u8], errors: &mut E)
+    requires { E.failures errors.old < 2 ^ 64 - 1 }
+    ensures { RemarksSo (device (E.taken errors.old) (E.taken errors.new) (E.failures errors.old) (E.failures errors.new))
+        asks text.now }
+{
+    let told = remarked(alloc, asks, text);
+    if !told.is_empty() {
+        put_line(told.as_bytes(), errors);
     }
 }
 
@@ -168,7 +222,7 @@ fn status_of(fault: &Fault) -> u8
 {
     match fault {
         Fault::Line(LineFault::Line | LineFault::BadWord) => REFUSED_WORDS,
-        Fault::Line(LineFault::Help { .. }) => 0,
+        Fault::Line(LineFault::Help { .. } | LineFault::Rules) => 0,
         _ => 1,
     }
 }

@@ -26,7 +26,7 @@ returns-in-Ok-clause-report g c =
           (t.3, told.end),
       told.read,
       told.failures,
-      rw c.asks_explanation-explains.ensures at (c.conclude.ensures.told t.0 t.4),
+      rw (c.asks_explanation-explains.ensures, c.asks_remarks-remarks.ensures) at (c.conclude.ensures.told t.0 t.4),
       c.conclude.ensures.status,
     )
 
@@ -47,7 +47,7 @@ returns-in-Ok-clause-refusals g c =
           (t.3, told.end),
       told.read,
       told.failures,
-      rw c.asks_explanation-explains.ensures at (c.conclude.ensures.told t.0 t.4),
+      rw (c.asks_explanation-explains.ensures, c.asks_remarks-remarks.ensures) at (c.conclude.ensures.told t.0 t.4),
       c.conclude.ensures.status,
     )
 
@@ -65,7 +65,7 @@ returns-in-Err-clause-report g c =
           (refl, told.taken),
       told.read _,
       told.failures,
-      rw c.asks_explanation-explains.ensures at (c.conclude-in-Err.ensures.told [] told.text),
+      rw (c.asks_explanation-explains.ensures, c.asks_remarks-remarks.ensures) at (c.conclude-in-Err.ensures.told [] told.text),
       c.conclude-in-Err.ensures.status,
     )
 
@@ -84,6 +84,6 @@ returns-in-Err-clause-refusals g c =
           (refl, told.taken),
       told.read _,
       told.failures,
-      rw c.asks_explanation-explains.ensures at (c.conclude-in-Err.ensures.told [] told.text),
+      rw (c.asks_explanation-explains.ensures, c.asks_remarks-remarks.ensures) at (c.conclude-in-Err.ensures.told [] told.text),
       c.conclude-in-Err.ensures.status,
     )
