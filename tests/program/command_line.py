@@ -9,10 +9,12 @@ for, which grows with the jobs of a window. That a trace is written as the run g
 its output takes nothing. Needs a C compiler, `cc`, for the libraries that count. What is refused is in
 compare_program.py and hostile.py too; here stand each option's words.
 """
+import contextlib
 import functools
 import itertools
 import os
 import pathlib
+import pty
 import subprocess
 import sys
 import tempfile
@@ -87,6 +89,27 @@ class CommandLineCase(ProgramCase):
         """How many allocations a run makes beside those for its words, which a refused text shows."""
         return self.counted("refuse_allocation", words, text, output) - self.counted("refuse_allocation", words, b"[")
 
+    def allocations_until_full(self, words: Sequence[str], text: bytes, most: int) -> int:
+        """How many allocations a run makes whose output fails after so many bytes, beside those for its words."""
+
+        def run(environment: Environment) -> None:
+            end = self.program.run(words, text, env={**environment, "TAKE": str(most)})
+            self.assertEqual((end.status, len(end.written)), (1, most))
+
+        return library("refuse_allocation").counted(run) - self.counted("refuse_allocation", words, b"[")
+
+    def told_on_terminal(self, words: Sequence[str], text: bytes = CHAIN, output: int = subprocess.PIPE) -> tuple[int, str]:
+        """The status of a run, and what a terminal takes as its standard error."""
+        screen, terminal = pty.openpty()
+        with os.fdopen(screen, "rb", 0) as shown:
+            end = self.program.run(words, text, stdout=output, stderr=terminal)
+            os.close(terminal)
+            told = b""
+            with contextlib.suppress(OSError):  # a terminal that nobody writes to any more ends so
+                while more := shown.read(4096):
+                    told += more
+        return end.status, told.decode().replace("\r\n", "\n")
+
     def allocations_until_closed(self, words: Sequence[str], text: bytes, most: int) -> int:
         """How many allocations a run makes whose output is closed once so many bytes were read, beside those for its words."""
         run = functools.partial(self.run_and_close, words, text, most)
@@ -103,6 +126,17 @@ class CommandLineCase(ProgramCase):
                 child.stdout.read(most)
                 child.stdout.close()
                 child.wait(LONGEST)
+
+    def peak(self, words: Sequence[str], text: bytes) -> int:
+        """The most memory that a run takes, in kilobytes."""
+        with tempfile.TemporaryFile() as given:
+            given.write(text)
+            given.seek(0)
+            child = self.program.start(words, stdin=given, stdout=subprocess.DEVNULL)
+            _, status, used = os.wait4(child.pid, 0)
+            child.returncode = os.waitstatus_to_exitcode(status)
+            self.assertEqual(child.returncode, 0)
+            return used.ru_maxrss
 
     def are_busy(self, words: Sequence[str], text: bytes, many: int) -> bool:
         """Whether so many threads of one run take processor time, of a run that is tried several times.
@@ -171,6 +205,22 @@ def star(members: int, draws: int) -> bytes:
     top = f"version = {version}\nuntil = {2 * draws + 10}\nc1 = 0\nc2 = 0\nd1 = 0\nd2 = 0\n"
     top += f'topology = "star"\nsize = {members + 1}\ndelay = 1\n'
     return f"{top}member = [\n{roles}]\ndraw = [\n{drawn}]\n".encode()
+
+
+# A loss that nobody can mend, by timers of one tick each: a short text, and a run that is long if it is made.
+UNMENDED = b"""\
+version = 1
+until = 20000
+c1 = 0
+c2 = 0
+d1 = 0
+d2 = 0
+nodes = 2
+link = [{ a = 0, b = 1, delay = 1 }]
+member = [{ node = 0, role = "sender", stream = 1, leave = 5 }, { node = 1, role = "receiver", stream = 2 }]
+draw = [{ member = 0, page = 0, ink = 7, at = 0 }, { member = 0, page = 0, ink = 7, at = 2 }]
+drop = [{ link = 0, sender = 0, count = 0 }]
+"""
 
 
 class Seeds(CommandLineCase):
@@ -298,6 +348,35 @@ class Replications(CommandLineCase):
                 with self.subTest(words=words):
                     self.assertEqual(self.ended(words, DRAWN)[0], wanted)
 
+    def test_as_many_runs_are_made_as_are_asked_for(self) -> None:
+        """By the seeds of all rows, and the rows of some: each run has one loss."""
+        for count, workers in itertools.product((300, 1000), ("1", "64")):
+            words = ["--replications", str(count), "--seed", "5", "--show", "losses", "--workers", workers]
+            with self.subTest(words=words):
+                header, *rows = self.program.written(words, DRAWN).splitlines(keepends=True)
+                self.assertEqual([int(row.split(b",")[0]) for row in rows], [*range(5, 5 + count)])
+                for place in (0, 298, count // 2, count - 1):
+                    self.assertEqual(header + rows[place], self.table("losses", 5 + place, 1))
+
+    def test_so_many_runs_may_be_asked_for(self) -> None:
+        words = ["--replications", "1000000", "--check"]
+        self.assertEqual(self.ended(words, DRAWN)[0], End(0, b"", b""))
+
+    def test_many_runs_of_a_large_trace_take_no_more_memory_than_some(self) -> None:
+        """Some 6,000 rows a run, of which a thousand runs would take over 100 MB if they were kept."""
+        text = star(100, 60)
+        some, many = (self.peak(["--replications", count, "--workers", "1"], text) for count in ("20", "1000"))
+        self.assertLess(many, 5 / 4 * some)
+
+    def test_rows_are_written_run_after_run(self) -> None:
+        """The output takes the header and some bytes more."""
+        text = chain(20, 1, 1)
+        for workers in ("1", "2"):
+            words = ["--replications", "40", "--workers", workers]
+            with self.subTest(words=words):
+                begun = self.allocations_until_full(words, text, 100)
+                self.assertLess(begun, 1 / 2 * self.allocations(words, text))
+
     def test_a_table_without_rows_has_its_header_once(self) -> None:
         wanted = End(0, b"seed,member,source,page,number,detected,recovered,delay\n", b"")
         self.assertEqual(self.ended(["--replications", "3", "--show", "losses"], LONE)[0], wanted)
@@ -351,6 +430,19 @@ class Replications(CommandLineCase):
 
 
 class Traces(CommandLineCase):
+    def test_first_rows_are_not_held_back(self) -> None:
+        """Of tables that would fit into what is gathered later the output takes the header, and fails in the first rows."""
+        trace, adapted = chain(40, 1, 90), (EXAMPLES / "adaptive-request-timers.toml").read_bytes()
+        crews = ([*WINDOW, "--crew", crew] for crew in ("plain", "pool", "bag", "team"))
+        for words in (NO_WORDS, *crews):
+            for table, text in (("trace", trace), ("timers", adapted)):
+                shown = [*words, "--show", table]
+                with self.subTest(words=shown):
+                    written = self.program.written(shown, text)
+                    self.assertLess(len(written), 8192)
+                    most = written.index(b"\n") + 10
+                    self.assertLess(self.allocations_until_full(shown, text, most), self.allocations(shown, text) - 20)
+
     def test_rows_are_written_before_the_run_ends(self) -> None:
         text = chain(40, 1, 1)
         promised = [*WINDOW, "--width", "promise", "--cut", "7"]
@@ -515,6 +607,8 @@ Options:
           Only read and check the scenario, and write nothing
       --explain
           After the line of a refusal say what to mend
+      --rules
+          Only print the rules of scenario files, as JSON
   -h, --help
           Print help
   -V, --version
@@ -533,7 +627,7 @@ Windows (advanced: how a run is worked out, the table is the same):
           How wide windows are: the least delay of a link, as members promise, or ticks, from 1 to that delay [default: least]
 
 Exit status:
-  0  the table was written, or this help
+  0  the table was written, or this help, or the rules
   1  refused: one line on standard error says why
   2  the command line was refused, and standard input was not read
 
@@ -542,7 +636,56 @@ Example:
 """.splitlines()
 
 
+class Terminals(CommandLineCase):
+    HINT = "  add --explain to be told what to mend\n"
+
+    def test_a_terminal_is_told_that_a_refusal_can_be_explained(self) -> None:
+        for words, text, status, line in (
+            (NO_WORDS, b"[", 1, "refused: not-toml\n"),
+            (["--check"], b"", 1, "refused: bad-key top 0\n"),
+            ([*WINDOW, "--cut", "0"], CHAIN, 1, "refused: bad-cut\n"),
+            (["--show", "colors"], CHAIN, 2, "command line refused\n"),
+            (["scenario.toml"], CHAIN, 2, "command line refused\n"),
+        ):
+            with self.subTest(words=words):
+                self.assertEqual(self.told_on_terminal(words, text), (status, line + self.HINT))
+                self.assertEqual(self.program.run(words, text).told.decode(), line)
+
+    def test_what_is_explained_already_has_no_hint(self) -> None:
+        for words, text in ((["--explain"], b"["), (["--explain", "--show", "colors"], CHAIN)):
+            with self.subTest(words=words):
+                end = self.program.run(words, text)
+                self.assertEqual(self.told_on_terminal(words, text), (end.status, end.told.decode()))
+                self.assertNotIn(self.HINT, end.told.decode())
+
+    def test_nor_has_what_is_not_refused_or_a_closed_output(self) -> None:
+        for words in (NO_WORDS, ["--help"], ["--check"], ["--rules"], ["--explain"]):
+            with self.subTest(words=words):
+                self.assertEqual(self.told_on_terminal(words), (0, ""))
+        with open(FULL, "wb") as full:
+            self.assertEqual(self.told_on_terminal(NO_WORDS, output=full.fileno()), (1, "refused: write-fault 0\n"))
+
+
 class Checks(CommandLineCase):
+    def test_a_checked_scenario_is_not_run_by_its_allocations(self) -> None:
+        shorter = UNMENDED.replace(b"20000", b"200")
+        self.assertGreater(self.allocations(NO_WORDS, UNMENDED), 10 * self.allocations(NO_WORDS, shorter))
+        for words in (["--check"], ["--check", "--replications", "1000"], ["--check", *WINDOW], ["--check", "--show", "links"]):
+            with self.subTest(words=words):
+                self.assertEqual(self.allocations(words, UNMENDED), self.allocations(words, shorter))
+
+    def test_a_constant_that_is_told_without_thousandths_is_remarked(self) -> None:
+        for constant, is_remarked in ((0, False), (1, True), (64, True), (65, False), (1000, False)):
+            text = DRAWN.replace(b"c1 = ", b"c1 = %d # " % constant).replace(b"d2 = ", b"d2 = %d # " % constant)
+            with self.subTest(constant=constant):
+                end = self.program.run(["--check", "--explain"], text)
+                told = [line for line in end.told.decode().splitlines() if line.startswith("remark: ")]
+                self.assertEqual((end.status, end.written), (0, b""))
+                self.assertEqual([line.split()[1] for line in told], ["c1", "d2"] if is_remarked else [])
+                self.assertEqual(bool(end.told), is_remarked)
+                for words in (["--check"], ["--explain"]):
+                    self.assertEqual(self.program.run(words, text).told, b"")
+
     def test_a_scenario_that_is_accepted_is_not_run(self) -> None:
         for words in (["--check"], ["--check", "--explain"], ["--check", *WINDOW, "--cut", "0"], ["--show", "links", "--check"]):
             with self.subTest(words=words):
@@ -569,6 +712,11 @@ class Explanations(CommandLineCase):
         self.check(["--width", "Least"], "'Least'", "--width <least|promise|N>")
         self.check(["--seed", "1", "--seed", "2"], "--seed", "multiple times")
         self.check(["--seed"], "--seed", "value is required")
+        self.check(["--seed", "-1"], "'-1'", "--seed <0..=9223372036854775807>")
+        self.check(["--workers", "-1"], "'-1'", "--workers <1..=64>")
+        self.check(["--cut", "-1"], "'-1'", "--cut <N>", "1 to 1024")
+        self.check(["--show", "-1"], "'-1'", "trace, members, losses, operations, links, timers")
+        self.check(["--seed", "--show", "links"], "--seed", "value is required")
         self.check(["--replications", "0"], "'0'", "1..=1000000")
         self.check(["--replications", "2", *WINDOW], "--replications", "cannot be used with '--engine window'")
         self.check(["--replications", "2", "--seed", str(2**63 - 1)], "--replications", "above 9223372036854775807")

@@ -29,7 +29,8 @@ returns-in-Err-clause-told g c given kept =
     let errors = device (g.E.Outlet.taken c.args.errors.now) (g.E.Outlet.taken c.tell.new.errors)
     (g.E.Outlet.failures c.args.errors.now) (g.E.Outlet.failures c.tell.new.errors) in
     let of_fault = subst (λ (r : Result (Unit {0}) Fault). KeepsText r given text) c.in-Err.is kept in
-    let follows = subst (λ (l : List ℕ). FollowsLine wish.explains message l fault told) c.deref-in-Err.ensures.value c.following-told.ensures in
+    let follows = subst (λ (l : List ℕ). FollowsLine wish.explains message l fault told) c.deref-in-Err.ensures.value
+    c.following-told.ensures in
     let line = subst (λ (l : List ℕ). TakesFaultLine errors fault l) c.as_str.ensures.value c.tell.ensures in
     subst (λ (r : Result (Unit {0}) Fault). TellsErrors errors wish.explains wish.remarks message given r) (sym c.in-Err.is)
     (told, told_of_given (Unit {0}) wish.explains message given text told fault of_fault follows, line)
