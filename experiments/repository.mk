@@ -56,7 +56,8 @@ install-shared:
 		install -D -m 644 completions/$$command.bash $(SHARE)/bash-completion/completions/$$command && \
 		install -D -m 644 completions/_$$command $(SHARE)/zsh/site-functions/_$$command && \
 		install -D -m 644 completions/$$command.fish $(SHARE)/fish/vendor_completions.d/$$command.fish || exit 1; done
-	mkdir -p $(SHARE)/doc/srm_lab
+	mkdir -p $(SHARE)/srm_lab $(SHARE)/doc/srm_lab
+	$(or $(PROGRAM),bin/srm_lab) --rules | $(or $(PYTHON),/usr/bin/python3) packaging/scenario_schema.py > $(SHARE)/srm_lab/scenario.schema.json
 	cp -r --no-preserve=mode README.md $(filter %.md %.cff LICENSE-% docs examples,$(DIST_FILES)) $(SHARE)/doc/srm_lab/
 
 # the folder that is packed, and of which the wheel and the Debian package are made; its documents and package are the

@@ -27,6 +27,7 @@ PARTS = {
     "the tests of sweeps": "snakemake",
     "the test of the notebook": "python3-nbconvert python3-ipykernel",
     "the tests of man pages and completions": "mandoc fish zsh",
+    "the tests of the schema": "python3-jsonschema",
     "the tests of the wheel": "python3-pip python3-setuptools python3-venv python3-wheel",
     "the test of the Debian package": "debhelper dh-python lintian",
 }

@@ -56,7 +56,7 @@ def test_what_is_packed(pack, version, tmp_path):
     assert {"bin/srm_lab", "LICENSE-MIT", "LICENSE-APACHE", "NOTICES.md", "CHANGELOG.md", "CITATION.cff", "Makefile",
             "docs/TUTORIAL.md", "examples/two-nodes.toml", "python/pyproject.toml", "python/src/srm_lab/cli.py",
             "experiments/check_tutorial.py", "experiments/packages.txt", "share/man/man1/srm_lab.1",
-            "share/man/man1/srm-scenarios.1", "share/man/man5/srm_lab.5"} <= names
+            "share/man/man1/srm-scenarios.1", "share/man/man5/srm_lab.5", "share/srm_lab/scenario.schema.json"} <= names
     assert not [name for name in names if name.startswith(("crates", "tests", "packaging", "python/tests"))]
     assert pack("dist", place=tmp_path / "again").read_bytes() == path.read_bytes()
 
