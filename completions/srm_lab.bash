@@ -8,7 +8,7 @@ _srm_lab() {
         --crew) mapfile -t COMPREPLY < <(compgen -W "plain pool bag team" -- "$word") ;;
         --width) mapfile -t COMPREPLY < <(compgen -W "least promise" -- "$word") ;;
         --seed | --replications | --workers | --cut) ;;
-        *) mapfile -t COMPREPLY < <(compgen -W "--seed --replications --engine --crew --workers --cut --width --show --check --explain --help --version" -- "$word") ;;
+        *) mapfile -t COMPREPLY < <(compgen -W "--seed --replications --engine --crew --workers --cut --width --show --check --explain --rules --help --version" -- "$word") ;;
     esac
 }
 complete -o default -F _srm_lab srm_lab

@@ -9,5 +9,6 @@ complete -c srm_lab -l width -x -a "least\t'the least delay of a link' promise\t
 complete -c srm_lab -l show -x -a "trace\t'each event' members\t'each member' losses\t'each loss' operations\t'each lost operation' links\t'each link' timers\t'each join and adapted timer'" -d 'Table to write'
 complete -c srm_lab -l check -d 'Only check the scenario'
 complete -c srm_lab -l explain -d 'Say what to mend after a refusal'
+complete -c srm_lab -l rules -d 'Rules of scenarios as JSON'
 complete -c srm_lab -s h -l help -d 'Short help'
 complete -c srm_lab -s V -l version -d 'Version'
