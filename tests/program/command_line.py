@@ -432,10 +432,9 @@ class Replications(CommandLineCase):
 class Traces(CommandLineCase):
     def test_first_rows_are_not_held_back(self) -> None:
         """Of tables that would fit into what is gathered later the output takes the header, and fails in the first rows."""
-        trace, adapted = chain(40, 1, 90), (EXAMPLES / "adaptive-request-timers.toml").read_bytes()
         crews = ([*WINDOW, "--crew", crew] for crew in ("plain", "pool", "bag", "team"))
         for words in (NO_WORDS, *crews):
-            for table, text in (("trace", trace), ("timers", adapted)):
+            for table, text in (("trace", chain(40, 1, 90)), ("timers", UNMENDED)):
                 shown = [*words, "--show", table]
                 with self.subTest(words=shown):
                     written = self.program.written(shown, text)
