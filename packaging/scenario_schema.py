@@ -70,7 +70,8 @@ def schema(rules: Json) -> Json:
         # a topology that the version has not
         named = {"properties": {"topology": table_schema(tops[0], name)["properties"]["topology"]}}
         definitions[name] = {"allOf": [*cases, named]}
-        by_version.append({"if": {"properties": {"version": {"const": one["version"]}}}, "then": {"$ref": f"#/definitions/{name}"}})
+        is_version = {"properties": {"version": {"const": one["version"]}}}
+        by_version.append({"if": is_version, "then": {"$ref": f"#/definitions/{name}"}})
         # those of the last version, of which editors complete keys: each version has all of the one before
         properties = {key: held for table in tops for key, held in table_schema(table, name)["properties"].items()}
     return {

@@ -1,4 +1,4 @@
-"""What the program prints of its rules: the package's form of scenarios, the man page and the schema for editors are held to it."""
+"""The rules that the program prints: the package's form of scenarios, the man page and the schema are held to them."""
 import json
 import re
 import subprocess

@@ -276,6 +276,14 @@ class Tables(CommandLineCase):
                 table = (EXAMPLES / f"chain-of-five-one-loss.{show}.csv").read_bytes()
                 self.assertEqual(self.ended(words)[0], (0, table, b""))
 
+    def test_memory_does_not_grow_with_rows(self) -> None:
+        """Of a loss that is asked for in vain at each tick, a hundred times as long."""
+        shorter, longer = (UNMENDED.replace(b"20000", ticks) for ticks in (b"2000", b"200000"))
+        for words, table in itertools.product((NO_WORDS, WINDOW), fuzz_tables.HEADERS):
+            shown = [*words, "--show", table]
+            with self.subTest(words=shown):
+                self.assertLess(self.peak(shown, longer), 5 / 4 * self.peak(shown, shorter))
+
 
 class Windows(CommandLineCase):
     def test_only_the_run_in_windows_refuses_a_cut_of_0(self) -> None:
