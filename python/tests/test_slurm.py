@@ -90,7 +90,7 @@ def states(folder):
     return [job.read_text().split("|")[1] for job in sorted((folder / "slurm/jobs").glob("*"))]
 
 
-def until(holds, seconds=120):
+def until(holds, seconds=300):
     """Waits until something holds."""
     end = time.monotonic() + seconds
     while not holds():
@@ -100,7 +100,7 @@ def until(holds, seconds=120):
 
 def test_sweep_by_slurm_is_that_without(cluster, tmp_path):
     running = cluster("|")
-    told, _ = running.communicate(timeout=120)
+    told, _ = running.communicate(timeout=600)
     assert running.returncode == 0, told
     assert (tmp_path / "results/tables/one.csv").read_text().splitlines()[1:] == ROWS
     assert set(states(tmp_path)) == {"COMPLETED"}
@@ -108,7 +108,7 @@ def test_sweep_by_slurm_is_that_without(cluster, tmp_path):
 
 def test_job_that_slurm_ends_is_told_and_the_others_go_on(cluster, tmp_path):
     running = cluster("size-2|TIMEOUT")
-    told, _ = running.communicate(timeout=120)
+    told, _ = running.communicate(timeout=600)
     assert running.returncode and told.count("took longer than its limit, 1:00: ") == 1, told
     assert (tmp_path / "results/runs/one/size-3/part-0.done").exists()
     assert not (tmp_path / "results/runs/one/size-2/part-0.done").exists()
@@ -122,7 +122,7 @@ def test_ended_make_leaves_no_job(cluster, tmp_path, number, send):
     until(lambda: "RUNNING" in states(tmp_path))
     send(running.pid, number)
     until(lambda: "CANCELLED" in states(tmp_path) and "RUNNING" not in states(tmp_path))
-    told, _ = running.communicate(timeout=120)  # all that writes there has ended
+    told, _ = running.communicate(timeout=600)  # all that writes there has ended
     assert "the sweep is stopped" in told and not list(at_work_in(tmp_path))
 
 
