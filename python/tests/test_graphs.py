@@ -1,4 +1,6 @@
 """Networks from graphs: names, delays in any unit, and spanning trees."""
+from typing import Any
+
 import networkx
 import pytest
 
@@ -160,13 +162,15 @@ def test_label_that_is_another_nodes_is_no_name(labels, names, tmp_path):
 
 
 def test_members_are_named_as_in_router_maps(square, tmp_path, capsys):
-    words = {"delays": Delays("ms", factor=10), "members": ["y", "w"], "source": "z"}
+    words: dict[str, Any] = {"delays": Delays("ms", factor=10), "members": ["y", "w"], "source": "z"}
     made = scenario.from_graph(square, spanning_tree="shortest", **words)
     names = [made.tree.name(member.node) for member in made.members]
     assert names == [scenario.from_router_map(square, **words).tree.name(node) for node in (2, 0, 1)] == ["z", "w", "y"]
     assert [member.node for member in scenario.chain(9, members=[7, 3]).members] == [0, 3, 7]
     assert [member.node for member in scenario.star(9, members=[7, 3], source=3).members] == [3, 7]
-    for wrong, told in (([9], "there is no node 9"), (["x"], "there is no node 'x'"), (1.5, "members is 1.5, and has to be")):
+    refused: list[tuple[Any, str]] = [([9], "there is no node 9"), (["x"], "there is no node 'x'"),
+                                      (1.5, "members is 1.5, and has to be")]
+    for wrong, told in refused:
         with pytest.raises(ScenarioError, match=told):
             scenario.chain(9, members=wrong)
     with pytest.raises(ScenarioError, match="members 0: no node that may host a member"):

@@ -117,16 +117,16 @@ def test_backoff_is_a_parameter_of_a_sweep(program):
     assert table["backoff"].unique().tolist() == [2, 3]
 
 
-@pytest.mark.parametrize("make, told", [
-    (lambda: scenario.chain(3).drwaing(5), "a scenario has no 'drwaing' (did you mean 'drawing'?)"),
-    (lambda: scenario.chain(3).lose_operation(5), "a scenario has no 'lose_operation' (did you mean 'lose_operations'?)"),
-    (lambda: scenario.satr(3), "srm_lab.scenario has no 'satr' (did you mean 'star'?)"),
-    (lambda: scenario.from_grpah(3), "srm_lab.scenario has no 'from_grpah' (did you mean 'from_graph'?)"),
-    (lambda: scenario.chain(3).zzz, "a scenario has no 'zzz'"),
+@pytest.mark.parametrize("place, name, told", [
+    (CHAIN, "drwaing", "a scenario has no 'drwaing' (did you mean 'drawing'?)"),
+    (CHAIN, "lose_operation", "a scenario has no 'lose_operation' (did you mean 'lose_operations'?)"),
+    (scenario, "satr", "srm_lab.scenario has no 'satr' (did you mean 'star'?)"),
+    (scenario, "from_grpah", "srm_lab.scenario has no 'from_grpah' (did you mean 'from_graph'?)"),
+    (CHAIN, "zzz", "a scenario has no 'zzz'"),
 ])
-def test_misspelt_verb_is_told(make, told):
+def test_misspelt_verb_is_told(place, name, told):
     with pytest.raises(AttributeError) as fault:
-        make()
+        getattr(place, name)
     assert str(fault.value) == told
 
 
@@ -162,9 +162,9 @@ def test_version_of_the_command(word, capsys):
     lambda seed: scenario.chain(3).back(5, most=9, seed=seed),
 ])
 def test_seeds_are_whole_numbers_from_0_on(make):
-    for seed in (-1, 2**63):
-        with pytest.raises(ScenarioError, match=f"seed is {seed}, and has to be 0 to 9223372036854775807"):
-            make(seed)
+    for number in (-1, 2**63):
+        with pytest.raises(ScenarioError, match=f"seed is {number}, and has to be 0 to 9223372036854775807"):
+            make(number)
     for seed in (0.5, "1", True):
         with pytest.raises(ScenarioError, match=f"seed is {seed!r}, and has to be a whole number"):
             make(seed)
