@@ -1,11 +1,12 @@
 """Statistics over seeds, with numbers worked out by hand or from tables of Student's t."""
 import math
 
+import numpy
 import pandas
 import pytest
 from scipy import stats
 
-from srm_lab import ScenarioError, difference, interval, paired, run, scenario, summarise
+from srm_lab import ScenarioError, difference, interval, paired, run, scenario, statistics, summarise
 
 
 def test_values_that_are_all_the_same_have_no_width():
@@ -86,10 +87,62 @@ def test_group_of_nothing_has_no_row():
     assert summarise(LOSSES[:0], "delay", by="c2").empty and summarise(LOSSES[:0], "delay")["seeds"] == 0
 
 
+def test_ends_of_a_seed_are_quantiles():
+    found = summarise(LOSSES[LOSSES["c2"] == 1], "delay", statistic=[0, 0.25, 1])
+    assert found["mean"].to_dict() == {"q0": 6, "q25": 6, "q100": 6}  # of seed 1 a 4 alone, of seed 2 8 and 8
+
+
+# delays of two settings: of seed 1 1, 2, 9 and 4, 6, 20, of seed 2 3, 5, 7, 9 and 3, 7, 7, 15
+FIRST = pandas.DataFrame({"seed": [1, 1, 1, 2, 2, 2, 2], "delay": [1, 2, 9, 3, 5, 7, 9]})
+SECOND = FIRST.assign(delay=[4, 6, 20, 3, 7, 7, 15])
+
+
+@pytest.mark.parametrize("statistic, first, second", [
+    ("mean", [4, 6], [10, 8]), ("median", [2, 6], [6, 7]), (0.5, [2, 6], [6, 7]), (0.25, [1.5, 4.5], [5, 6]),
+    ("max", [9, 9], [20, 15]), (1, [9, 9], [20, 15]), (lambda values: values.max() - values.min(), [8, 6], [16, 12])])
+def test_pairs_of_a_statistic(statistic, first, second):
+    found = paired(FIRST, SECOND, "delay", statistic=statistic)
+    assert found.table["first"].tolist() == first and found.table["second"].tolist() == second
+    assert found.difference == interval([right - left for left, right in zip(first, second)])
+    grouped = paired(FIRST.assign(c2=3), SECOND.assign(c2=3), "delay", by="c2", statistic=statistic).loc[3]
+    assert grouped[["mean", "first", "second"]].tolist() == [found.difference.mean, sum(first) / 2, sum(second) / 2]
+
+
+def test_statistic_of_pairs_is_the_mean_if_none_is_named():
+    assert paired(FIRST, SECOND, "delay").difference == paired(FIRST, SECOND, "delay", statistic="mean").difference
+    assert paired(FIRST, SECOND, "delay").difference.mean == 4  # of 6 and 2
+    one = paired(FIRST, SECOND, "delay", statistic=0.95)
+    first, second = ([numpy.quantile(setting.query("seed == @seed")["delay"], 0.95) for seed in (1, 2)]
+                     for setting in (FIRST, SECOND))
+    assert one.table["first"].tolist() == pytest.approx(first) and one.table["second"].tolist() == pytest.approx(second)
+    assert (one.difference.low, one.difference.high) == pytest.approx(
+        tuple(stats.ttest_rel(second, first).confidence_interval(0.95)))
+
+
+@pytest.mark.parametrize("given, told", [
+    ("Median", "statistic is 'Median' .did you mean 'median'.., and has to be one of mean, median, min"),
+    ("med", "did you mean 'median'"), ("mode", "statistic is 'mode'"), (1.5, "statistic is 1.5, and has to be one of mean"),
+    (-0.1, "a quantile between 0 and 1, or a function"), (math.nan, "statistic is nan"), (True, "statistic is True"),
+    (None, "statistic is None"), (["mean"], "statistic is .'mean'. .did you mean 'mean'")])
+def test_statistics_that_are_refused(given, told):
+    for ask in (lambda: summarise(LOSSES, "delay", by="c2", statistic=["mean", given]),
+                lambda: paired(FIRST, SECOND, "delay", statistic=given)):
+        with pytest.raises(ScenarioError, match=told):
+            ask()
+
+
+def test_words_of_statistics_are_known_to_pandas():
+    found = summarise(LOSSES, "delay", statistic=statistics.WORDS)
+    assert found.index.tolist() == [*statistics.WORDS] and found.loc["median", "mean"] == summarise(
+        LOSSES, "delay", statistic="median")["mean"]
+
+
 @pytest.mark.parametrize("ask", [lambda given: summarise(given, "delay"), lambda given: paired(LOSSES, given, "delay")])
 def test_what_is_no_table(ask):
     with pytest.raises(TypeError, match="a list was given, and has to be a table .a DataFrame. or runs"):
         ask([1, 2])
+    with pytest.raises(TypeError, match=r"a dict was given, .* or runs: take one table, as tables\['losses'\]"):
+        ask({"losses": LOSSES, "links": LOSSES})
 
 
 @pytest.mark.parametrize("words, told", [

@@ -1,7 +1,8 @@
 """Statistics over runs. The replications are the seeds: losses of one run depend on each other, runs do not."""
 import math
-from collections.abc import Callable, Iterable, Sequence
+from collections.abc import Callable, Iterable, Mapping, Sequence
 from dataclasses import dataclass
+from numbers import Real
 from typing import TYPE_CHECKING, Any, Union, overload
 
 import numpy
@@ -18,7 +19,8 @@ RESAMPLES = 9999
 SUMMARY = ["mean", "low", "high", "seeds", "values", "left_out"]
 PAIRED = ["mean", "low", "high", "seeds", "first", "second"]
 VALUE = "(value)"  # a column beside those of a table
-# of the values of one run: a word of pandas' own such as "mean", a quantile from 0 to 1, or a function of a Series
+WORDS = ("mean", "median", "min", "max", "sum", "prod", "std", "var", "sem", "skew", "count", "size", "nunique", "first", "last")
+# of the values of one run: one of these words, which are pandas' own, a quantile from 0 to 1, or a function of a Series
 Statistic = Union[str, float, Callable[[pandas.Series], float]]
 
 
@@ -107,7 +109,8 @@ def table_of(given: "Runs | pandas.DataFrame", expression: str) -> pandas.DataFr
     if isinstance(given, pandas.DataFrame):
         return given
     if not hasattr(given, "holding"):
-        raise TypeError(f"a {type(given).__name__} was given, and has to be a table (a DataFrame) or runs")
+        one = f": take one table, as tables[{next(iter(given))!r}]" if isinstance(given, Mapping) and given else ""
+        raise TypeError(f"a {type(given).__name__} was given, and has to be a table (a DataFrame) or runs{one}")
     return given.holding(expression)
 
 
@@ -123,16 +126,18 @@ def summarise(given: "Runs | pandas.DataFrame", expression: str, by: str | Seque
     `frame.groupby(by).apply(summarise, expression)` has.
     """
     _check(method, level)
+    if isinstance(statistic, Sequence) and not isinstance(statistic, str):
+        several, chosen = True, [_known(one) for one in statistic]
+    else:
+        several, chosen = False, [_known(statistic)]
     frame = table_of(given, expression)
     names = [] if by is None else [by] if isinstance(by, str) or not isinstance(by, Iterable) else list(by)
     _check_columns(frame, ["seed", *names])
     values = frame[list(dict.fromkeys(["seed", *names]))].assign(**{VALUE: evaluated(frame, expression)})
 
     def of(group: pandas.DataFrame) -> pandas.DataFrame | pandas.Series:
-        if isinstance(statistic, Sequence) and not isinstance(statistic, str):
-            return pandas.DataFrame({_name(one): _summary(group, one, method, level) for one in statistic}
-                                    ).T.rename_axis("statistic")
-        return _summary(group, statistic, method, level)
+        rows = {_name(one): _summary(group, one, method, level) for one in chosen}
+        return pandas.DataFrame(rows).T.rename_axis("statistic") if several else rows[_name(chosen[0])]
 
     if by is None:
         found = of(values)
@@ -153,10 +158,25 @@ def _no_column(name: object, frame: pandas.DataFrame) -> ScenarioError:
     return ScenarioError(f"there is no column {name!r}{perhaps(name, frame.columns)}: there are {', '.join(frame.columns)}")
 
 
+def _known(statistic: Any) -> Statistic:
+    """A statistic, which is refused where it is none."""
+    if isinstance(statistic, Real) and not isinstance(statistic, bool) and 0 <= float(statistic) <= 1:
+        return float(statistic)
+    if callable(statistic) or isinstance(statistic, str) and statistic in WORDS:
+        return statistic
+    raise ScenarioError(f"statistic is {statistic!r}{perhaps(statistic, WORDS)}, and has to be one of {', '.join(WORDS)}, "
+                        "a quantile between 0 and 1, or a function")
+
+
+def _of_seeds(values: pandas.Series, seeds: pandas.Series, statistic: Statistic) -> pandas.Series:
+    """A statistic of the values of each seed."""
+    groups = values.groupby(seeds)
+    return groups.quantile(statistic) if isinstance(statistic, float) else groups.agg(statistic)
+
+
 def _summary(group: pandas.DataFrame, statistic: Statistic, method: str, level: float) -> pandas.Series:
     values = group[VALUE]
-    groups = values.groupby(group["seed"])
-    each = groups.quantile(statistic) if isinstance(statistic, float) else groups.agg(statistic)
+    each = _of_seeds(values, group["seed"], statistic)
     one = interval(each, method, level)
     counts = (each.notna().sum(), values.notna().sum(), values.isna().sum())
     return pandas.Series([*vars(one).values(), *counts], SUMMARY, dtype=float)
@@ -166,12 +186,12 @@ def _name(statistic: Statistic) -> str:
     """The name of a statistic's row: q95 is a quantile."""
     if isinstance(statistic, float):
         return f"q{100 * statistic:g}"
-    return statistic if isinstance(statistic, str) else statistic.__name__
+    return str(getattr(statistic, "__name__", statistic))
 
 
 @dataclass(frozen=True)
 class Paired:
-    """The difference of two settings, seed by seed: `table` has both means and their difference for each seed."""
+    """The difference of two settings, seed by seed: `table` has both values and their difference for each seed."""
 
     table: pandas.DataFrame
     difference: Interval
@@ -180,31 +200,34 @@ class Paired:
 
 @overload
 def paired(first: "Runs | pandas.DataFrame", second: "Runs | pandas.DataFrame", expression: str, by: None = None,
-           method: str = "t", level: float = 0.95) -> Paired: ...
+           statistic: Statistic = "mean", method: str = "t", level: float = 0.95) -> Paired: ...
 
 
 @overload
 def paired(first: "Runs | pandas.DataFrame", second: "Runs | pandas.DataFrame", expression: str, by: str | Sequence[str],
-           method: str = "t", level: float = 0.95) -> pandas.DataFrame: ...
+           statistic: Statistic = "mean", method: str = "t", level: float = 0.95) -> pandas.DataFrame: ...
 
 
 @spelled
 def paired(first: "Runs | pandas.DataFrame", second: "Runs | pandas.DataFrame", expression: str,
-           by: str | Sequence[str] | None = None, method: str = "t", level: float = 0.95) -> Paired | pandas.DataFrame:
+           by: str | Sequence[str] | None = None, statistic: Statistic = "mean", method: str = "t",
+           level: float = 0.95) -> Paired | pandas.DataFrame:
     """The second setting less the first, of a column's mean on each seed, with an interval over the seeds.
 
     Each setting is runs, or a table with their seeds; both need the same seeds. An interval without 0 in it tells the
-    two apart. With `by` the answer is a table with a row for each group, which both need to have: its `mean`, `low` and
-    `high` are of the difference, `first` and `second` the means of the settings.
+    two apart. `statistic` stands in place of each seed's mean, as in `summarise`. With `by` the answer is a table with a
+    row for each group, which both need to have: its `mean`, `low` and `high` are of the difference, `first` and `second`
+    the means of the settings over seeds.
     """
+    statistic = _known(statistic)
     one, other = (table_of(given, expression) for given in (first, second))
     if by is None:
-        return _paired(one, other, expression, method, level)
+        return _paired(one, other, expression, statistic, method, level)
     names = [by] if isinstance(by, str) else list(by)
     groups, others = (_groups(frame, names) for frame in (one, other))
     if groups.keys() != others.keys():
         raise ScenarioError(f"a paired comparison by {', '.join(names)} needs the same groups in both settings")
-    rows = {group: _row(_paired(groups[group], others[group], expression, method, level)) for group in groups}
+    rows = {group: _row(_paired(groups[group], others[group], expression, statistic, method, level)) for group in groups}
     index = pandas.MultiIndex.from_tuples(rows, names=names) if len(names) > 1 else pandas.Index(
         [group for group, in rows], name=names[0])
     found = pandas.DataFrame(list(rows.values()), index, PAIRED).astype({"seeds": int})
@@ -225,8 +248,9 @@ def _row(found: Paired) -> list[float]:
     return [*vars(found.difference).values(), found.table["difference"].notna().sum(), means["first"], means["second"]]
 
 
-def _paired(one: pandas.DataFrame, other: pandas.DataFrame, expression: str, method: str, level: float) -> Paired:
-    (first, seeds), (second, others) = (_means(frame, expression) for frame in (one, other))
+def _paired(one: pandas.DataFrame, other: pandas.DataFrame, expression: str, statistic: Statistic, method: str,
+            level: float) -> Paired:
+    (first, seeds), (second, others) = (_side(frame, expression, statistic) for frame in (one, other))
     if seeds != others:
         raise ScenarioError("a paired comparison needs the same seeds in both settings")
     table = pandas.DataFrame({"first": first, "second": second})
@@ -234,7 +258,8 @@ def _paired(one: pandas.DataFrame, other: pandas.DataFrame, expression: str, met
     return Paired(table, interval(table["difference"], method, level), method)
 
 
-def _means(frame: pandas.DataFrame, expression: str) -> tuple[pandas.Series, set[int]]:
-    """The mean of each seed, and the seeds, also those without a row."""
+def _side(frame: pandas.DataFrame, expression: str, statistic: Statistic) -> tuple[pandas.Series, set[int]]:
+    """A setting's statistic of each seed, and the seeds, also those without a row."""
     _check_columns(frame, ["seed"])
-    return evaluated(frame, expression).groupby(frame["seed"]).mean(), set(frame.attrs.get("seeds", frame["seed"]))
+    each = _of_seeds(evaluated(frame, expression), frame["seed"], statistic)
+    return each, set(frame.attrs.get("seeds", frame["seed"]))
