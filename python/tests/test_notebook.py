@@ -10,6 +10,7 @@ from pathlib import Path
 
 import pandas
 import pytest
+from matplotlib.figure import Figure
 
 import srm_lab
 from srm_lab import ScenarioError, paired, plot, run, scenario, summarise, sweep
@@ -176,9 +177,37 @@ def test_plot_has_a_line_for_each_other_group_beside_the_first():
     assert alone.lines[0].get_ydata().tolist() == [3, 6]
 
 
+@pytest.mark.parametrize("scale", ["linear", "log"])
+@pytest.mark.parametrize("lines, wide", [(2, 1), (5, 1), (5, 4), (12, 1), (12, 4), (40, 2)])
+def test_points_of_all_lines_are_inside_the_limits(scale, lines, wide):
+    table = pandas.concat([TABLE.assign(rate=TABLE["c2"]**9 / 1000, line=number) for number in range(lines)])
+    first, *others = Figure().subplots(1, wide, sharex=True, squeeze=False)[0]
+    first.set_xscale(scale)
+    for axes in (first, *others[1:]):
+        plot(summarise(table, "delay", by=["rate", "line"]), axes=axes).set_xscale(scale)
+    for axes in (first, *others[1:]):
+        low, high = axes.get_xlim()
+        across = [axes.transData.inverted().transform(line.get_transform().transform(line.get_xydata()))[:, 0]
+                  for line in axes.lines]
+        assert len(across) == 3 * lines and all(low < place < high for line in across for place in line)
+        places = {round(float(line[0]), 9) for line in across}
+        assert len(places) == lines and min(places) < 0.001 < max(places)
+
+
+def test_limits_are_of_the_places_and_those_that_were_set_stay():
+    table = pandas.concat([TABLE.assign(rate=TABLE["c2"] / 1000, line=number) for number in range(3)])
+    found = summarise(table, "delay", by=["rate", "line"])
+    axes = plot(found, axes=Figure().subplots())
+    assert axes.dataLim.intervalx.tolist() == [0.001, 0.002] and axes.get_xlim() == pytest.approx((0.00095, 0.00205))
+    given = Figure().subplots()
+    given.set_xlim(0, 1)
+    assert plot(found, axes=given).get_xlim() == (0, 1)
+
+
 @pytest.mark.parametrize("given, words, told", [
     (summarise(TABLE, "delay"), {}, "plot takes the table that summarise or paired gives with `by`"),
     (TABLE, {}, "plot takes the table"),
+    (summarise(TABLE, "delay", by="c2").reset_index(), {}, "gives with `by`, with `by` as its index and columns mean"),
     (summarise(TABLE, "delay", by="c2"), {"x": "c1"}, "x is 'c1', and has to be one of c2"),
 ])
 def test_what_cannot_be_plotted(given, words, told):

@@ -12,7 +12,8 @@ if TYPE_CHECKING:
 
 COLOURS = ("#0072b2", "#d55e00", "#009e73", "#cc79a7", "#e69f00", "#56b4e9", "#000000")
 MARKS = "os^Dv<>"
-APART = 5  # points of the page between the bars of two lines at one place
+APART = 5  # points of the page between the bars of two lines at one place, where there is room
+ROOM = 8  # points of the page beside the outermost points: their marks and caps, and what a layout may take
 NEEDED = ("mean", "low", "high")
 
 
@@ -25,7 +26,8 @@ def plot(summary: pandas.DataFrame, x: str | None = None, axes: "Axes | None" = 
     are those of its `errorbar`.
     """
     if not isinstance(summary, pandas.DataFrame) or not {*NEEDED} <= {*summary.columns} or summary.index.names[0] is None:
-        raise ScenarioError("plot takes the table that summarise or paired gives with `by`, which has mean, low and high")
+        raise ScenarioError("plot takes the table that summarise or paired gives with `by`, with `by` as its index and "
+                            "columns mean, low and high")
     names = list(summary.index.names)
     across = names[0] if x is None else x
     if across not in names:
@@ -36,10 +38,13 @@ def plot(summary: pandas.DataFrame, x: str | None = None, axes: "Axes | None" = 
         axes = pyplot.subplots()[1]
     lines = list(lines_of(summary, across))
     places = places_of(summary.index.get_level_values(across))
+    width = axes.bbox.width * 72 / axes.figure.dpi
+    apart = min(APART, width / (2 * len(lines)))
+    _widen(axes, (apart * (len(lines) - 1) / 2 + ROOM) / width)
     for number, (label, line) in enumerate(lines):
         look = {"color": COLOURS[number % len(COLOURS)], "marker": MARKS[number % len(MARKS)], "markersize": 5, "capsize": 3,
                 "linewidth": 1.2, "label": label}
-        shift = APART * (number - (len(lines) - 1) / 2)
+        shift = apart * (number - (len(lines) - 1) / 2)
         _draw(axes, [places[value] for value in line.index], line, shift, {**look, **words})
     if [*places] != [*places.values()]:
         axes.set_xticks([*places.values()], [str(value) for value in places])
@@ -58,7 +63,15 @@ def _draw(axes: "Axes", places: list[float], line: pandas.DataFrame, shift: floa
     mean, low, high = (line[name].to_numpy(float) for name in NEEDED)
     spread = numpy.nan_to_num(numpy.maximum([mean - low, high - mean], 0))  # a single seed has no interval
     moved = offset_copy(axes.transData, axes.figure, x=shift, units="points")
-    axes.errorbar(places, mean, spread, transform=moved, **words)
+    for part in axes.errorbar(places, mean, spread, **words).get_children():
+        part.set_transform(moved)  # after it was drawn, since the limits are of places, whatever the scale
+
+
+def _widen(axes: "Axes", part: float) -> None:
+    """Keeps free at least this part of the width at either side, of all axes that share the limits."""
+    for one in axes.get_shared_x_axes().get_siblings(axes):
+        free = min(part, 0.4)
+        one.set_xmargin(max(one.margins()[0], free / (1 - 2 * free)))
 
 
 def lines_of(summary: pandas.DataFrame, across: str) -> Iterator[tuple[str | None, pandas.DataFrame]]:
