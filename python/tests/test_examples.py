@@ -14,7 +14,7 @@ MAP = ROOT / "examples/abilene.graphml"
 
 def test_list_of_examples_has_each_of_them():
     listed = re.findall(r"\]\(([\w.-]+)\)", (ROOT / "examples/README.md").read_text())
-    files = [path.name for kind in ("*.toml", "*.graphml") for path in (ROOT / "examples").glob(kind)]
+    files = [path.name for kind in ("*.toml", "*.graphml", "*.ipynb") for path in (ROOT / "examples").glob(kind)]
     assert sorted(listed) == sorted(files)
 
 
