@@ -19,6 +19,13 @@ STAR = 'topology = "star"\nsize = 9\ndelay = 4\n'
 SMALL = 'topology = "chain"\nsize = 9\ndelay = 4\n'
 
 
+def test_elements_with_other_keys_keep_their_places():
+    given = scenario.chain(4).join([2], at=5).leave([1], at=9)
+    wanted = [{"node": 0, "role": "sender", "stream": 1}, {"node": 1, "role": "receiver", "stream": 2, "leave": 9},
+              {"node": 2, "role": "receiver", "stream": 3, "join": 5}, {"node": 3, "role": "receiver", "stream": 4}]
+    assert tomllib.loads(given.text())["member"] == wanted
+
+
 def test_what_each_element_stands_for():
     given = read_scenario(TOP + STAR + """
 member = [

@@ -19,6 +19,7 @@ from second_tables import second
 from srm_lab import RefusedError, ScenarioError, __version__, read_scenario, run, save, scenario
 from srm_lab.follower import Follower
 from srm_lab.frames import COLUMNS, Text, frame_of
+from srm_lab.limits import MOST_SEED, MOST_TIME
 from srm_lab.tables import read_trace
 from srm_lab.traces import table_text
 
@@ -80,6 +81,22 @@ def test_operations_are_read():
     assert frame["asked"].tolist()[2:4] == [12, pandas.NA] and set(map(str, frame.dtypes[2:])) == {"Int64"}
     empty = frame_of("operations", [Text(0, scenario.chain(5), OPERATIONS.splitlines(True)[0])])
     assert len(empty) == 0 and list(empty.columns) == list(frame.columns)
+
+
+def test_the_greatest_numbers_are_read_to_the_last_digit():
+    text = b"seed\n%d,1,0,0,%d,%d,-,-\n" % (MOST_SEED, 2**32 - 1, MOST_TIME - 1)
+    one, = frame_of("losses", [Text(0, scenario.chain(2), text)]).to_dict("records")
+    assert (one["seed"], one["number"], one["detected"]) == (MOST_SEED, 2**32 - 1, MOST_TIME - 1)
+    assert one["recovered"] is one["delay"] is pandas.NA and one["round_trip"] == 2 * 1000 and one["node"] == 1
+
+
+@pytest.mark.filterwarnings("ignore:string or file could not be read:DeprecationWarning")
+@pytest.mark.parametrize("row", [b"0,0,0,0,3,3,0,12,14,1,1,4,x/8", b"0,0,0,0,3,3,0,12,14,1,1,4", b"0,0,0,,3,3,0,12,14,1,1,4,5/8"])
+def test_a_broken_table_is_never_read_in_part(row):
+    header, *rows = OPERATIONS.splitlines()
+    for broken in ([row, *rows], [*rows, row]):
+        with pytest.raises(ValueError):
+            frame_of("operations", [Text(0, scenario.chain(5), b"\n".join([header, *broken, b""]))])
 
 
 def test_losses_have_numbers_and_ends(program):

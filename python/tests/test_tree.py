@@ -169,6 +169,13 @@ def test_networks_that_are_refused(make, told):
         make()
 
 
+def test_ways_from_the_last_roots_are_found_once():
+    made = tree.chain(9, 1)
+    seen = [made.parents(root) for root in range(9)]
+    assert [one[4] for one in seen] == [*[(3, 3)] * 4, None, *[(5, 4)] * 4]
+    assert made.parents(8) is seen[8] and made.parents(0) == seen[0] and made.distances(0)[8] == 8
+
+
 def test_a_tree_by_its_parents_is_seen_from_node_0():
     # 0 - 2 is told from 2, and 3 - 1 hangs below: 1 is the child of 3, and 3 that of 2
     made = tree.Tree(4, (Link(2, 0, 5, 6), Link(3, 1, 7, 8), Link(3, 2, 1, 2)), names=tuple("abcd"),

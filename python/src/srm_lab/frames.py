@@ -71,11 +71,21 @@ def _read(name: str, rows: bytes) -> dict[str, Any]:
     words = [column for column in columns if column in WORDS]
     if "round_trip" in columns:
         rows = rows.replace(b"/", b",").replace(b",-\n", b",-,-\n")
+    if not words:
+        return _numbers(columns, rows)
     read = pandas.read_csv(BytesIO(rows), header=None, names=["seed", *columns], index_col=False, engine="c",
                            dtype=dict.fromkeys(words, str), keep_default_na=False,
                            na_values={column: ["-", ""] for column in columns if column not in words})
     return {"seed": read["seed"].to_numpy("int64"),
             **{column: read[column] if column in words else _whole(read[column]) for column in columns}}
+
+
+def _numbers(columns: Sequence[str], rows: bytes) -> dict[str, Any]:
+    """The columns of a table without words, in which no number is below 0: numpy reads it faster than pandas does."""
+    text = rows.replace(b"-", b"-1").replace(b"\n", b",")
+    seed, *found = numpy.fromstring(text, "int64", sep=",").reshape(rows.count(b"\n"), 1 + len(columns)).T.copy()
+    return {"seed": seed, **{column: pandas.arrays.IntegerArray(numpy.maximum(values, 0), values < 0)
+                             for column, values in zip(columns, found)}}
 
 
 def _whole(column: pandas.Series) -> pandas.arrays.IntegerArray:
@@ -103,7 +113,7 @@ def _looked_up(given: Sequence[Scenario], values: Sequence[Sequence[Any]], scena
     is_named = any(one.tree.names for one in given)
     flat = numpy.array([one for several in values for one in several], dtype=object if is_named else int)
     found = flat[starts[scenarios] + places.to_numpy(int)] if len(places) else flat[:0]
-    return found if is_named else pandas.array(found, "Int64")
+    return found if is_named else pandas.arrays.IntegerArray(found, numpy.zeros(len(found), bool))
 
 
 def joined(frames: Iterable[Frames]) -> Frames:

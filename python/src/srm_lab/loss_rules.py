@@ -103,20 +103,21 @@ class Rounds:
     page: int = 0
 
     def added_to(self, given: "Scenario") -> "Scenario":
-        made = replace(given, draws=(*given.draws, *self._draws(given)))
-        return with_outages(made, self.link, self._ticks(given))
+        draws = self._draws(given)
+        return with_outages(replace(given, draws=(*given.draws, *draws)), self.link, self._ticks(given, draws[::2]))
 
     def check(self, given: "Scenario") -> None:
         check_link(given, self.link, self.sender)
-        check_outages(given, self.link, self._ticks(given), self._draws(given)[::2])
+        lost = self._draws(given)[::2]
+        check_outages(given, self.link, self._ticks(given, lost), lost)
 
     def _draws(self, given: "Scenario") -> list[Draw]:
         every = given.recovery() if self.every is None else self.every
         return [Draw(self.sender, self.page, number, number * every) for number in range(2 * self.count)]
 
-    def _ticks(self, given: "Scenario") -> list[int]:
+    def _ticks(self, given: "Scenario", lost: Iterable[Draw]) -> list[int]:
         way = arrival(given.tree, given.members[self.sender].node, self.link)
-        return [draw.at + way for draw in self._draws(given)[::2]]
+        return [draw.at + way for draw in lost]
 
 
 def settled(given: "Scenario", rules: Iterable[Rule]) -> "Scenario":
@@ -151,9 +152,10 @@ def check_outages(given: "Scenario", link: int, ticks: Iterable[int], lost: Iter
     """
     taken = sorted({*ticks})
     _check_others(given, link, {*taken}, lost)
-    begins = first_request(given)
-    for before, at in pairwise(taken):
-        if begins is not None and at >= begins and at - before < APART:
+    close = [(before, at) for before, at in pairwise(taken) if at - before < APART]
+    begins = first_request(given) if close else None
+    for before, at in close:
+        if begins is not None and at >= begins:
             raise ScenarioError(
                 f"link {link} is out at tick {before} and again at {at}, and from tick {begins} on requests and repairs may "
                 f"be lost there besides: let lost operations be at least {APART} ticks apart, if need be by longer delays, "

@@ -3,6 +3,7 @@ import random
 from bisect import bisect_left
 from collections import Counter
 from collections.abc import Callable, Iterable
+from operator import attrgetter
 from typing import TYPE_CHECKING
 
 from .errors import ScenarioError
@@ -90,9 +91,12 @@ def losers(tree: Tree, source: int, nodes: Iterable[int], link: int) -> list[int
 
 def drawn(given: "Scenario", sender: int) -> list[Draw]:
     """The draws that a sender sends, in order: once a page is full it sends no more of that page's."""
+    draws = sorted([draw for draw in given.draws if draw.member == sender], key=attrgetter("at"))
+    if len(draws) <= MOST_NUMBERS:
+        return draws
     numbers: Counter[int] = Counter()
     found = []
-    for draw in sorted((draw for draw in given.draws if draw.member == sender), key=lambda draw: draw.at):
+    for draw in draws:
         numbers[draw.page] += 1
         if numbers[draw.page] <= MOST_NUMBERS:
             found.append(draw)
@@ -128,15 +132,15 @@ def least_behind(tree: Tree, source: int, costs: dict[int, int]) -> dict[int, in
     return found
 
 
-def shortest(given: "Scenario", constant: str, trip: int) -> int:
-    """The shortest timer of a constant, of a round trip."""
-    return max(1, given.least(constant) * (trip // 2) // 1000)
+def shortest(least: int, trip: int) -> int:
+    """The shortest timer of a constant's least value, of a round trip."""
+    return max(1, least * (trip // 2) // 1000)
 
 
 def times_to_ask(given: "Scenario", source: int) -> dict[int, int]:
     """For each member's node the least time from its finding a loss of the source to its request."""
-    trips = given.tree.round_trips(source)
-    return {one.node: shortest(given, "c1", trips[one.node]) for one in given.members if one.node != source}
+    trips, least = given.tree.round_trips(source), given.least("c1")
+    return {one.node: shortest(least, trips[one.node]) for one in given.members if one.node != source}
 
 
 def times_to_answer(given: "Scenario", source: int, sender: int) -> dict[int, int]:
@@ -144,9 +148,9 @@ def times_to_answer(given: "Scenario", source: int, sender: int) -> dict[int, in
 
     Its shortest request timer, the request's way, and the sender's shortest repair timer; or the sender's own request.
     """
-    to_sender, from_sender = given.tree.round_trips(sender), given.tree.distances(sender)
-    return {node: time if node == sender else time + to_sender[node] - from_sender[node] + shortest(
-        given, "d1", to_sender[node]) for node, time in times_to_ask(given, source).items()}
+    to_sender, from_sender, least = given.tree.round_trips(sender), given.tree.distances(sender), given.least("d1")
+    return {node: time if node == sender else time + to_sender[node] - from_sender[node] + shortest(least, to_sender[node])
+            for node, time in times_to_ask(given, source).items()}
 
 
 def first_request(given: "Scenario") -> int | None:

@@ -14,6 +14,7 @@ from collections.abc import Collection, Iterable
 from dataclasses import dataclass, field, replace
 from decimal import Decimal
 from functools import cached_property
+from operator import attrgetter
 from pathlib import Path
 from typing import TYPE_CHECKING, Any
 
@@ -30,6 +31,7 @@ from .tree import Tree
 
 # a session's links, and its source's draws: they are over before the first loss is asked for
 DELAY, DRAWS, EVERY = 1000, 100, 1
+AT = attrgetter("at")
 Ticks = int | tuple[int, int]
 Members = int | str | Iterable[Any]  # how many, `all`, or the nodes' names or numbers
 
@@ -98,17 +100,14 @@ class Scenario:
 
     def _room(self) -> int:
         """An end that leaves time for 64 rounds of asking and repairing after the last thing that is to happen."""
-        last = max([*(draw.at for draw in self.draws), *(session.at for session in self.sessions),
-                    *(member.join for member in self.members)], default=0)
+        last = max([*map(AT, self.draws), *map(AT, self.sessions), *map(attrgetter("join"), self.members)], default=0)
         return min(MOST_TIME, last + self.recovery())
 
     def recovery(self) -> int:
         """Time for 64 rounds of asking and repairing, of members that are as far from each other as any are."""
-        nodes = [member.node for member in self.members] or [0]
-        first = self.tree.round_trips(nodes[0])
-        far = max(nodes, key=first.__getitem__)
-        trips = self.tree.round_trips(far)
-        farthest = max(trips[node] for node in nodes)
+        nodes = [*map(attrgetter("node"), self.members)] or [0]
+        far = max(nodes, key=self.tree.round_trips(nodes[0]).__getitem__)
+        farthest = max(map(self.tree.round_trips(far).__getitem__, nodes))
         constants = sum(self.greatest(name) for name in CONSTANTS)
         return farthest + 64 * (2 + constants // 1000 + 1) * max(1, farthest) + 1
 
@@ -225,6 +224,10 @@ class Scenario:
 
     def digest(self) -> str:
         """The SHA-256 of the scenario file, but for `comments`: what tells scenarios apart."""
+        return self._digest
+
+    @cached_property
+    def _digest(self) -> str:
         return hashlib.sha256(self.plain_text).hexdigest()
 
     @cached_property

@@ -11,7 +11,7 @@ from .errors import ScenarioError, verbs_spelled
 from .limits import MOST_DELAY, MOST_NODES, VERSIONS, are_within, within
 from .link import Link
 
-# roots whose distances a tree keeps
+# roots whose ways and distances a tree keeps
 MOST_ROOTS = 4
 
 
@@ -102,7 +102,10 @@ class Tree:
         return self._near
 
     def parents(self, root: int) -> dict[int, tuple[int, int] | None]:
-        """For each node that the root reaches its (parent, link), breadth first; the root's is None."""
+        """For each node that the root reaches its (parent, link), breadth first; the root's is None. It is not changed."""
+        return self._of_root("parents", root, lambda: self._reached(root))
+
+    def _reached(self, root: int) -> dict[int, tuple[int, int] | None]:
         found: dict[int, tuple[int, int] | None] = {root: None}
         order = [root]
         for node in order:
@@ -128,19 +131,27 @@ class Tree:
         return self._sums("round trips", root, lambda node, link: link.delay + link.back)
 
     def _sums(self, what: str, root: int, ticks: Callable[[int, Link], int]) -> dict[int, int]:
-        """For each node the sum of the ticks of each link from the root to it; the last roots' sums are kept."""
-        kept = self._kept.setdefault(what, {})
-        if root not in kept:
+        """For each node the sum of the ticks of each link from the root to it."""
+        def summed() -> dict[int, int]:
             sums: dict[int, int] = {}
             for node, near in self.parents(root).items():
                 sums[node] = 0 if near is None else sums[near[0]] + ticks(near[0], self.links[near[1]])
+            return sums
+
+        return self._of_root(what, root, summed)
+
+    def _of_root(self, what: str, root: int, make: Callable[[], dict[int, Any]]) -> dict[int, Any]:
+        """What is made of a root, once: that of the last roots is kept."""
+        kept = self._kept.setdefault(what, {})
+        if root not in kept:
+            made = make()
             if len(kept) == MOST_ROOTS:
                 del kept[next(iter(kept))]
-            kept[root] = sums
+            kept[root] = made
         return kept[root]
 
     @cached_property
-    def _kept(self) -> dict[str, dict[int, dict[int, int]]]:
+    def _kept(self) -> dict[str, dict[int, dict[int, Any]]]:
         return {}
 
     def with_delay(self, delay: int) -> "Tree":

@@ -2,12 +2,13 @@
 import json
 from collections.abc import Callable, Collection
 from functools import cache
+from itertools import chain, groupby
 from typing import TYPE_CHECKING, Any
 
 from .errors import ScenarioError
 from .form import PARTS
 from .limits import NEWEST
-from .parts import CONSTANTS, LIMITS, RandomLoss
+from .parts import CONSTANTS, LIMITS, Member, RandomLoss
 from .repetition import APART, folded
 
 if TYPE_CHECKING:
@@ -43,21 +44,26 @@ def keys_of(given: "Scenario", wanted: Collection[str] = PARTS) -> dict[str, Any
         "link": lambda: [] if given.tree.shorthand else [
             {"a": a, "b": b, "delay": delay, **({} if back == delay else {"back": back})}
             for a, b, delay, back in given.tree.links],
-        "member": lambda: [_member(dict(vars(member))) for member in given.members],
+        "member": lambda: [*map(_member, given.members)],
         "draw": lambda: [dict(vars(draw)) for draw in given.draws],
         "session": lambda: [dict(vars(session)) for session in given.sessions],
         "drop": lambda: [dict(vars(drop)) for drop in given.drops],
         "outage": lambda: [{"link": one.link, "from": one.first, "to": one.end} for one in given.outages],
-        "loss": lambda: [_loss(one) for one in given.random_losses],
+        "loss": lambda: [*map(_loss, given.random_losses)],
     }
     return top | {name: elements for name in PARTS if name in wanted and (elements := parts[name]())}
 
 
-def _member(keys: dict[str, Any]) -> dict[str, Any]:
+def _member(one: Member) -> dict[str, Any]:
     """A member's keys, without those that have their defaults."""
-    if keys["pages"] is not None:
-        keys["pages"] = list(keys["pages"])
-    return {key: value for key, value in keys.items() if value is not None and (key, value) != ("join", 0)}
+    keys: dict[str, Any] = {"node": one.node, "role": one.role, "stream": one.stream}
+    if one.join:
+        keys["join"] = one.join
+    if one.leave is not None:
+        keys["leave"] = one.leave
+    if one.pages is not None:
+        keys["pages"] = list(one.pages)
+    return keys
 
 
 def _loss(one: RandomLoss) -> dict[str, Any]:
@@ -90,9 +96,14 @@ def _toml(table: dict[str, Any]) -> str:
                            for key, value in table.items() if isinstance(value, list))
 
 
+_KEYS: Callable[[dict[str, Any]], tuple[str, ...]] = tuple  # of an element
+
+
 def _elements(several: list[dict[str, Any]]) -> str:
-    """The elements of an array, in lines."""
-    return "\n" + "".join([_element_form(tuple(one)) % tuple(one.values()) for one in several])
+    """The elements of an array, in lines: those with the same keys at once."""
+    alike = [(keys, list(ones)) for keys, ones in groupby(several, _KEYS)]
+    return "\n" + "".join([_element_form(keys) * len(ones) % tuple(chain.from_iterable(map(dict.values, ones)))
+                           for keys, ones in alike])
 
 
 @cache
