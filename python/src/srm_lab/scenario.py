@@ -104,7 +104,7 @@ class Scenario:
         return min(MOST_TIME, last + self.recovery())
 
     def recovery(self) -> int:
-        """Time for 64 rounds of asking and repairing, of members that are as far from each other as any are."""
+        """Time for 64 rounds of asking and repairing by timers as they now stand, of members as far apart as any are."""
         nodes = [*map(attrgetter("node"), self.members)] or [0]
         far = max(nodes, key=self.tree.round_trips(nodes[0]).__getitem__)
         farthest = max(map(self.tree.round_trips(far).__getitem__, nodes))
