@@ -23,10 +23,10 @@ use Rattle.srm_scenario.specs.declared.session.Session.{Session}
 use Rattle.srm_engine.specs.Starts.{setting_on}
 use Rattle.srm_engine.specs.Engines.{MayRefuseStep, HasCounted, traffic_in}
 use Rattle.srm_engine.specs.Faults.{step_refused}
-use Rattle.srm_interfaces.specs.Sinks.{most_rows, stage_after}
+use Rattle.srm_interfaces.specs.Sinks.{most_rows, stage_after, stops_in}
 use Rattle.srm_engine.specs.Outcomes.{MayRefuseRun}
 use Rattle.srm_engine.specs.Streams.{sink_in, stream_fault_of, run_fault_in, stopped_in, MayStop, MeetsRefusal, TakesTraceFront}
-use Rattle.srm_engine.specs.Streams.{TellsHalt, MayLackSteps}
+use Rattle.srm_engine.specs.Streams.{StandsAs, TellsHalt, MayLackSteps}
 use Rattle.srm_engine.specs.RowRuns.{UndoneAfter}
 use Rattle.srm_engine.proofs.Opened.{totals_are}
 use Rattle.srm_engine.proofs.Stepping.{meets_full}
@@ -35,6 +35,22 @@ use Rattle.srm_engine.proofs.Stepping.{meets_full}
 pub told_why : (A : Type 0) (n : ℕ) (x : StreamFault) → n ≡ n + stopped_in {A = A} (Err x) → IsSome (run_fault_in x)
 told_why A n (Run e) h = refl
 told_why A n (Stopped k) h = absurd (omega arith)
+
+-- how a sink stands once steps were halted is what is told of it
+pub halt_stands : (A B : Type 0) (x : Halt StepFault) (at : Stage) → at ≡ stage_after (sink_in {A = B} (Err x))
+    → StandsAs {A = A} (Err (stream_fault_of step_refused x)) at
+halt_stands A B (halt.Run step_fault.NoMemory) at e = tt
+halt_stands A B (halt.Run step_fault.CountFull) at e = e
+halt_stands A B (halt.Sink sink.NoMemory) at e = tt
+halt_stands A B (halt.Sink (sink.Stopped n)) at e = e
+
+-- so are the failures of its device
+pub halt_stops : (A B : Type 0) (x : Halt StepFault)
+    → stops_in (sink_in {A = B} (Err x)) ≡ stopped_in {A = A} (Err (stream_fault_of step_refused x))
+halt_stops A B (halt.Run step_fault.NoMemory) = refl
+halt_stops A B (halt.Run step_fault.CountFull) = refl
+halt_stops A B (halt.Sink sink.NoMemory) = refl
+halt_stops A B (halt.Sink (sink.Stopped n)) = refl
 
 -- rows that a list in memory has after few others are few enough to be counted
 pub countable : (before rows all : List Row) → all ≡ before ++ rows → length before ≤ 2 ^ 62 → length rows < 2 ^ 63

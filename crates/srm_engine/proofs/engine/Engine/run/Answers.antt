@@ -1,4 +1,4 @@
-use Rattle.std.proofs.Common.{List, sym, subst, ap}
+use Rattle.std.proofs.Common.{◌∙◌, ◌+◌, List, sym, subst, ap}
 use Rattle.srm_member.specs.declared.row.Row.{Row}
 use Rattle.srm_cell.specs.Setting.{Setting}
 use Rattle.srm_model.specs.World.{opening, IsReached, IsLast}
@@ -9,7 +9,7 @@ use Rattle.srm_engine.specs.RowRuns.{UndoneAfter}
 use Rattle.srm_interfaces.specs.Sinks.{most_rows}
 use Rattle.srm_engine.specs.Streams.{MayLackSteps, MayStop, MeetsRefusal, stream_fault_of}
 use Rattle.srm_engine.proofs.Stepping.{opening_reached, opening_trace}
-use Rattle.srm_engine.proofs.StreamLemmas.{halted_front, halts_refuse, steps_undone, uncalled}
+use Rattle.srm_engine.proofs.StreamLemmas.{halt_stands, halt_stops, halted_front, halts_refuse, steps_undone, uncalled}
 use Rattle.srm_engine.proofs.engine.Engine.run.Goals as goal
 
 pub returns-in-Err-clause-last : goal.returns-in-Err-clause-last
@@ -25,6 +25,17 @@ pub returns-in-Err-clause-undone : goal.returns-in-Err-clause-undone
 returns-in-Err-clause-undone g c = λ seed h.
     let s = setting_on c.args.session seed in
     uncalled g.S.RowSink.took g.S.RowSink.part g.S.RowSink.stage (MayLackSteps s) s c.args.sink.now _
+
+pub returns-in-Err-stream-clause-stands : goal.returns-in-Err-stream-clause-stands
+returns-in-Err-stream-clause-stands g c =
+    rw c.into-in-Err-stream.ensures
+    (halt_stands (Unit {0}) (Unit {0}) c.in-Err-stream.halt (g.S.RowSink.stage c.stream.new.sink) c.in-Err-stream.ensures.stage)
+
+pub returns-in-Err-stream-clause-failures : goal.returns-in-Err-stream-clause-failures
+returns-in-Err-stream-clause-failures g c =
+    rw c.into-in-Err-stream.ensures
+    (c.in-Err-stream.ensures.failures
+    ∙ ap (λ n. g.S.RowSink.failures c.args.sink.now + n) (halt_stops (Unit {0}) (Unit {0}) c.in-Err-stream.halt))
 
 pub returns-in-Err-stream-clause-last : goal.returns-in-Err-stream-clause-last
 returns-in-Err-stream-clause-last g c = λ seed h.
