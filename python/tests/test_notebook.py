@@ -7,6 +7,7 @@ import subprocess
 import sys
 import xml.etree.ElementTree as xml
 from pathlib import Path
+from typing import Any
 
 import pandas
 import pytest
@@ -48,6 +49,7 @@ def test_scenario_is_shown_with_its_tree_and_its_losses():
     given = scenario.star(5).drop(2, [0, 3]).outage(1, 80, 99).lose(rate=0.01).lose(rate=0.5, link=3, stream=1, first=7)
     found = xml.fromstring(given._repr_html_())
     picture, table = found.find(f"{SVG}svg"), found.find("table")
+    assert picture is not None and table is not None
     assert len(picture.findall(f".//{SVG}line")) == 4 + 1  # the links, and one in the legend
     titles = [one.text for one in picture.iter(f"{SVG}title")]
     assert "link 1: 1,000 ticks" in titles and "member 3, receiver, on node 4" in titles and "node 0" in titles
@@ -145,10 +147,10 @@ def test_scenarios_that_are_the_same_for_all_seeds_are_one(program, tmp_path):
 
 def test_networks_that_were_asked_for_are_kept_and_others_are_made():
     assert scenario.star(9) is scenario.star(9) and scenario.star(9) is not scenario.star(9, seed=1)
-    with pytest.raises(ScenarioError, match="size is 9.0"):
-        scenario.star(9.0)
-    with pytest.raises(ScenarioError, match="size is .9"):
-        scenario.star([9])
+    wrong: Any
+    for wrong, told in ((9.0, "size is 9.0"), ([9], "size is .9")):
+        with pytest.raises(ScenarioError, match=told):
+            scenario.star(wrong)
     first = scenario.chain(1000)
     for delay in range(1, 101):
         scenario.chain(1000, delay=delay)

@@ -92,7 +92,7 @@ def test_man_page_names_each_key_and_tells_ranges_of_the_rules_alone(rules):
     told = re.findall(r"(\d+) to ([\d^]+)(?:, from version 3 on to (\d+))?", page)
     assert len(told) >= 6
     for low, high, later in told:
-        for most in filter(None, (high, later)):
+        for most in [one for one in (high, later) if one]:
             number = 2 ** int(most.partition("^")[2]) if "^" in most else int(most)
             assert (int(low), number) in ranges, (low, most)
 
