@@ -14,7 +14,7 @@ use Rattle.srm_net.specs.Paths.{is_in, host, delay_of, end_of, member_route, is_
 use Rattle.srm_net.specs.Paths.{crossed_on, dropped_on, reaches, crosses, drops_at}
 use Rattle.srm_net.specs.DropRules.{DropRules, is_out, some_ends_after, may_drop}
 use Rattle.srm_net.specs.Listed.{is_listed_somewhere}
-use Rattle.srm_net.specs.Losses.{is_before_end, takes, is_lost, some_goes_on_after, loss_word, words_taking}
+use Rattle.srm_net.specs.Losses.{is_before_end, takes, is_lost, some_goes_on_after, deciding, loss_word, words_taking}
 use Rattle.srm_net.specs.Tables.{some_beyond}
 use Rattle.srm_net.specs.Fates.{is_on_way}
 use Rattle.srm_net.specs.Laws.{UnlistedReachesAll, UnlistedCrossesItsWays, UnlistedIsNowhereDropped}
@@ -53,7 +53,8 @@ none_lost [] seed p sent l t h k = refl
 none_lost (o ∷ os) seed p sent l t h k =
     let q = or_parts (is_before_end o.to sent) (some_goes_on_after os sent) h in
     or_from ((o.link == l) && takes seed p t o) (is_lost os seed p l t)
-    (idle (o.link == l) (nat_le o.from t) (is_before_end o.to t) (nat_lt (loss_word seed o.stream o.link p) (words_taking o.rate))
+    (idle (o.link == l) (nat_le o.from t) (is_before_end o.to t)
+    (nat_lt (loss_word seed o.stream o.link (deciding o.burst p t)) (words_taking o.rate))
     (ended o.to sent t q.0 k))
     (none_lost os seed p sent l t q.1 k)
 

@@ -1,5 +1,5 @@
 -- Small networks, packets and outages.
-use Rattle.std.specs.Prelude.{ℕ, [], ◌∷◌, Option}
+use Rattle.std.specs.Prelude.{ℕ, [], ◌∷◌, Option, None}
 use Rattle.srm_net.specs.Network.{Network}
 use Rattle.srm_net.specs.DropRules.{DropRules}
 use Rattle.srm_net.specs.declared.link.LinkSpec.{LinkSpec}
@@ -57,7 +57,7 @@ abbrev pub loss_of_link_1 : ℕ → ℕ → Option ℕ → DropRules
 loss_of_link_1 rate from to = record {
   listed = [];
   outages = [];
-  losses = record { link = 1; rate = rate; stream = 54; from = from; to = to } ∷ [];
+  losses = record { link = 1; rate = rate; stream = 54; from = from; to = to; burst = None } ∷ [];
   seed = 42;
 }
 

@@ -1,6 +1,6 @@
 -- What holds of every network, and of the orders.
 use Rattle.std.specs.Prelude.{◌≡◌, ◌≢◌, ◌↔◌, ℕ, ◌+◌, ◌/◌, ◌<◌, ◌≤◌, true, false, not, All, Contains, List, [], ◌∷◌}
-use Rattle.std.specs.Prelude.{◌++◌, length, Option, Some, None}
+use Rattle.std.specs.Prelude.{◌++◌, length, Option, Some, None, ◌&&◌, nat_lt}
 use Rattle.std.specs.List.{list_any}
 use Rattle.std.specs.declared.cmp.Ordering.{Ordering}
 use Rattle.std.specs.declared.cmp.Ordering.TheVariants.{Equal}
@@ -16,6 +16,7 @@ use Rattle.srm_net.specs.Paths.{route, member_route, distance, round, hops, drop
 use Rattle.srm_net.specs.Paths.{drops_at}
 use Rattle.srm_net.specs.Paths.{Stop, stop, takes_out}
 use Rattle.srm_net.specs.DropRules.{DropRules, is_out, may_drop, with_seed}
+use Rattle.srm_net.specs.Losses.{is_on, takes, loss_word, words_taking}
 use Rattle.srm_net.specs.Fates.{is_on_way, joins_members}
 use Rattle.srm_net.specs.Spreads.{PlainSpread, IsSpread, is_everywhere}
 use Rattle.srm_net.specs.Least.{least_delay, out}
@@ -183,22 +184,42 @@ with_more outages losses rules = record {
   seed = rules.seed;
 }
 
--- a loss of a link with a rate of 1,000,000, from a tick on up to below another
-abbrev pub sure_loss : ℕ → ℕ → ℕ → Option ℕ → LossSpec
-sure_loss l stream from to = record { link = l; rate = 1000000; stream = stream; from = from; to = to }
+-- a loss of a link with a rate of 1,000,000, from a tick on up to below another, with slots or without
+abbrev pub sure_loss : ℕ → ℕ → ℕ → Option ℕ → Option ℕ → LossSpec
+sure_loss l stream from to burst = record {
+  link = l;
+  rate = 1000000;
+  stream = stream;
+  from = from;
+  to = to;
+  burst = burst;
+}
 
 -- it is an outage: the drop of every packet that comes to its link then
 abbrev pub SureLossIsOutage : Type 0
 SureLossIsOutage =
-    (rules : DropRules) (l stream from to : ℕ) (p : PacketId) (s : Stop)
-    → takes_out (with_more [] (sure_loss l stream from (Some to) ∷ []) rules) p s
+    (rules : DropRules) (l stream from to : ℕ) (burst : Option ℕ) (p : PacketId) (s : Stop)
+    → takes_out (with_more [] (sure_loss l stream from (Some to) burst ∷ []) rules) p s
     ≡ takes_out (with_more (record { link = l; from = from; to = to } ∷ []) [] rules) p s
 
 -- one that is on from the start and does not end is the drop of every packet at its link
 abbrev pub SureLossDropsAll : Type 0
 SureLossDropsAll =
-    (rules : DropRules) (l stream : ℕ) (p : PacketId) (t : ℕ)
-    → takes_out (with_more [] (sure_loss l stream 0 None ∷ []) rules) p (stop l t) ≡ true
+    (rules : DropRules) (l stream : ℕ) (burst : Option ℕ) (p : PacketId) (t : ℕ)
+    → takes_out (with_more [] (sure_loss l stream 0 None burst ∷ []) rules) p (stop l t) ≡ true
+
+-- in one slot of a loss, while it is on, packets have one fate, whosever they are
+abbrev pub SlotsHaveOneFate : Type 0
+SlotsHaveOneFate =
+    (o : LossSpec) (burst : ℕ) → o.burst ≡ Some burst → (t u : ℕ) → t / burst ≡ u / burst
+    → is_on o t ≡ true → is_on o u ≡ true
+    → (seed : ℕ) (p q : PacketId) → takes seed p t o ≡ takes seed q u o
+
+-- without slots it is the packet's own word that decides
+abbrev pub PacketsHaveTheirOwn : Type 0
+PacketsHaveTheirOwn =
+    (o : LossSpec) → o.burst ≡ None → (seed t : ℕ) (p : PacketId)
+    → takes seed p t o ≡ (is_on o t && nat_lt (loss_word seed o.stream o.link p) (words_taking o.rate))
 
 -- without losses the seed decides nothing
 abbrev pub SeedDecidesLossesAlone : Type 0

@@ -6,7 +6,7 @@ use Rattle.srm_net.specs.Losses.{is_before_end, some_goes_on_after}
 
 -- in place of a loss that is not there
 abbrev pub no_loss : LossSpec
-no_loss = record { link = 0; rate = 0; stream = 0; from = 0; to = None }
+no_loss = record { link = 0; rate = 0; stream = 0; from = 0; to = None; burst = None }
 
 -- the loss at a place of the list
 abbrev pub loss_at : List LossSpec → ℕ → LossSpec

@@ -11,13 +11,13 @@ ghost use Rattle.srm_net.specs.Paths.{distance, round, hops, reaches, crosses, d
 ghost use Rattle.srm_net.specs.Least.{least_delay, out};
 ghost use Rattle.srm_net.specs.Examples.{tree_of_eight, uneven_chain, lone_node};
 ghost use Rattle.srm_net.specs.Examples.{slow_chain, turned_chain, outage_of_link_1, loss_of_link_1, packet_of_member_0};
-ghost use Rattle.srm_net.specs.Losses.{loss_word};
+ghost use Rattle.srm_net.specs.Losses.{deciding, loss_word};
 ghost use Rattle.srm_net.specs.Laws.{OnePath, TreesHaveOnePath, DistancesFit, AlikeBothWays, RoundsTurn, LeastDelayFits, NoLinkNoTwo, OutFits, OutOfTheOnlyOne};
 ghost use Rattle.srm_net.specs.Laws.{HopsTurn, HopsMeetTheTriangle, HopsFit};
 ghost use Rattle.srm_net.specs.Laws.{ReachesItsSender, UnlistedReachesAll, UnlistedCrossesItsWays, UnlistedIsNowhereDropped};
 ghost use Rattle.srm_net.specs.Laws.{WaysTakeTheSameLinks, EverywhereCrossesTheSame, EverywhereIsNowhereDropped};
 ghost use Rattle.srm_net.specs.Laws.{ListedAloneReaches, ListedAloneAtAnyTime};
-ghost use Rattle.srm_net.specs.Laws.{SureLossIsOutage, SureLossDropsAll, SeedDecidesLossesAlone, OthersDecideNothing};
+ghost use Rattle.srm_net.specs.Laws.{SureLossIsOutage, SureLossDropsAll, SlotsHaveOneFate, PacketsHaveTheirOwn, SeedDecidesLossesAlone, OthersDecideNothing};
 ghost use Rattle.srm_net.specs.Laws.{SameDropsListed, SameOutagesOut, OneListOfDrops, OrdersTotally};
 
 /// In a tree the route between two nodes is a path, and there is no other.
@@ -100,6 +100,13 @@ pub fn sure_losses_drop_all()
     ensures all { SureLossDropsAll }
 {}
 
+/// With `burst` a loss takes, while it is on, every packet that comes to its link in one slot, or none of them; without, each packet by
+/// its own word.
+pub fn losses_come_in_bursts()
+    ensures slots { SlotsHaveOneFate }
+    ensures packets { PacketsHaveTheirOwn }
+{}
+
 /// Without losses the seed decides nothing of what is dropped; and what becomes of a packet does not hang on drops of other packets.
 pub fn losses_are_of_one_packet()
     ensures seed { SeedDecidesLossesAlone }
@@ -107,13 +114,16 @@ pub fn losses_are_of_one_packet()
 {}
 
 /// Some of the words by which links lose packets, in the order of seed, stream, link, sender and count: of one packet, of the next one of
-/// its sender, of a sender and a link that are exchanged, of another seed and of another stream.
+/// its sender, of a sender and a link that are exchanged, of another seed and of another stream; and those of slots of 40 ticks at the last
+/// tick of one and the first of the next.
 pub fn loss_words()
     ensures first { loss_word 42 54 1 (packet_of_member_0 0) ≡ 0x9a19b87a }
     ensures next { loss_word 42 54 1 (packet_of_member_0 1) ≡ 0xfe9d6646 }
     ensures exchanged { loss_word 42 54 0 (record { sender = 1; count = 0 }) ≡ 0x64b802ed }
     ensures other_seed { loss_word 43 54 1 (packet_of_member_0 0) ≡ 0xfedae83a }
     ensures other_stream { loss_word 42 55 1 (packet_of_member_0 0) ≡ 0xb8a51c5c }
+    ensures last_of_slot { loss_word 0 1 1 (deciding (Some 40) (packet_of_member_0 5) 79) ≡ 0x0f7bf471 }
+    ensures next_slot { loss_word 0 1 1 (deciding (Some 40) (packet_of_member_0 6) 80) ≡ 0x5edac5a1 }
 {}
 
 /// A set of drops is one list in rising order, and what it lists depends on its entries alone, as the ticks at which links are out depend

@@ -1,6 +1,7 @@
 //! Links of a network, the packets that they are to drop, their outages, and their losses.
 ghost use Rattle.std.specs.Prelude.{◌≡◌};
 
+use crate::limits::MOST_NODES;
 use crate::packet::PacketId;
 use crate::word::loss_word;
 
@@ -72,7 +73,8 @@ pub struct OutageSpec {
 /// A span of time in which a link loses packets at random, from the tick `from` on: each that comes to it, whatever it carries, with
 /// the chance `rate`. A word of the seed, the stream, the link and the packet decides
 /// ([`loss_words`](crate::laws::loss_words)), and nothing else: so two losses of one link and one stream do not take packets
-/// independently of each other, and the greater rate decides there.
+/// independently of each other, and the greater rate decides there. With `burst` it is a word of the slot of time in which the packet
+/// comes, in place of the packet: so a slot loses all or nothing ([`losses_come_in_bursts`](crate::laws::losses_come_in_bursts)).
 #[derive(Clone, Copy, Debug, PartialEq, Eq, Hash)]
 pub struct LossSpec {
     /// The link's number.
@@ -85,10 +87,12 @@ pub struct LossSpec {
     pub from: u64,
     /// The tick after its last, in a scenario file 1 to 2^40, or none where it does not end.
     pub to: Option<u64>,
+    /// How many ticks a slot has, from tick 0 on, or none where each packet has its own word. With 0 there is one slot.
+    pub burst: Option<u64>,
 }
 
 impl LossSpec {
-    ghost use Rattle.srm_net.specs.Losses.{is_before_end, takes, words_taking};
+    ghost use Rattle.srm_net.specs.Losses.{deciding, is_before_end, takes, words_taking};
 
     /// Whether it takes a packet that comes to its link at the tick `at`, by the words of a seed. Where it is not on then, no word is
     /// drawn.
@@ -97,7 +101,20 @@ impl LossSpec {
     {
         self.from <= at
             && self.ends_after(at)
-            && loss_word(seed, self.stream, self.link, id) < self.words_taking()
+            && loss_word(seed, self.stream, self.link, self.deciding(id, at)) < self.words_taking()
+    }
+
+    /// Whose word decides of a packet that comes to the link at the tick `at`.
+    fn deciding(&self, id: PacketId, at: u64) -> PacketId
+        ensures { result ≡ deciding self.now.burst id at }
+    {
+        match self.burst {
+            None => id,
+            Some(burst) => PacketId {
+                sender: MOST_NODES,
+                count: at.checked_div(burst).unwrap_or(0),
+            },
+        }
     }
 
     /// Whether it goes on after a tick.

@@ -21,6 +21,7 @@ const fn loss(link: u16, rate: u32, stream: u64) -> LossSpec {
         stream,
         from: 0,
         to: None,
+        burst: None,
     }
 }
 
@@ -32,6 +33,7 @@ const fn loss_of_all(link: u16, from: u64, to: Option<u64>) -> LossSpec {
         stream: 0,
         from,
         to,
+        burst: None,
     }
 }
 
@@ -116,6 +118,29 @@ fn what_the_word_depends_on(rt: HostRuntime) {
         let drops = Drops::of(rt.alloc(), &[], &[], &[loss(1, 601_955, stream)], seed);
         let told = takes_out(drops, id, 0);
         assert_eq!(rt; told, Some(want), "seed {seed}, stream {stream}, {id:?}");
+    }
+}
+
+// Of slots 0 to 4 of 40 ticks, slot 1 alone has a word that a rate of a tenth takes, for seed 0 and stream 1 at link 1.
+#[test]
+fn slots_of_a_loss(rt: HostRuntime) {
+    let slots = LossSpec {
+        burst: Some(40),
+        ..loss(1, 100_000, 1)
+    };
+    for id in [packet(0, 0), packet(1, 0), packet(2, 7)] {
+        for (at, want) in [
+            (0, false),
+            (39, false),
+            (40, true),
+            (50, true),
+            (79, true),
+            (80, false),
+            (199, false),
+        ] {
+            let drops = Drops::of(rt.alloc(), &[], &[], &[slots], 0);
+            assert_eq!(rt; takes_out(drops, id, at), Some(want), "{id:?} at {at}");
+        }
     }
 }
 

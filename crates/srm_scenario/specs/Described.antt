@@ -130,6 +130,7 @@ loss_of ms = record {
   stream = number (codes "stream") ms;
   from = number (codes "from") ms;
   to = optional_number (codes "to") ms;
+  burst = None;
 }
 
 -- ---- repetition
@@ -181,6 +182,7 @@ loss_copy k every o = record {
   stream = o.stream;
   from = o.from;
   to = o.to;
+  burst = o.burst;
 }
 
 -- what the elements at a key stand for, one after the other

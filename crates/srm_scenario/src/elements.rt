@@ -99,6 +99,7 @@ fn loss_of(version: Version, table: &Table) -> Option<LossSpec>
         stream: number(table, Key::Stream),
         from: number(table, Key::From),
         to: optional_number(table, Key::To),
+        burst: None,
     })
 }
 
@@ -284,6 +285,7 @@ impl Repeated for LossSpec {
             stream: self.stream,
             from: self.from,
             to: self.to,
+            burst: self.burst,
         }))
     }
 }

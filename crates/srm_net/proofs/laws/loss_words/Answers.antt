@@ -21,3 +21,11 @@ returns-clause-other_seed c = refl
 pub returns-clause-other_stream : goal.returns-clause-other_stream
 unfolding mix loss_word
 returns-clause-other_stream c = refl
+
+pub returns-clause-last_of_slot : goal.returns-clause-last_of_slot
+unfolding mix loss_word
+returns-clause-last_of_slot c = refl
+
+pub returns-clause-next_slot : goal.returns-clause-next_slot
+unfolding mix loss_word
+returns-clause-next_slot c = refl
