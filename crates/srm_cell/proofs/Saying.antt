@@ -1,9 +1,9 @@
 -- What a member's answer makes of an event.
 use Rattle.std.proofs.Common.{arith}
-use Rattle.std.proofs.Common.{◌≡◌, ℕ, ◌+◌, ◌<◌, ◌≤◌, true, false, cond, Option, Some, None, Ok, Err, refl, sym, ap, ◌∙◌, subst}
-use Rattle.std.proofs.Common.{nat_lt, lt-ltb, le-ltb}
+use Rattle.std.proofs.Common.{◌≡◌, ℕ, ◌+◌, cond, Option, Some, None, Ok, Err, refl, sym, ap, ◌∙◌, subst, lt-ltb, le-ltb}
 use Rattle.srm_net.specs.declared.key.Key.{Key}
 use Rattle.srm_net.specs.declared.packet.Body.{Body}
+use Rattle.srm_net.specs.declared.packet.Packet.{Packet}
 use Rattle.srm_member.specs.declared.cause.Cause.{Cause}
 use Rattle.srm_member.specs.declared.react.React.{React}
 use Rattle.srm_member.specs.declared.exit.Exit.{Exit}
@@ -12,8 +12,9 @@ use Rattle.srm_member.specs.Record.{Record, Active, Gone}
 use Rattle.srm_member.specs.React.{Reaction}
 use Rattle.srm_member.specs.Reacts.{Reacts, Finishes}
 use Rattle.srm_cell.specs.Cells.{PlainCell, Event, Full, Spent, Done, handle, sending_step, row_of, packet_of, parting, known_of}
-use Rattle.srm_cell.specs.Views.{HasWork, known_in}
-use Rattle.srm_net.specs.Limits.{most_sent}
+use Rattle.srm_cell.specs.declared.fault.CellFault.{CellFault}
+use Rattle.srm_cell.specs.InnerSteps.{Packs}
+use Rattle.srm_cell.specs.Views.{HasWork, Refuses, known_in}
 
 -- a member that is gone has no answer
 gone_has_none : (e : Event) (c : Option Cause) → handle e None c ≡ Spent
@@ -102,43 +103,40 @@ module _ {B : Type 0} (f : B → Record) (o : Option B) where
       unfolding handle
       answered r s a h y q = grind arith
 
-      -- and sends nothing
-      pub said_nothing : (s : Record) (a : React) → Reacts (f b) key.time cause (Ok a) s → a.body ≡ None
-          → handle asked (known_in f o) (Some cause)
-          ≡ Done (record { cell = record rest { holds = known_of s }; row = row_of asked a None })
-      said_nothing s a h none =
-          let k = answered (f b) s a h None none in
-          ap (λ x. handle asked x (Some cause)) box ∙ k.3
-          ∙ (λ i. Done (record { cell = record rest { holds = sym k.2 i }; row = row_of asked (k.1 i) None }))
+      -- and sends a packet, or none
+      sends : (x : Reaction) (y : Option Body) (p : Option Packet) (n : ℕ) → Packs key y rest.sent (Ok p) n
+          → sending_step asked x y
+          ≡ Done (record { cell = record rest { holds = Some x.state; sent = n }; row = row_of asked x.answer p })
+      sends x None p n q =
+          λ i. Done (record { cell = record rest { holds = Some x.state; sent = sym q.1 i }; row = row_of asked x.answer (sym q.0 i) })
+      sends x (Some body) p n q =
+          ap (λ t. cond t (Done (record {
+            cell = record rest { holds = Some x.state; sent = rest.sent + 1 };
+            row = row_of asked x.answer (Some (packet_of asked body));
+          })) Full) (lt-ltb _ _ q.0)
+          ∙ (λ i. Done (record { cell = record rest { holds = Some x.state; sent = sym q.1 i }; row = row_of asked x.answer (sym q.2 i) }))
 
-      -- and sends a packet
-      pub said : (s : Record) (a : React) (body : Body) → Reacts (f b) key.time cause (Ok a) s → a.body ≡ Some body
-          → rest.sent < most_sent → handle asked (known_in f o) (Some cause)
-          ≡ Done (record {
-            cell = record rest { holds = known_of s; sent = rest.sent + 1 };
-            row = row_of asked a (Some (packet_of asked body));
-          })
-      said s a body h some lt =
-          let k = answered (f b) s a h (Some body) some in
-          let yes : nat_lt rest.sent most_sent ≡ true = lt-ltb _ _ lt in
-          ap (λ x. handle asked x (Some cause)) box ∙ k.3
-          ∙ ap (λ t. cond t (Done (record {
-            cell = record rest { holds = Some k.0.state; sent = rest.sent + 1 };
-            row = row_of asked k.0.answer (Some (packet_of asked body));
-          })) Full) yes
-          ∙ (λ i. Done (record {
-            cell = record rest { holds = sym k.2 i; sent = rest.sent + 1 };
-            row = row_of asked (k.1 i) (Some (packet_of asked body));
-          }))
+      pub said : (s : Record) (a : React) (y : Option Body) (p : Option Packet) (n : ℕ) → Reacts (f b) key.time cause (Ok a) s
+          → a.body ≡ y → Packs key y rest.sent (Ok p) n → handle asked (known_in f o) (Some cause)
+          ≡ Done (record { cell = record rest { holds = known_of s; sent = n }; row = row_of asked a p })
+      said s a y p n h is q =
+          let k = answered (f b) s a h y is in
+          ap (λ x. handle asked x (Some cause)) box ∙ k.3 ∙ sends k.0 y p n q
+          ∙ (λ i. Done (record { cell = record rest { holds = sym k.2 i; sent = n }; row = row_of asked (k.1 i) p }))
 
       -- where the count is used up there is no packet
-      pub not_said : (s : Record) (a : React) (body : Body) → Reacts (f b) key.time cause (Ok a) s → a.body ≡ Some body
-          → most_sent ≤ rest.sent → handle asked (known_in f o) (Some cause) ≡ Full
-      not_said s a body h some le =
-          let k = answered (f b) s a h (Some body) some in
-          let no : nat_lt rest.sent most_sent ≡ false = le-ltb _ _ le in
-          ap (λ x. handle asked x (Some cause)) box ∙ k.3
-          ∙ ap (λ t. cond t (Done (record {
-            cell = record rest { holds = Some k.0.state; sent = rest.sent + 1 };
-            row = row_of asked k.0.answer (Some (packet_of asked body));
-          })) Full) no
+      cannot_send : (x : Reaction) (y : Option Body) (e : CellFault) (n : ℕ) → Packs key y rest.sent (Err e) n
+          → Refuses (sending_step asked x y) e
+      cannot_send x None e n q = absurd q
+      cannot_send x (Some body) e n q =
+          subst (Refuses (sending_step asked x (Some body))) (sym q.1)
+          (ap (λ t. cond t (Done (record {
+            cell = record rest { holds = Some x.state; sent = rest.sent + 1 };
+            row = row_of asked x.answer (Some (packet_of asked body));
+          })) Full) (le-ltb _ _ q.0))
+
+      pub not_said : (s : Record) (a : React) (y : Option Body) (e : CellFault) (n : ℕ) → Reacts (f b) key.time cause (Ok a) s
+          → a.body ≡ y → Packs key y rest.sent (Err e) n → Refuses (handle asked (known_in f o) (Some cause)) e
+      not_said s a y e n h is q =
+          let k = answered (f b) s a h y is in
+          subst (λ z. Refuses z e) (sym (ap (λ x. handle asked x (Some cause)) box ∙ k.3)) (cannot_send k.0 y e n q)

@@ -1,16 +1,29 @@
 -- What the parts of a step tell, whatever the cell keeps as its next event.
-use Rattle.std.specs.Prelude.{◌≡◌, ℕ, Option, Some, Result, Ok, Err}
+use Rattle.std.specs.Prelude.{◌≡◌, ◌<◌, ◌≤◌, ◌+◌, ℕ, Option, Some, None, Result, Ok, Err}
 use Rattle.srm_net.specs.declared.key.Key.{Key}
+use Rattle.srm_net.specs.declared.packet.Body.{Body}
+use Rattle.srm_net.specs.declared.packet.Packet.{Packet}
+use Rattle.srm_net.specs.Limits.{most_sent}
 use Rattle.srm_member.specs.declared.cause.Cause.{Cause}
 use Rattle.srm_member.specs.declared.row.Row.{Row}
 use Rattle.srm_member.specs.Record.{Record}
 use Rattle.srm_cell.specs.declared.cell.Cell.{Cell}
 use Rattle.srm_cell.specs.declared.fault.CellFault.{CellFault}
+use Rattle.srm_cell.specs.declared.fault.CellFault.TheVariants as fault
 use Rattle.srm_cell.specs.declared.pending.Source.{Source}
 use Rattle.srm_cell.specs.declared.pending.Pending.{Pending}
 use Rattle.srm_cell.specs.Cells.{PlainCell, Event, StepOutcome, Done, Stepped, handle}
 use Rattle.srm_cell.specs.Pending.{Stands, first_of}
 use Rattle.srm_cell.specs.Views.{plain_cell, known_in, NoneOnceLeft, Refuses}
+
+-- of an answer's body at an event with this key, and of the member's packet count: the packet, if there is a body, and
+-- the count after it. There is none where the count is used up
+abbrev pub Packs : Key → Option Body → ℕ → Result (Option Packet) CellFault → ℕ → Type 0
+Packs key None n (Ok p) m = (p ≡ None) × (m ≡ n)
+Packs key None n (Err e) m = ⊥
+Packs key (Some body) n (Ok p) m = (n < most_sent) × (m ≡ n + 1)
+    × (p ≡ Some (record { id = record { sender = key.member; count = n }; sent = key.time; body = body }))
+Packs key (Some body) n (Err e) m = (most_sent ≤ n) × (e ≡ fault.CountFull)
 
 module _ {M : Type 0} where
   -- this stands for the event that is meant

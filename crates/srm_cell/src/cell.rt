@@ -17,7 +17,7 @@ use crate::boxes::{finish, react};
 use crate::fault::CellFault;
 use crate::inbox::Inbox;
 use crate::pending::{Pending, Source};
-use crate::rows::{about, cause_at, expiry, word};
+use crate::rows::{about, cause_at, expiry, packet, word};
 use crate::script::Script;
 use crate::sent::Sent;
 use srm_member::adapted::Adapted;
@@ -27,19 +27,16 @@ use srm_member::exit::Exit;
 use srm_member::fault::MemberFault;
 use srm_member::member::Member;
 use srm_member::participant::Participant;
-use srm_member::react::React;
+use srm_member::rare::Rare;
 use srm_member::row::{About, Row, Word};
 use srm_member::told::Told;
 use srm_net::key::Key;
 use srm_net::net::Net;
-use srm_net::packet::{Packet, PacketId};
+use srm_net::packet::Packet;
 use srm_net::sequence::Sequence;
 use srm_scenario::mark::Mark;
 use srm_scenario::scenario::Scenario;
 use std::alloc::{AllocError, Global};
-
-// A member sends at most this many packets.
-const COUNT_LIMIT: u64 = 281_474_976_710_656;
 
 /// A member's cell: its box, the packets on their way to it, the rest of its script, its packet count, once it left what it ended
 /// with, and which of all that is pending is next.
@@ -253,7 +250,7 @@ impl<M: Participant> Cell<M> {
         }
     }
 
-    // The member reacts to a cause. After an error the cell holds no box.
+    // The member reacts to a cause. Where it has no answer the cell holds no box then.
     fn say(
         &mut self,
         alloc: Global,
@@ -272,49 +269,35 @@ impl<M: Participant> Cell<M> {
             Err(MemberFault::NoMemory) => return Err(CellFault::NoMemory),
             Err(MemberFault::Spent) => return Err(CellFault::Spent),
         };
-        let React {
-            told,
-            lost,
-            body,
-            adapted,
-        } = reaction;
-        let Ok(adapted) = Adapted::of(alloc, adapted) else {
-            return Err(CellFault::NoMemory);
-        };
-        let cause_word = word(&cause);
-        let subject = about(cause, &body);
         self.member = Some(member);
-        let Some(body) = body else {
+        let (told, rare) = reaction.into_parts();
+        let cause_word = word(&cause);
+        let Some(rare) = rare else {
             let row = Row {
                 key,
                 cause: cause_word,
-                about: subject,
+                about: about(cause, &None),
                 told,
-                lost,
+                lost: Sequence::new(alloc),
                 sent: None,
-                adapted,
+                adapted: Adapted::nothing(),
             };
             return put(rows, row);
         };
-        if self.sent >= COUNT_LIMIT {
-            return Err(CellFault::CountFull);
-        }
-        let id = PacketId {
-            sender: key.member,
-            count: self.sent,
-        };
-        self.sent += 1;
+        let Rare {
+            lost,
+            body,
+            adapted,
+        } = Box::into_inner(rare);
+        let subject = about(cause, &body);
+        let sent = packet(&mut self.sent, key, body)?;
         let row = Row {
             key,
             cause: cause_word,
             about: subject,
             told,
             lost,
-            sent: Some(Packet {
-                id,
-                sent: key.time,
-                body,
-            }),
+            sent,
             adapted,
         };
         put(rows, row)

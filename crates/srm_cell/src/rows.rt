@@ -1,14 +1,20 @@
 //! What a row tells of its event.
 ghost use Rattle.std.specs.Prelude.{◌≡◌, Some, Option};
 ghost use Rattle.srm_cell.specs.Cells.{word_of, about_of, cause_of_timer};
+ghost use Rattle.srm_cell.specs.InnerSteps.{Packs};
 ghost use Rattle.srm_cell.specs.Setting.{cause_of_mark};
 
+use crate::fault::CellFault;
 use srm_member::cause::Cause;
 use srm_member::due::Due;
 use srm_member::row::{About, Word};
-use srm_net::packet::Body;
+use srm_net::key::Key;
+use srm_net::packet::{Body, Packet, PacketId};
 use srm_net::rank::Rank;
 use srm_scenario::mark::Mark;
+
+// A member sends at most this many packets.
+const COUNT_LIMIT: u64 = 281_474_976_710_656;
 
 // The kind of an event that has a cause.
 pub(crate) fn word(cause: &Cause) -> Word
@@ -42,6 +48,32 @@ pub(crate) fn about(cause: Cause, body: &Option<Body>) -> About
         },
         Cause::Join | Cause::Report => About::Nothing,
     }
+}
+
+// The member's packet with this body, if there is one: it then counts as sent.
+pub(crate) fn packet(
+    sent: &mut u64,
+    key: Key,
+    body: Option<Body>,
+) -> Result<Option<Packet>, CellFault>
+    ensures { Packs key body sent.old result sent.new }
+{
+    let Some(body) = body else {
+        return Ok(None);
+    };
+    if *sent >= COUNT_LIMIT {
+        return Err(CellFault::CountFull);
+    }
+    let id = PacketId {
+        sender: key.member,
+        count: *sent,
+    };
+    *sent += 1;
+    Ok(Some(Packet {
+        id,
+        sent: key.time,
+        body,
+    }))
 }
 
 // What a mark is to a member; at its leave nothing.

@@ -11,6 +11,7 @@ use srm_member::cause::Cause;
 use srm_member::due::Due;
 use srm_member::exit::Exit;
 use srm_member::fault::MemberFault;
+use srm_member::gone::begin;
 use srm_member::member::Member;
 use srm_member::react::React;
 use srm_member::told::Told;
@@ -236,21 +237,14 @@ impl Member for Reporter {
     }
 
     fn react(&mut self, alloc: Global, _at: u64, cause: &Cause) -> Result<React, MemberFault> {
-        if self.gone {
-            return Err(MemberFault::Spent);
-        }
-        if let Cause::Report = cause {
-            return Ok(React {
-                told: Told::Sent,
-                lost: Sequence::new(alloc),
-                body: Some(Body::Session {
-                    heard: Sequence::new(alloc),
-                }),
-                adapted: None,
-            });
-        }
-        self.gone = true;
-        Err(MemberFault::NoMemory)
+        begin(&mut self.gone)?;
+        let Cause::Report = cause else {
+            return Err(MemberFault::NoMemory);
+        };
+        let heard = Sequence::new(alloc);
+        let react = React::sent(alloc, Body::Session { heard })?;
+        self.gone = false;
+        Ok(react)
     }
 
     fn finish(&mut self, alloc: Global) -> Result<Exit, MemberFault> {

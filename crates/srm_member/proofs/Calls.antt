@@ -1,8 +1,6 @@
 -- Calls of an active member.
 use Rattle.std.proofs.Common.{arith}
-use Rattle.std.proofs.Common.{◌≡◌, ℕ, Bool, false, [], None, Some, Ok}
-use Rattle.srm_member.specs.declared.cause.Cause.TheVariants.{Join}
-use Rattle.srm_member.specs.declared.told.Told.TheVariants.{Entered}
+use Rattle.std.proofs.Common.{◌≡◌, ℕ, Bool, false, Ok}
 use Rattle.srm_member.specs.declared.cause.Cause.{Cause}
 use Rattle.srm_member.specs.declared.intervals.Intervals.{Intervals}
 use Rattle.srm_member.specs.declared.react.React.{React}
@@ -26,12 +24,3 @@ pub call_gives : (r : Record) (gone : Bool) (m m2 : MemberState) (at : ℕ) (cau
     → Gives a m2 (react_active m at cause)
     → before ≡ intervals_of m → b ≡ with_adapted (adapted_since before (intervals_of m2)) a → Reacts r at cause (Ok b) (Active m2)
 call_gives r gone m m2 at cause a b before view on role since g were is = grind (arith, call_tells)
-
--- what a member answers as it joins
-abbrev pub joining : Intervals → React
-joining i = record { told = Entered; lost = []; body = None; adapted = Some i }
-
--- a join changes nothing
-pub join_gives : (r : Record) (gone : Bool) (m : MemberState) (at : ℕ) (i : Intervals) → record_of gone m ≡ r → gone ≡ false
-    → is_listener m.fixed.role ≡ false → i ≡ intervals_of m → Reacts r at Join (Ok (joining i)) r
-join_gives r gone m at i view on role is = grind (arith, call_tells)

@@ -1,4 +1,5 @@
 pub mod Adapted
+pub mod Answers
 pub mod Timers
 pub mod Record
 pub mod React

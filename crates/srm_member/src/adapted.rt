@@ -1,11 +1,12 @@
-//! What a row tells of a member's intervals.
-ghost use Rattle.std.specs.Prelude.{◌≡◌, ◌≢◌, None, MatchResult};
+//! What is told of a member's intervals.
+ghost use Rattle.std.specs.Prelude.{◌≡◌, ◌≢◌, ◌↔◌, None, IsTrue, MatchResult};
+ghost use Rattle.srm_member.specs.React.{adapted_since};
 
 use crate::intervals::Intervals;
 use std::alloc::{AllocError, Global};
 use std::marker::Model;
 
-/// The intervals of a row's member after the row's event, where the row tells of them, which contracts see as an option.
+/// The intervals of a member after an event, where its answer and its row tell of them, which contracts see as an option.
 ///
 /// They are in a box: few rows have them, and each row has the room.
 #[derive(Debug, Drop)]
@@ -24,14 +25,14 @@ impl Model for Adapted {
 }
 
 impl Adapted {
-    /// A row that tells nothing of intervals. It does not allocate.
+    /// Nothing is told of intervals. It does not allocate.
     pub fn nothing() -> Self
         ensures { result ≡ None }
     {
         Adapted { intervals: None }
     }
 
-    /// What a row tells of intervals. Where that is nothing it does not allocate.
+    /// What is told of intervals. Where that is nothing it does not allocate.
     ///
     /// # Errors
     /// [`AllocError`], only where there are intervals.
@@ -47,7 +48,33 @@ impl Adapted {
         })
     }
 
-    /// The intervals, if the row tells of them. It does not allocate.
+    // What an event tells of intervals, before which they were others: them, where one of the four constants is another. Where all
+    // are the same, as most are, it does not allocate.
+    #[inline]
+    pub(crate) fn since(
+        alloc: Global,
+        before: Intervals,
+        after: Intervals,
+    ) -> Result<Self, AllocError>
+        ensures { MatchResult result (λ a. a ≡ adapted_since before after) (λ _. adapted_since before after ≢ None) }
+    {
+        let same = after.request.has_constants_of(before.request)
+            && after.repair.has_constants_of(before.repair);
+        if same {
+            return Ok(Adapted::nothing());
+        }
+        Adapted::of(alloc, Some(after))
+    }
+
+    // Whether nothing is told of intervals.
+    #[inline]
+    pub(crate) fn is_nothing(&self) -> bool
+        ensures { IsTrue result ↔ (self.now ≡ None) }
+    {
+        self.intervals.is_none()
+    }
+
+    /// The intervals, if they are told. It does not allocate.
     pub fn get(&self) -> Option<Intervals>
         ensures { result ≡ self.now }
     {

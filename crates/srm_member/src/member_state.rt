@@ -12,6 +12,7 @@ ghost use Rattle.srm_net.specs.Roles.{is_late};
 ghost use Rattle.srm_member.specs.React.{distance_to, length_in, with_next_word, request_length, repair_length, with_request_delay, back_off, begins_at, meet, with_progress, lose_one, lose_from, with_losses_begun, lose_below, names_from, lost_below, with_mending_seen, hear_data, base, with_rest, is_at_rest, after_repair_delay, with_repair_seen, hear_repair, with_repairs_begun, with_repair_timer, hear_request_of_missing, hear_request_of_held, hear_request, after_entry, lost_by_entry, hear_session, hear_body, with_request_first, expire_request, with_repair_first, expire_repair, own_progress, draw_operation, session_of, send_body, intervals_of, adapted_since, with_adapted};
 ghost use Rattle.srm_member.specs.Fit.{IsBounded, Acts, Gives};
 
+use crate::adapted::Adapted;
 use crate::due::Due;
 use crate::entries::{Missing, Repairing};
 use crate::exit::Exit;
@@ -19,7 +20,6 @@ use crate::fixed::Fixed;
 use crate::held::Held;
 use crate::interval::Interval;
 use crate::intervals::Intervals;
-use crate::outcome::Outcome;
 use crate::pages::Pages;
 use crate::pending::Pending;
 use crate::progress::Progress;
@@ -324,7 +324,7 @@ impl MemberState {
         name: Name,
         ink: u32,
         repaired: bool,
-    ) -> Result<Outcome, AllocError>
+    ) -> Result<React, AllocError>
         requires { at < end_of_time }
         ensures { Acts self.old (hear_data at name ink repaired self.old) result self.new }
     {
@@ -332,20 +332,20 @@ impl MemberState {
         let number = u64::from(name.number);
         let progress = self.meet(page, number);
         if number < progress.floor() {
-            return Ok(Outcome::quiet(Told::Skip, Sequence::new(alloc)));
+            return Ok(React::quiet(Told::Skip));
         }
         if number == progress.next() {
             // in turn, as most are: nothing is lost
             self.progress
                 .put(page, Progress::new(progress.floor(), number + 1))?;
             self.held.put(name, ink)?;
-            return Ok(Outcome::quiet(Told::Fresh, Sequence::new(alloc)));
+            return Ok(React::quiet(Told::Fresh));
         }
         if number > progress.next() {
             let mut lost = Sequence::new(alloc);
             self.lose_below(at, page, number, number + 1, progress, &mut lost)?;
             self.held.put(name, ink)?;
-            return Ok(Outcome::quiet(Told::Fresh, lost));
+            return React::losing(alloc, Told::Fresh, lost);
         }
         if let Some(missing) = self.pending.missing(name) {
             if repaired {
@@ -353,9 +353,9 @@ impl MemberState {
             }
             self.held.put(name, ink)?;
             self.pending.forget_missing(name);
-            return Ok(Outcome::quiet(Told::Fixed, Sequence::new(alloc)));
+            return Ok(React::quiet(Told::Fixed));
         }
-        Ok(Outcome::quiet(Told::Again, Sequence::new(alloc)))
+        Ok(React::quiet(Told::Again))
     }
 
     // The distance on which a name's rest is based, in ticks: that to its source; at the source itself that to whoever set the
@@ -424,7 +424,7 @@ impl MemberState {
         name: Name,
         ink: u32,
         who: u16,
-    ) -> Result<Outcome, AllocError>
+    ) -> Result<React, AllocError>
         requires { at < end_of_time }
         ensures { Acts self.old (hear_repair at name ink who self.old) result self.new }
     {
@@ -464,45 +464,40 @@ impl MemberState {
     // A request for a name that is missing.
     fn hear_request_of_missing(
         &mut self,
+        alloc: Global,
         at: u64,
         name: Name,
         lost: Sequence<Name>,
-    ) -> Result<Outcome, AllocError>
+    ) -> Result<React, AllocError>
         requires { at < end_of_time }
         ensures { Acts self.old (hear_request_of_missing at name lost self.old) result self.new }
     {
         match self.pending.missing(name) {
-            None => Ok(Outcome::quiet(Told::Hold, lost)),
+            None => React::losing(alloc, Told::Hold, lost),
             Some(missing) => {
                 if at < missing.ignore {
                     self.request_interval.hear_duplicate();
-                    return Ok(Outcome::quiet(Told::Hold, lost));
+                    return React::losing(alloc, Told::Hold, lost);
                 }
                 self.back_off(at, name, missing)?;
-                Ok(Outcome::quiet(Told::Back, lost))
+                React::losing(alloc, Told::Back, lost)
             }
         }
     }
 
     // A request for a name that is held, by this member.
-    fn hear_request_of_held(
-        &mut self,
-        alloc: Global,
-        at: u64,
-        name: Name,
-        who: u16,
-    ) -> Result<Outcome, AllocError>
+    fn hear_request_of_held(&mut self, at: u64, name: Name, who: u16) -> Result<React, AllocError>
         requires { at < end_of_time }
         ensures { Acts self.old (hear_request_of_held at name who self.old) result self.new }
     {
         if self.is_at_rest(at, name) {
-            return Ok(Outcome::quiet(Told::Rest, Sequence::new(alloc)));
+            return Ok(React::quiet(Told::Rest));
         }
         if self.pending.repair(name).is_some() {
-            return Ok(Outcome::quiet(Told::Busy, Sequence::new(alloc)));
+            return Ok(React::quiet(Told::Busy));
         }
         self.plan(at, name, who)?;
-        Ok(Outcome::quiet(Told::Plan, Sequence::new(alloc)))
+        Ok(React::quiet(Told::Plan))
     }
 
     // A request for a name, by this member.
@@ -513,7 +508,7 @@ impl MemberState {
         at: u64,
         name: Name,
         who: u16,
-    ) -> Result<Outcome, AllocError>
+    ) -> Result<React, AllocError>
         requires { at < end_of_time }
         ensures { Acts self.old (hear_request at name who self.old) result self.new }
     {
@@ -521,16 +516,16 @@ impl MemberState {
         let number = u64::from(name.number);
         let progress = self.follow(page, number + 1)?;
         if number < progress.floor() {
-            return Ok(Outcome::quiet(Told::Skip, Sequence::new(alloc)));
+            return Ok(React::quiet(Told::Skip));
         }
         if self.held.get(name).is_some() {
-            return self.hear_request_of_held(alloc, at, name, who);
+            return self.hear_request_of_held(at, name, who);
         }
         let mut lost = Sequence::new(alloc);
         if number >= progress.next() {
             self.lose_below(at, page, number + 1, number + 1, progress, &mut lost)?;
         }
-        self.hear_request_of_missing(at, name, lost)
+        self.hear_request_of_missing(alloc, at, name, lost)
     }
 
     // Takes in an entry of a session message, and lists the names that are lost by it.
@@ -561,12 +556,7 @@ impl MemberState {
     }
 
     // Takes in a session message.
-    fn hear_session(
-        &mut self,
-        alloc: Global,
-        at: u64,
-        heard: &[Heard],
-    ) -> Result<Outcome, AllocError>
+    fn hear_session(&mut self, alloc: Global, at: u64, heard: &[Heard]) -> Result<React, AllocError>
         requires { at < end_of_time }
         ensures { Acts self.old (hear_session at heard.now self.old []) result self.new }
     {
@@ -574,11 +564,11 @@ impl MemberState {
         for entry in heard {
             self.after_entry(at, *entry, &mut lost)?;
         }
-        Ok(Outcome::quiet(Told::Heard, lost))
+        React::losing(alloc, Told::Heard, lost)
     }
 
     /// Takes in a packet.
-    pub fn hear(&mut self, alloc: Global, at: u64, packet: &Packet) -> Result<Outcome, AllocError>
+    pub fn hear(&mut self, alloc: Global, at: u64, packet: &Packet) -> Result<React, AllocError>
         requires { at < end_of_time }
         ensures { Acts self.old (hear_body at packet.now.id.sender packet.now.body self.old) result self.new }
     {
@@ -602,16 +592,16 @@ impl MemberState {
 
     /// The request timer of a name expires: the member asks for the name, and backs off.
     #[tactic(auto, unfolding(crate::specs::React::expire_request))]
-    pub fn ask(&mut self, alloc: Global, at: u64, name: Name) -> Result<Outcome, AllocError>
+    pub fn ask(&mut self, alloc: Global, at: u64, name: Name) -> Result<React, AllocError>
         requires { at < end_of_time }
         ensures { Acts self.old (expire_request at name self.old) result self.new }
     {
         match self.pending.missing(name) {
-            None => Ok(Outcome::quiet(Told::Skip, Sequence::new(alloc))),
+            None => Ok(React::quiet(Told::Skip)),
             Some(missing) => {
                 self.ask_first(missing);
                 self.back_off(at, name, missing)?;
-                Ok(Outcome::sent(alloc, Body::Request { name }))
+                React::sent(alloc, Body::Request { name })
             }
         }
     }
@@ -627,18 +617,18 @@ impl MemberState {
 
     /// The repair timer of a name expires: the member sends what it holds.
     #[tactic(auto, unfolding(crate::specs::React::expire_repair))]
-    pub fn answer(&mut self, alloc: Global, at: u64, name: Name) -> Result<Outcome, AllocError>
+    pub fn answer(&mut self, alloc: Global, at: u64, name: Name) -> Result<React, AllocError>
         requires { at < end_of_time }
         ensures { Acts self.old (expire_repair at name self.old) result self.new }
     {
         match self.pending.repair(name) {
-            None => Ok(Outcome::quiet(Told::Skip, Sequence::new(alloc))),
+            None => Ok(React::quiet(Told::Skip)),
             Some(repair) => {
                 self.answer_first(at, repair);
                 let ink = self.held.get(name).unwrap_or(0);
                 let own = self.fixed.member;
                 self.rest(at, name, own)?;
-                Ok(Outcome::sent(alloc, Body::Repair { name, ink }))
+                React::sent(alloc, Body::Repair { name, ink })
             }
         }
     }
@@ -655,7 +645,7 @@ impl MemberState {
 
     /// A sender draws, up to 4,096 (`MOST_DRAWN`) operations on a page.
     #[tactic(auto, unfolding(crate::specs::React::draw_operation))]
-    pub fn draw_op(&mut self, alloc: Global, page: u16, ink: u32) -> Result<Outcome, AllocError>
+    pub fn draw_op(&mut self, alloc: Global, page: u16, ink: u32) -> Result<React, AllocError>
         ensures { Acts self.old (draw_operation page ink self.old) result self.new }
     {
         let source = self.fixed.member;
@@ -663,7 +653,7 @@ impl MemberState {
         let progress = self.own_progress(place);
         let next = progress.next();
         if !matches!(self.fixed.role, Role::Sender) || next >= MOST_DRAWN {
-            return Ok(Outcome::quiet(Told::Skip, Sequence::new(alloc)));
+            return Ok(React::quiet(Told::Skip));
         }
         let name = Name {
             source,
@@ -673,15 +663,15 @@ impl MemberState {
         self.progress
             .put(place, Progress::new(progress.floor(), next + 1))?;
         self.held.put(name, ink)?;
-        Ok(Outcome::sent(alloc, Body::Drawop { name, ink }))
+        React::sent(alloc, Body::Drawop { name, ink })
     }
 
     /// The session message that tells of every page that the member follows.
-    pub fn report(&self, alloc: Global) -> Result<Outcome, AllocError>
+    pub fn report(&self, alloc: Global) -> Result<React, AllocError>
         ensures { IfOk result (λ a. Gives a self.now (send_body self.now (session_of self.now))) }
     {
         let heard = self.progress.heard(alloc)?;
-        Ok(Outcome::sent(alloc, Body::Session { heard }))
+        React::sent(alloc, Body::Session { heard })
     }
 
     /// Both intervals.
@@ -694,12 +684,13 @@ impl MemberState {
         }
     }
 
-    /// The answer to an event that is no join: its outcome, with what it tells of the intervals, which were these before the event.
+    /// The answer to an event that is no join, with what it tells of the intervals, which were these before the event.
     #[inline]
-    pub fn tell(&self, before: Intervals, outcome: Outcome) -> React
-        ensures { result ≡ with_adapted (adapted_since before (intervals_of self.now)) outcome }
+    pub fn tell(&self, alloc: Global, before: Intervals, react: React) -> Result<React, AllocError>
+        ensures { IfOk result (λ r. r ≡ with_adapted (adapted_since before (intervals_of self.now)) react) }
     {
-        outcome.telling(self.intervals().since(before))
+        let adapted = Adapted::since(alloc, before, self.intervals())?;
+        react.telling(alloc, adapted)
     }
 
     /// What the member ends with.

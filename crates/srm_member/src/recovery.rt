@@ -1,13 +1,13 @@
 //! Loss recovery.
-ghost use Rattle.std.specs.Prelude.{◌≡◌, ◌≢◌, ℕ, ◌<◌, ◌^◌, IfErr};
+ghost use Rattle.std.specs.Prelude.{◌≡◌, ◌≢◌, ℕ, ◌<◌, ◌^◌};
 ghost use Rattle.srm_net.specs.Limits.{end_of_time};
 ghost use Rattle.srm_net.specs.declared.role.Role.TheVariants.{Listener};
-ghost use Rattle.srm_member.specs.declared.fault.MemberFault.{MemberFault};
 ghost use Rattle.srm_member.specs.declared.cause.Cause.TheVariants.{Join, Arrival, Ask, Answer, Draw, Report};
 ghost use Rattle.srm_member.specs.Record.{fixed_part, due_of, opening_record};
 ghost use Rattle.srm_member.specs.Reacts.{Reacts, Finishes};
 ghost use Rattle.srm_member.specs.Fit.{IsBounded};
 
+use crate::adapted::Adapted;
 use crate::cause::Cause;
 use crate::due::Due;
 use crate::exit::Exit;
@@ -18,7 +18,6 @@ use crate::member_state::MemberState;
 use crate::react::React;
 use crate::told::Told;
 use srm_net::packet::{Name, Packet};
-use srm_net::sequence::Sequence;
 use std::alloc::Global;
 use std::marker::Model;
 
@@ -76,23 +75,18 @@ impl Recovery {
         self.state.due()
     }
 
-    /// The member joins. It does not allocate.
+    /// The member joins.
     ///
     /// # Errors
-    /// `Spent` alone, exactly where the member is gone: it is as it was. As it is written, nothing is allocated.
+    /// As of [`Member::react`](crate::member::Member::react): `Spent` and `NoMemory`.
     pub fn join(&mut self, alloc: Global) -> Result<React, MemberFault>
-        ensures reacts { (at : ℕ) → Reacts self.old at Join result self.new }
-        ensures spent_alone { IfErr result (λ e. e ≡ MemberFault.Spent) }
+        ensures { (at : ℕ) → Reacts self.old at Join result self.new }
     {
-        if self.gone {
-            return Err(MemberFault::Spent);
-        }
-        Ok(React {
-            told: Told::Entered,
-            lost: Sequence::new(alloc),
-            body: None,
-            adapted: Some(self.state.intervals()),
-        })
+        begin(&mut self.gone)?;
+        let adapted = Adapted::of(alloc, Some(self.state.intervals()))?;
+        let react = React::quiet(Told::Entered).telling(alloc, adapted)?;
+        self.gone = false;
+        Ok(react)
     }
 
     /// A packet arrives at a time, in ticks, below 2^40.
@@ -106,8 +100,9 @@ impl Recovery {
         begin(&mut self.gone)?;
         let before = self.state.intervals();
         let outcome = self.state.hear(alloc, at, packet)?;
+        let react = self.state.tell(alloc, before, outcome)?;
         self.gone = false;
-        Ok(self.state.tell(before, outcome))
+        Ok(react)
     }
 
     /// The request timer of a name expires at a time, in ticks, below 2^40.
@@ -121,8 +116,9 @@ impl Recovery {
         begin(&mut self.gone)?;
         let before = self.state.intervals();
         let outcome = self.state.ask(alloc, at, name)?;
+        let react = self.state.tell(alloc, before, outcome)?;
         self.gone = false;
-        Ok(self.state.tell(before, outcome))
+        Ok(react)
     }
 
     /// The repair timer of a name expires at a time, in ticks, below 2^40.
@@ -136,8 +132,9 @@ impl Recovery {
         begin(&mut self.gone)?;
         let before = self.state.intervals();
         let outcome = self.state.answer(alloc, at, name)?;
+        let react = self.state.tell(alloc, before, outcome)?;
         self.gone = false;
-        Ok(self.state.tell(before, outcome))
+        Ok(react)
     }
 
     /// The member is to draw on a page at a time, in ticks.
@@ -156,8 +153,9 @@ impl Recovery {
         begin(&mut self.gone)?;
         let before = self.state.intervals();
         let outcome = self.state.draw_op(alloc, page, ink)?;
+        let react = self.state.tell(alloc, before, outcome)?;
         self.gone = false;
-        Ok(self.state.tell(before, outcome))
+        Ok(react)
     }
 
     /// The member is to send a session message.
@@ -170,8 +168,9 @@ impl Recovery {
         begin(&mut self.gone)?;
         let before = self.state.intervals();
         let outcome = self.state.report(alloc)?;
+        let react = self.state.tell(alloc, before, outcome)?;
         self.gone = false;
-        Ok(self.state.tell(before, outcome))
+        Ok(react)
     }
 
     /// Handles a cause at a time, in ticks, below 2^40.

@@ -14,16 +14,12 @@ use Rattle.srm_member.proofs.LawProofs.{as_listener}
 use Rattle.srm_roles.specs.Opening.{listening}
 
 pub listener_gives : (r : Record) (gone : Bool) (f : Fixed) (held held2 : List (Name × ℕ)) (at : ℕ) (cause : Cause) (told : Told)
-    (lost : List Name)
+    (a : React)
     → record_of gone (listening f held) ≡ r → gone ≡ false → is_listener f.role ≡ true
-    → ((m : MemberState) → m.held ≡ held → react_listener m cause ≡ quietly (record m { held = held2 }) told []) → lost ≡ []
-    → Reacts r at cause (Ok (record { told = told; lost = lost; body = None; adapted = None })) (Active (listening f held2))
-listener_gives r gone f held held2 at cause told lost view on role gives none =
+    → ((m : MemberState) → m.held ≡ held → react_listener m cause ≡ quietly (record m { held = held2 }) told [])
+    → a ≡ record { told = told; lost = []; body = None; adapted = None } → Reacts r at cause (Ok a) (Active (listening f held2))
+listener_gives r gone f held held2 at cause told a view on role gives is =
     let m = listening f held in
     let e = as_listener m at cause role ∙ gives m refl in
-    subst (λ s. Reacts s at cause (Ok (record { told = told; lost = lost; body = None; adapted = None })) (Active (listening f held2)))
-    (sym (ap (λ b. record_of b m) on) ∙ view) (
-      ap (λ (l : List Name). let a : React = record { told = told; lost = l; body = None; adapted = None } in a) none
-          ∙ sym (ap (λ x. x.answer) e),
-      sym (ap (λ x. Active x.state) e),
-    )
+    subst (λ s. Reacts s at cause (Ok a) (Active (listening f held2))) (sym (ap (λ b. record_of b m) on) ∙ view)
+    (is ∙ sym (ap (λ x. x.answer) e), sym (ap (λ x. Active x.state) e))

@@ -84,16 +84,11 @@ impl Member for Listener {
         None
     }
 
-    fn react(&mut self, alloc: Global, _at: u64, cause: &Cause) -> Result<React, MemberFault> {
+    fn react(&mut self, _alloc: Global, _at: u64, cause: &Cause) -> Result<React, MemberFault> {
         begin(&mut self.gone)?;
         let told = listen(&mut self.held, cause)?;
         self.gone = false;
-        Ok(React {
-            told,
-            lost: Sequence::new(alloc),
-            body: None,
-            adapted: None,
-        })
+        Ok(React::quiet(told))
     }
 
     fn finish(&mut self, alloc: Global) -> Result<Exit, MemberFault> {

@@ -26,14 +26,14 @@ pub struct Step {
 impl Step {
     /// Whether an answer, and the next timer after it, are what must come of the event.
     pub(crate) fn expects(&self, react: &React, due: Option<Due>) -> bool {
-        react.told == self.told
-            && react.lost.as_slice() == self.lost
+        react.told() == self.told
+            && react.lost() == self.lost
             && due == self.due
-            && self.sends(&react.body)
+            && self.sends(react.body())
     }
 
     // Whether this is what must be sent, if anything must.
-    fn sends(&self, body: &Option<Body>) -> bool {
+    fn sends(&self, body: Option<&Body>) -> bool {
         match (self.sent, body) {
             (Some(carried), Some(body)) => carried.is_in(body),
             (sent, body) => sent.is_none() && body.is_none(),

@@ -1,11 +1,15 @@
-use Rattle.std.proofs.Common.{sym, ◌∙◌, refl, ◌<◌, ◌≤◌, ◌+◌, arith, Some, None}
-use Rattle.srm_cell.specs.Cells.{Done}
+use Rattle.std.proofs.Common.{sym, ap, ◌∙◌, refl, Some, None}
+use Rattle.std.proofs.lemmas.Result.{err_from_is_err_and}
+use Rattle.srm_member.specs.Answers.{answer_of}
+use Rattle.srm_member.specs.declared.rare.Rare.{Rare}
+use Rattle.srm_member.specs.declared.react.React.{React}
+use Rattle.srm_member.specs.declared.told.Told.{Told}
+use Rattle.srm_cell.specs.Cells.{Done, about_of}
 use Rattle.srm_cell.specs.InnerSteps.{AnswersEvent}
 use Rattle.srm_cell.specs.Views.{plain_cell, known_in}
 use Rattle.srm_cell.proofs.Putting.{row_is_put}
-use Rattle.srm_cell.proofs.Saying.{no_box, has_box, cannot_say, wanting, working, said_nothing, said, not_said}
+use Rattle.srm_cell.proofs.Saying.{no_box, has_box, cannot_say, wanting, working, said, not_said}
 use Rattle.srm_cell.proofs.cell.Cell.say.Goals as goal
-use Rattle.srm_net.specs.Limits.{most_sent}
 
 pub returns-in_default : goal.returns-in_default
 returns-in_default g c = no_box g.M.Participant.plain c.args.self.now.member _ (Some c.args.cause) c.in_default.ensures.value
@@ -20,29 +24,31 @@ returns-in-Err-Spent g c = cannot_say g.M.Participant.plain c.args.self.now.memb
     c.args.key c.args.cause (plain_cell g.M.Participant.plain c.args.self.now) _
     (rw c.in-Err-Spent.field-0-is at c.in-Err-Spent.ensures)
 
-pub returns-in_default-of : goal.returns-in_default-of
-returns-in_default-of g c = working g.M.Participant.plain c.args.self.now.member c.in-Some.member c.in-Some.ensures.value
-    c.args.key c.args.cause (plain_cell g.M.Participant.plain c.args.self.now) _ c.in-Ok.reaction c.in-Ok.ensures
+-- the answer that tells this
+abbrev telling : Told → Rare → React
+telling told rare = record { told = told; lost = rare.lost; body = rare.body; adapted = rare.adapted }
 
-pub returns-in_default-body : goal.returns-in_default-body
-returns-in_default-body g c =
+pub returns-in_default-rare : goal.returns-in_default-rare
+returns-in_default-rare g c =
     let f = g.M.Participant.plain in
     let now = c.args.self.now in
+    let is = c.into_parts-told.ensures ∙ ap (answer_of c.into_parts-told.result.0) c.in_default-rare.is in
+    let body = ap (λ (a : React). a.body) is in
     row_is_put
     (λ r. AnswersEvent f c.args.key (Some c.args.cause) now r (record now { member = Some c.react.new.member }))
     _ _ _ c.put.result c.put.ensures.row c.put.ensures.memory (
-      said_nothing f now.member c.in-Some.member c.in-Some.ensures.value c.args.key c.args.cause (plain_cell f now) _ c.in-Ok.reaction
-          c.in-Ok.ensures c.in_default-body.is
+      said f now.member c.in-Some.member c.in-Some.ensures.value c.args.key c.args.cause (plain_cell f now) _ c.in-Ok.reaction None None
+          now.sent c.in-Ok.ensures body (refl, refl)
           ∙ (λ i. Done (record {
             cell = record (plain_cell f now) { holds = known_in f (Some c.react.new.member) };
             row = record {
               key = c.args.key;
               cause = sym c.word-cause_word.ensures i;
-              about = sym c.about-subject.ensures i;
-              told = c.in-Ok.reaction.told;
-              lost = c.in-Ok.reaction.lost;
+              about = (ap (about_of (Some c.args.cause)) body ∙ sym c.about.ensures) i;
+              told = ap (λ (a : React). a.told) is i;
+              lost = (ap (λ (a : React). a.lost) is ∙ sym c.new.ensures) i;
               sent = None;
-              adapted = sym c.in-Ok-of.ensures i;
+              adapted = (ap (λ (a : React). a.adapted) is ∙ sym c.nothing.ensures) i;
             };
           })),
       record {
@@ -53,38 +59,40 @@ returns-in_default-body g c =
     (working f now.member c.in-Some.member c.in-Some.ensures.value c.args.key c.args.cause (plain_cell f now) _ c.in-Ok.reaction
     c.in-Ok.ensures)
 
-pub returns-then-self-ge-COUNT_LIMIT : goal.returns-then-self-ge-COUNT_LIMIT
-returns-then-self-ge-COUNT_LIMIT g c =
-    let le : most_sent ≤ c.args.self.now.sent = (let ge = c.if-self-ge-COUNT_LIMIT.true in omega arith) in
-    not_said g.M.Participant.plain c.args.self.now.member c.in-Some.member c.in-Some.ensures.value c.args.key c.args.cause
-    (plain_cell g.M.Participant.plain c.args.self.now) _ c.in-Ok.reaction c.in-Some-body.body c.in-Ok.ensures c.in-Some-body.is le
+pub returns-in_err-sent : goal.returns-in_err-sent
+returns-in_err-sent g c =
+    let f = g.M.Participant.plain in
+    let now = c.args.self.now in
+    let is = c.into_parts-told.ensures ∙ ap (answer_of c.into_parts-told.result.0) c.in-Some-rare.is
+    ∙ ap (telling c.into_parts-told.result.0) (sym c.into_inner-lost.ensures) in
+    let p = err_from_is_err_and c.from_residual.result c.from_residual.ensures.1 in
+    rw (p.1, p.2)
+    (not_said f now.member c.in-Some.member c.in-Some.ensures.value c.args.key c.args.cause (plain_cell f now) _ c.in-Ok.reaction
+    c.into_inner-lost.result.body _ _ c.in-Ok.ensures (ap (λ (a : React). a.body) is) c.in_err-sent.ensures)
 
 pub returns : goal.returns
 returns g c =
     let f = g.M.Participant.plain in
     let now = c.args.self.now in
-    let lt : now.sent < most_sent = (let ge = c.if-self-ge-COUNT_LIMIT.false in omega arith) in
+    let is = c.into_parts-told.ensures ∙ ap (answer_of c.into_parts-told.result.0) c.in-Some-rare.is
+    ∙ ap (telling c.into_parts-told.result.0) (sym c.into_inner-lost.ensures) in
+    let body = ap (λ (a : React). a.body) is in
     row_is_put
-    (λ r. AnswersEvent f c.args.key (Some c.args.cause) now r (record now { member = Some c.react.new.member; sent = now.sent + 1 }))
+    (λ r. AnswersEvent f c.args.key (Some c.args.cause) now r
+    (record now { member = Some c.react.new.member; sent = c.packet.new.sent }))
     _ _ _ c.put-2.result c.put-2.ensures.row c.put-2.ensures.memory (
       said f now.member c.in-Some.member c.in-Some.ensures.value c.args.key c.args.cause (plain_cell f now) _ c.in-Ok.reaction
-          c.in-Some-body.body c.in-Ok.ensures c.in-Some-body.is lt
+          c.into_inner-lost.result.body c.in_ok-sent.sent c.packet.new.sent c.in-Ok.ensures body c.in_ok-sent.ensures
           ∙ (λ i. Done (record {
-            cell = record (plain_cell f now) { holds = known_in f (Some c.react.new.member); sent = now.sent + 1 };
+            cell = record (plain_cell f now) { holds = known_in f (Some c.react.new.member); sent = c.packet.new.sent };
             row = record {
               key = c.args.key;
               cause = sym c.word-cause_word.ensures i;
-              about = sym c.about-subject.ensures i;
-              told = c.in-Ok.reaction.told;
-              lost = c.in-Ok.reaction.lost;
-              sent = Some
-                  (record {
-                    id = record { sender = c.args.key.member; count = now.sent };
-                    sent = c.args.key.time;
-                    body =
-                        c.in-Some-body.body;
-                  });
-              adapted = sym c.in-Ok-of.ensures i;
+              about = (ap (about_of (Some c.args.cause)) body ∙ sym c.about-subject.ensures) i;
+              told = ap (λ (a : React). a.told) is i;
+              lost = ap (λ (a : React). a.lost) is i;
+              sent = c.in_ok-sent.sent;
+              adapted = ap (λ (a : React). a.adapted) is i;
             };
           })),
       record {

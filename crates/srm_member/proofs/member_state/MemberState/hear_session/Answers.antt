@@ -1,4 +1,7 @@
-use Rattle.std.proofs.Common.{sym, ap, ◌∙◌}
+use Rattle.std.proofs.Common.{sym, ap, ◌∙◌, ◌≡◌, []}
+use Rattle.std.proofs.lemmas.Result.{IfOk-weaker}
+use Rattle.srm_member.specs.Fit.{Gives}
+use Rattle.srm_member.specs.React.{hear_session}
 use Rattle.srm_member.proofs.Losses.{hear_session-turn, hear_session-end}
 use Rattle.srm_member.proofs.member_state.MemberState.hear_session.Goals as goal
 
@@ -14,4 +17,8 @@ pub returns : goal.returns
 returns c =
     let last = sym c.loop-entry.invariant.rest ∙ hear_session-end c.args.at c.args.heard.now c.loop-entry.entry-index c.loop-entry.self
     c.loop-entry.lost c.loop-entry-test.false in
-    record { ok = (c.quiet.ensures ∙ sym (ap (λ r. r.answer) last), sym (ap (λ r. r.state) last)); fixed = c.loop-entry.invariant.fixed }
+    record {
+      ok = IfOk-weaker c.losing.result _ (λ a. Gives a c.loop-entry.self (hear_session c.args.at c.args.heard.now c.args.self.now []))
+          (λ a is. (is ∙ sym (ap (λ r. r.answer) last), sym (ap (λ r. r.state) last))) c.losing.ensures.ok;
+      fixed = c.loop-entry.invariant.fixed;
+    }

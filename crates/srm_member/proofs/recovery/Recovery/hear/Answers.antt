@@ -6,4 +6,4 @@ use Rattle.srm_member.proofs.recovery.Recovery.hear.Goals as goal
 pub returns : goal.returns
 returns c = call_gives c.args.self.now c.self.inside.gone c.self.inside.state c.hear.new.self c.args.at (Arrival c.args.packet.now)
     c.in_ok-outcome.outcome _ _ c.self.view_is c.in_ok-begin.ensures.here c.self.invariant refl c.in_ok-outcome.ensures.ok
-    c.intervals-before.ensures c.tell.ensures
+    c.intervals-before.ensures c.in_ok-react.ensures

@@ -1,6 +1,11 @@
-use Rattle.srm_member.proofs.Calls.{join_gives}
+use Rattle.std.proofs.Common.{◌∙◌, ap, refl, Some}
+use Rattle.srm_member.specs.declared.cause.Cause.TheVariants.{Join}
+use Rattle.srm_member.specs.React.{with_adapted}
+use Rattle.srm_member.proofs.Calls.{call_tells}
 use Rattle.srm_member.proofs.recovery.Recovery.join.Goals as goal
 
-pub returns-clause-reacts : goal.returns-clause-reacts
-returns-clause-reacts c = λ at. rw c.new.ensures (join_gives c.args.self.now c.self.inside.gone c.self.inside.state at _ c.self.view_is
-    c.if-self.false c.self.invariant c.intervals.ensures)
+pub returns : goal.returns
+returns c = λ at.
+    let told = c.in_ok-adapted.ensures ∙ ap Some c.intervals.ensures in
+    call_tells c.args.self.now c.self.inside.gone c.self.inside.state c.self.inside.state at Join _ c.self.view_is
+    c.in_ok-begin.ensures.here c.self.invariant (c.in_ok-react.ensures ∙ (λ i. with_adapted (told i) (c.quiet.ensures i)), refl)
