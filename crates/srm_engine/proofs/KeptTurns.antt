@@ -1,7 +1,8 @@
 -- What is kept of a window's rows may be handed on, and what it tells.
-use Rattle.std.proofs.Common.{◌≡◌, ◌∙◌, ℕ, suc, ◌<◌, ◌≤◌, ◌^◌, List, [], ◌∷◌, ◌++◌, All, IsSorted, length, sym, subst, arith}
+use Rattle.std.proofs.Common.{◌≡◌, ◌∙◌, ℕ, suc, ◌<◌, ◌≤◌, ◌^◌, List, [], ◌∷◌, ◌++◌, All, length, sym, subst, arith}
 use Rattle.std.proofs.lemmas.List.Elements.{All-nil, All-cons}
 use Rattle.srm_net.specs.declared.key.Key.{Key}
+use Rattle.srm_net.specs.Orders.{Ascends}
 use Rattle.srm_scenario.proofs.Members.{few_members}
 use Rattle.srm_member.specs.declared.row.Row.{Row}
 use Rattle.srm_member.specs.Record.{Record}
@@ -15,6 +16,7 @@ use Rattle.srm_interfaces.specs.InTurn.{HasTurn, KeepInTurn}
 use Rattle.srm_model.specs.World.{World, IsReached, least_event, opening, row_cmp}
 use Rattle.srm_model.proofs.OneWindow.{part_rows}
 use Rattle.srm_model.proofs.RunLemmas.{Seq, rest, next}
+use Rattle.srm_model.proofs.StrictRuns.{keys_rise}
 use Rattle.srm_model.proofs.Sequential.{Good, good_reached, good_step, member_below, step_facts}
 use Rattle.srm_engine.specs.declared.halt.Halt.TheVariants as halt
 use Rattle.srm_engine.specs.declared.window_fault.WindowFault.{WindowFault}
@@ -68,11 +70,15 @@ pub keep_as : {K : Type 0} (P Q : K → List Row → Type 0) → ((k : K) (rows 
 keep_as P Q f m [] rows h = tt
 keep_as P Q f m (k ∷ ks) rows h = (f k _ h.0, keep_as P Q f (suc m) ks rows h.1)
 
+ascends_second : (xs ys : List Row) → Ascends row_cmp (xs ++ ys) → Ascends row_cmp ys
+ascends_second [] ys h = h
+ascends_second (x ∷ xs) ys h = ascends_second xs ys h.1
+
 -- what is kept of the rows of a window is so in turn
 pub kept_in_turn : {M K : Type 0} (f : M → Record) (keeps : K → List Row → Type 0) (e : WatchEngine M K) (is : IsWatching f e)
     (seed : ℕ) (begins : List World) (w : World) → ComesTo f seed e.engine begins w → (front rows : List Row) → w.trace ≡ front ++ rows
-    → IsSorted row_cmp rows → KeepsRows keeps e rows → KeepInTurn keeps (kept_by e) rows
-kept_in_turn f keeps e is seed begins w comes front rows grown sorted kept =
+    → KeepsRows keeps e rows → KeepInTurn keeps (kept_by e) rows
+kept_in_turn f keeps e is seed begins w comes front rows grown kept =
     let s = setting_by e.engine seed in
     let p = e.engine.session.scenario.now in
     let all : length (kept_by e) ≡ s.traffic.members =
@@ -83,7 +89,8 @@ kept_in_turn f keeps e is seed begins w comes front rows grown sorted kept =
       turns = subst (λ n. All (HasTurn n) rows) (sym all)
           (turns_after s (fit f e.engine is.under_way seed begins w comes) (omega (arith, few)) w
           (reached f e.engine is.under_way seed begins w comes) front rows grown);
-      in_order = sorted;
+      rise = ascends_second front rows (subst (Ascends row_cmp) grown
+          (keys_rise s w (fit f e.engine is.under_way seed begins w comes) (reached f e.engine is.under_way seed begins w comes)));
       are = kept;
     }
 

@@ -17,6 +17,7 @@ pub mod SoonLemmas
 pub mod SoonGroups
 pub mod WindowLemmas
 pub mod Merging
+mod Sources
 mod KeptLemmas
 mod Leaving
 mod WatchedLemmas

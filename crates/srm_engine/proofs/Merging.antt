@@ -1,80 +1,79 @@
--- The rows of all members, brought into order.
-use Rattle.std.proofs.Common.{◌≡◌, ◌∙◌, ℕ, suc, ◌<◌, Bool, true, false, cond, not, ◌&&◌, ◌==◌, List, [], ◌∷◌, ◌++◌, filter, length, All}
-use Rattle.std.proofs.Common.{IsSorted, Ordering, Less, Equal, Greater, is_lt, refl, sym, ap, subst, arith, eq-eqb}
-use Rattle.std.specs.Cmp.{IsTotalOrder}
-use Rattle.std.specs.Ordering.{nat_cmp, ordering_reverse, ordering_then}
-use Rattle.std.specs.List.Sorted.{IsStableBy, ties}
+-- The rows of all members, merged.
+use Rattle.std.proofs.Common.{◌≡◌, ◌∙◌, ℕ, suc, ◌<◌, ◌+◌, Bool, true, false, true≢false, cond, ◌==◌, eq-eqb, List, [], ◌∷◌, ◌++◌}
+use Rattle.std.proofs.Common.{filter, map, length, All, IfOk, Result, Ok, Err, IsPermutation, IsSorted, Ordering, is_lt}
+use Rattle.std.proofs.Common.{refl, sym, ap, subst, inl, inr, arith}
+use Rattle.std.specs.Ordering.{is_eq, nat_cmp, ordering_then}
+use Rattle.std.specs.Cmp.{IsStrictWeakOrder}
 use Rattle.std.specs.Global.{Vec}
-use Rattle.std.proofs.lemmas.List.Elements.{All-head, All-tail}
-use Rattle.srm_net.specs.contracts.key.KeyOrd.TheImpl as key_order
-use Rattle.srm_net.specs.Orders.{AllAfter, Rises}
-use Rattle.srm_net.proofs.TotalOrders.{keys_compared}
+use Rattle.std.proofs.lemmas.List.Elements.{All-nil, All-cons, All-head, All-tail}
+use Rattle.std.proofs.lemmas.List.Kept.{IsSortedBy-filter}
+use Rattle.std.proofs.lemmas.List.Sorted.{ranks_by, All-permutation, sum_by-IsPermutation}
+use Rattle.srm_net.proofs.Basics.{one_if}
 use Rattle.srm_member.specs.declared.row.Row.{Row}
 use Rattle.srm_member.specs.ByMember.{AreAlike}
+use Rattle.srm_member.specs.Record.{count_if}
 use Rattle.srm_member.proofs.AllIn.{AllIn}
+use Rattle.srm_member.proofs.FewerTimers.{In}
 use Rattle.srm_cell.specs.Crossings.{joined}
 use Rattle.srm_interfaces.specs.InTurn.{HasTurn, KeepInTurn}
 use Rattle.srm_interfaces.specs.Watches.{KeepMembers}
 use Rattle.srm_model.specs.Laws.{by_member}
 use Rattle.srm_model.specs.World.{row_cmp}
-use Rattle.srm_model.proofs.Merge.{after_all}
-use Rattle.srm_model.proofs.SortedRows.{rows_rise, rows_total}
+use Rattle.srm_model.proofs.Merge.{count-sum_by, same_merge}
+use Rattle.srm_model.proofs.SortedRows.{ascends_sorted, rows_rise, rows_total}
 use Rattle.srm_model.proofs.StandAlike.{listed_alike}
 use Rattle.srm_engine.specs.Groups.{all_in}
 
--- ---- a list has one order in which what ties stands as it stood
+-- ---- what a permutation keeps
 
-module _ {A : Type 0} (cmp : A → A → Ordering) (o : IsTotalOrder cmp) where
-  abbrev tied : A → A → Bool
-  tied = ties (λ x y. is_lt (cmp x y))
+module _ {A : Type 0} where
+  each_in : (Q : A → Type 0) (z : A) (xs : List A) → All Q xs → In z xs → Q z
+  each_in Q z [] h g = absurd g
+  each_in Q z (x ∷ xs) h (inl e) = subst Q e (All-head Q x xs h)
+  each_in Q z (x ∷ xs) h (inr g) = each_in Q z xs (All-tail Q x xs h) g
 
-  level : (x y : A) → cmp x y ≡ Equal → tied x y ≡ true
-  level x y e =
-      let back : cmp y x ≡ Equal = o.antisymm y x ∙ ap ordering_reverse e in
-      λ i. not (is_lt (e i)) && not (is_lt (back i))
+  in_each : (Q : A → Type 0) (xs : List A) → ((z : A) → In z xs → Q z) → All Q xs
+  in_each Q [] h = All-nil Q
+  in_each Q (x ∷ xs) h = All-cons Q x xs (h x (inl refl)) (in_each Q xs (λ z g. h z (inr g)))
 
-  itself : (x : A) → tied x x ≡ true
-  itself x = level x x (grind arith)
+  in_before : (xs ys : List A) → IsPermutation xs ys → (z : A) → In z ys → In z xs
+  in_before xs ys perm z =
+      each_in (λ x. In x xs) z ys (All-permutation (λ x. In x xs) xs ys perm (in_each (λ x. In x xs) xs (λ x g. g)))
 
-  apart : (x y : A) → cmp x y ≡ Less → tied x y ≡ false
-  apart x y e = ap (λ r. not (is_lt r) && not (is_lt (cmp y x))) e
+  module _ (p : A → Bool) where
+    as_often : (xs ys : List A) → IsPermutation xs ys → count_if p ys ≡ count_if p xs
+    as_often xs ys perm = count-sum_by p ys ∙ sum_by-IsPermutation (λ x. one_if (p x)) xs ys perm ∙ sym (count-sum_by p xs)
 
-  none_tied : (x : A) (ys : List A) → AllAfter cmp x ys → filter (tied x) ys ≡ []
-  none_tied x [] h = refl
-  none_tied x (y ∷ ys) h = ap (λ b. cond b (y ∷ filter (tied x) ys) (filter (tied x) ys)) (apart x y h.0) ∙ none_tied x ys h.1
+    one_counted : (b : Bool) (x : A) (xs : List A) → one_if b + length xs ≡ length (cond b (x ∷ xs) xs)
+    one_counted true x xs = omega arith
+    one_counted false x xs = omega arith
 
-  first_tied : (x y : A) (ys : List A) → tied x y ≡ true → filter (tied x) (y ∷ ys) ≡ y ∷ filter (tied x) ys
-  first_tied x y ys e = ap (λ b. cond b (y ∷ filter (tied x) ys) (filter (tied x) ys)) e
+    passed : (xs : List A) → count_if p xs ≡ length (filter p xs)
+    passed [] = refl
+    passed (x ∷ xs) = ap (λ n. one_if (p x) + n) (passed xs) ∙ one_counted (p x) x (filter p xs)
 
-  rest_same : (y : A) (xs ys : List A) (b : Bool) → cond b (y ∷ xs) xs ≡ cond b (y ∷ ys) ys → xs ≡ ys
-  rest_same y xs ys true e = cc
-  rest_same y xs ys false e = e
+    to_filter : (z x : A) (xs : List A) (b : Bool) → p x ≡ b → p z ≡ true → (In z xs → In z (filter p xs)) → In z (x ∷ xs)
+        → In z (cond b (x ∷ filter p xs) (filter p xs))
+    to_filter z x xs true e t more (inl g) = inl g
+    to_filter z x xs true e t more (inr g) = inr (more g)
+    to_filter z x xs false e t more (inl g) = absurd (true≢false (sym t ∙ ap p (sym g) ∙ e))
+    to_filter z x xs false e t more (inr g) = more g
 
-  one_order : (xs ys : List A) → Rises cmp xs → Rises cmp ys → ((k : A) → filter (tied k) xs ≡ filter (tied k) ys) → xs ≡ ys
-  one_order [] [] h g same = refl
-  one_order [] (y ∷ ys) h g same = let e : [] ≡ y ∷ filter (tied y) ys = same y ∙ first_tied y y ys (itself y) in cc
-  one_order (x ∷ xs) [] h g same = let e : x ∷ filter (tied x) xs ≡ [] = sym (first_tied x x xs (itself x)) ∙ same x in cc
-  one_order (x ∷ xs) (y ∷ ys) h g same =
-      let mine : x ∷ filter (tied x) xs ≡ filter (tied x) (y ∷ ys) = sym (first_tied x x xs (itself x)) ∙ same x in
-      elim (cmp x y) as (λ r. cmp x y ≡ r → x ∷ xs ≡ y ∷ ys) [
-        | Less ↦ λ e.
-            let none : x ∷ filter (tied x) xs ≡ [] = mine ∙ none_tied x (y ∷ ys) (e, after_all cmp o x y ys e g.0) in
-            cc
-        | Greater ↦ λ e.
-            let less : cmp y x ≡ Less = o.antisymm y x ∙ ap ordering_reverse e in
-            let none : y ∷ filter (tied y) ys ≡ [] = sym (first_tied y y ys (itself y)) ∙ sym (same y)
-            ∙ none_tied y (x ∷ xs) (less, after_all cmp o y x xs less h.0) in
-            cc
-        | Equal ↦ λ e.
-            let both : x ∷ filter (tied x) xs ≡ y ∷ filter (tied x) ys = mine ∙ first_tied x y ys (level x y e) in
-            let first : x ≡ y = cc in
-            let rest : (k : A) → filter (tied k) xs ≡ filter (tied k) ys = λ k.
-            rest_same y (filter (tied k) xs) (filter (tied k) ys) (tied k y)
-            (subst (λ z. cond (tied k z) (z ∷ filter (tied k) xs) (filter (tied k) xs) ≡ filter (tied k) (y ∷ ys)) first (same k)) in
-            λ i. first i ∷ one_order xs ys h.1 g.1 rest i
-      ] refl
+    in_filter : (z : A) (xs : List A) → p z ≡ true → In z xs → In z (filter p xs)
+    in_filter z [] t g = g
+    in_filter z (x ∷ xs) t g = to_filter z x xs (p x) refl t (in_filter z xs t) g
 
--- ---- rows that tie are of one member
+    from_filter : (z x : A) (xs : List A) (b : Bool) → (In z (filter p xs) → In z xs) → In z (cond b (x ∷ filter p xs) (filter p xs))
+        → In z (x ∷ xs)
+    from_filter z x xs true less (inl g) = inl g
+    from_filter z x xs true less (inr g) = inr (less g)
+    from_filter z x xs false less g = inr (less g)
+
+    of_filter : (z : A) (xs : List A) → In z (filter p xs) → In z xs
+    of_filter z [] g = g
+    of_filter z (x ∷ xs) g = from_filter z x xs (p x) (of_filter z xs) g
+
+-- ---- rows of one key are of one member
 
 module _ {A : Type 0} (p q : A → Bool) (so : (x : A) → p x ≡ true → q x ≡ true) where
   not_so : (x : A) → q x ≡ false → p x ≡ false
@@ -92,26 +91,18 @@ module _ {A : Type 0} (p q : A → Bool) (so : (x : A) → p x ≡ true → q x 
   narrowed [] = refl
   narrowed (x ∷ xs) = narrowed_at x xs (q x) refl (narrowed xs)
 
-neither : (a b : Bool) → (not a && not b) ≡ true → (a ≡ false) × (b ≡ false)
-neither true b h = cc
-neither false true h = cc
-neither false false h = (refl, refl)
+same_number : (a b c d : ℕ) (o : Ordering) → is_eq (ordering_then (nat_cmp a c) (ordering_then (nat_cmp b d) o)) ≡ true → d ≡ b
+same_number a b c d o h = grind arith
 
-same_number : (a b c d : ℕ) (o p : Ordering) → is_lt (ordering_then (nat_cmp a c) (ordering_then (nat_cmp b d) o)) ≡ false
-    → is_lt (ordering_then (nat_cmp c a) (ordering_then (nat_cmp d b) p)) ≡ false → d ≡ b
-same_number a b c d o p h g = grind arith
+same_member : (k x : Row) → is_eq (row_cmp k x) ≡ true → (x.key.member == k.key.member) ≡ true
+same_member k x h = eq-eqb x.key.member k.key.member (same_number k.key.time k.key.member x.key.time x.key.member _ h)
 
-same_member : (x r : Row) → tied row_cmp rows_total x r ≡ true → (r.key.member == x.key.member) ≡ true
-same_member x r t =
-    let n = neither (is_lt (row_cmp x r)) (is_lt (row_cmp r x)) t in
-    eq-eqb r.key.member x.key.member (same_number x.key.time x.key.member r.key.time r.key.member _ _ n.0 n.1)
-
-tied_alike : (xs ys : List Row) → AreAlike xs ys → (x : Row) → filter (tied row_cmp rows_total x) xs
-    ≡ filter (tied row_cmp rows_total x) ys
-tied_alike xs ys h x =
-    let p = tied row_cmp rows_total x in
-    let q = λ (r : Row). r.key.member == x.key.member in
-    sym (narrowed p q (same_member x) xs) ∙ ap (filter p) (h x.key.member) ∙ narrowed p q (same_member x) ys
+keyed_alike : (xs ys : List Row) → AreAlike xs ys → (k : Row) → filter (λ x. is_eq (row_cmp k x)) xs
+    ≡ filter (λ x. is_eq (row_cmp k x)) ys
+keyed_alike xs ys h k =
+    let p = λ (x : Row). is_eq (row_cmp k x) in
+    let q = λ (x : Row). x.key.member == k.key.member in
+    sym (narrowed p q (same_member k) xs) ∙ ap (filter p) (h k.key.member) ∙ narrowed p q (same_member k) ys
 
 -- ---- the rows of all members
 
@@ -124,20 +115,42 @@ lists_are : (m : ℕ) (lists : List (Vec Row)) (rows : List Row) → KeepMembers
 lists_are m [] rows h = refl
 lists_are m (l ∷ lists) rows h = λ i. h.0 i ++ lists_are (suc m) lists rows h.1 i
 
--- the rows of all members, sorted so that rows with one key stay in order, are those of which each has its own
+pub weak_order : IsStrictWeakOrder (λ x y. is_lt (row_cmp x y))
+weak_order = ranks_by rows_total (λ (r : Row). r)
+
+-- each member's list stands in order
+pub each_sorted : (m : ℕ) (lists : List (Vec Row)) (rows : List Row) → KeepMembers (λ (l : Vec Row) own. l.items ≡ own) m lists rows
+    → IsSorted row_cmp rows → All (IsSorted row_cmp) (map (λ (l : Vec Row). l.items) lists)
+each_sorted m [] rows h sorted = All-nil (IsSorted row_cmp)
+each_sorted m (l ∷ lists) rows h sorted =
+    All-cons (IsSorted row_cmp) l.items (map (λ (l : Vec Row). l.items) lists)
+    (subst (IsSorted row_cmp) (sym h.0)
+    (IsSortedBy-filter (λ x y. is_lt (row_cmp x y)) weak_order (λ (r : Row). r.key.member == m) rows sorted))
+    (each_sorted (suc m) lists rows h.1 sorted)
+
+pub in_turn_sorted : (lists : List (Vec Row)) (rows : List Row) → KeepInTurn (λ (l : Vec Row) own. l.items ≡ own) lists rows
+    → All (IsSorted row_cmp) (map (λ (l : Vec Row). l.items) lists)
+in_turn_sorted lists rows are = each_sorted 0 lists rows are.are (ascends_sorted rows are.rise)
+
+-- the rows of all members in order of their keys, which differ, are those of which each has its own
 pub merged : (lists : List (Vec Row)) (rows all : List Row) → KeepInTurn (λ (l : Vec Row) own. l.items ≡ own) lists rows
-    → IsSorted row_cmp all → IsStableBy (λ x y. is_lt (row_cmp x y)) (all_in lists) all → all ≡ rows
-merged lists rows all are sorted stable =
+    → IsPermutation (all_in lists) all → IsSorted row_cmp all → all ≡ rows
+merged lists rows all are perm sorted =
     let alike : AreAlike (all_in lists) rows = subst (λ l. AreAlike l rows) (sym (lists_are 0 lists rows are.are))
     (listed_alike (length lists) rows (members_in (length lists) rows are.turns)) in
-    one_order row_cmp rows_total all rows (rows_rise all sorted) (rows_rise rows are.in_order)
-    (λ k. stable k ∙ tied_alike (all_in lists) rows alike k)
+    sym (same_merge row_cmp rows_total rows all are.rise (rows_rise all sorted)
+    (λ k.
+    let p = λ (x : Row). is_eq (row_cmp k x) in
+    as_often p (all_in lists) all perm ∙ passed p (all_in lists) ∙ ap length (keyed_alike (all_in lists) rows alike k)
+    ∙ sym (passed p rows))
+    (λ z g.
+    let own = λ (r : Row). r.key.member == z.key.member in
+    of_filter own z rows (subst (In z) (alike z.key.member)
+    (in_filter own z (all_in lists) (eq-eqb z.key.member z.key.member refl) (in_before (all_in lists) all perm z g)))))
 
--- ---- rows in the derived order of their keys are in the order of rows
-
-pub sorted_by_keys : (rows : List Row) → IsSorted (λ (x y : Row). key_order.ghosts.cmp x.key y.key) rows → IsSorted row_cmp rows
-sorted_by_keys rows = subst (λ (c : Row → Row → Ordering). IsSorted c rows) (λ i x y. keys_compared x.key y.key i)
-
-pub stable_by_keys : (xs ys : List Row) → IsStableBy (λ (x y : Row). is_lt (key_order.ghosts.cmp x.key y.key)) xs ys
-    → IsStableBy (λ x y. is_lt (row_cmp x y)) xs ys
-stable_by_keys xs ys = subst (λ (lt : Row → Row → Bool). IsStableBy lt xs ys) (λ i x y. is_lt (keys_compared x.key y.key i))
+-- a merge of them, where it is made
+pub merged_all : {E : Type 0} (r : Result (Vec Row) E) (lists : List (Vec Row)) (rows : List Row)
+    → KeepInTurn (λ (l : Vec Row) own. l.items ≡ own) lists rows → IfOk r (λ (all : Vec Row). IsPermutation (all_in lists) all.items)
+    → IfOk r (λ (all : Vec Row). IsSorted row_cmp all.items) → IfOk r (λ (all : Vec Row). all.items ≡ rows)
+merged_all (Ok all) lists rows are perm sorted = merged lists rows all.items are perm sorted
+merged_all (Err e) lists rows are perm sorted = tt

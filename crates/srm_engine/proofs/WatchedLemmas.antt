@@ -83,14 +83,20 @@ pub one_done : {K : Type 0} (P : K → Type 0) (group : List K) (i : ℕ) (own :
 one_done P group i own lt before is =
     subst (All P) (sym (take_more_set group i own lt)) (All-append P (take i group) (own ∷ []) before (All-cons P own [] is (All-nil P)))
 
--- where a group is written back with as many as before, of which all are so, the groups so far are
+-- where a group is written back with as many as before, the groups are as large as they were
+pub as_large : {K : Type 0} (gs : List (Vec K)) (i : ℕ) (v : Vec K) → i < length gs → length v.items ≡ length (get_or gs i v).items
+    → sizes (set gs i v) ≡ sizes gs
+as_large {K} gs i v lt long =
+    map-set (λ (g : Vec K). length g.items) gs i v
+    ∙ ap (set (sizes gs) i) (long ∙ sym (get_or-map (λ (g : Vec K). length g.items) gs i v 0 lt))
+    ∙ set-get_or (sizes gs) i 0
+
+-- and where all of them are so, the groups so far are
 pub group_done : {K : Type 0} (P : K → Type 0) (gs : List (Vec K)) (i : ℕ) (v : Vec K) → i < length gs
     → length v.items ≡ length (get_or gs i v).items → All P (all_in (take i gs)) → All P v.items
     → (sizes (set gs i v) ≡ sizes gs) × All P (all_in (take (i + 1) (set gs i v)))
 group_done {K} P gs i v lt long before own = (
-  map-set (λ (g : Vec K). length g.items) gs i v
-      ∙ ap (set (sizes gs) i) (long ∙ sym (get_or-map (λ (g : Vec K). length g.items) gs i v 0 lt))
-      ∙ set-get_or (sizes gs) i 0,
+  as_large gs i v lt long,
   subst (All P) (sym (ap all_in (take_more_set gs i v lt) ∙ all_in_push (take i gs) v))
       (All-append P (all_in (take i gs)) v.items before own),
 )

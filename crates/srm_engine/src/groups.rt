@@ -9,7 +9,7 @@ ghost use Rattle.srm_engine.specs.Groups.{AreCuts, sizes, all_in};
 ghost use Rattle.srm_engine.specs.Groups.{IsCut, AreKept, MayLookAgain, LooksAgain};
 ghost use Rattle.srm_engine.specs.Groups.{MayHearInAnyOrder, HearsInSomeOrder};
 
-use crate::sent::in_order_of_sending;
+use crate::sent::sent_in_turn;
 use crate::soonest::{Soonest, soonest_in, soonest_of_each};
 use srm_cell::cell::Cell;
 use srm_cell::sent::Sent;
@@ -70,18 +70,18 @@ impl<M: Participant> Groups<M> {
         Groups { cut, groups, soon }
     }
 
-    /// The groups after every member heard what was sent in some rows, in some order.
+    /// The groups after every member heard what was sent in some rows, in some order: it is handed over in lists that stand in order.
     pub(crate) fn heard_from<K, W: Watch<K>, C: WatchCrew<M, K, W>>(
         self,
         alloc: Global,
         session: Session,
         crew: &mut C,
-        sent: Vec<Sent>,
+        sent: Vec<Vec<Sent>>,
     ) -> Result<Groups<M>, AllocError>
         requires ready { C.ready crew.old }
         requires serves { C.serves crew.old session.scenario.now session.net.now }
-        requires sent { All (λ x. IsSent session.scenario.now session.net.now x) sent.items }
-        requires may { (seed : ℕ) × (rows : List OneRow) × (packets_of rows ≡ packets_in sent.items)
+        requires sent { All (λ x. IsSent session.scenario.now session.net.now x) (all_in sent.items) }
+        requires may { (seed : ℕ) × (rows : List OneRow) × (packets_of rows ≡ packets_in (all_in sent.items))
             × MayHearInAnyOrder M.plain (setting_on session seed) rows self }
         ensures ready { C.ready crew.new }
         ensures serves { C.serves crew.new session.entry.scenario.now session.entry.net.now }
@@ -89,14 +89,15 @@ impl<M: Participant> Groups<M> {
         ensures handed { C.handed crew.old [] crew.new }
         ensures cut { IfOk result (λ heard. heard.cut ≡ self.cut) }
         ensures sizes { IfOk result (λ heard. sizes heard.groups.items ≡ sizes self.groups.items) }
-        ensures heard { IfOk result (λ heard. (seed : ℕ) (rows : List OneRow) → packets_of rows ≡ packets_in sent.items
+        ensures heard { IfOk result (λ heard. (seed : ℕ) (rows : List OneRow)
+            → packets_of rows ≡ packets_in (all_in sent.items)
             → HearsInSomeOrder M.plain (setting_on session.entry seed) rows self heard) }
     {
         if sent.is_empty() {
             return Ok(self);
         }
         let Groups { cut, groups, .. } = self;
-        let sent = in_order_of_sending(sent)?;
+        let sent = sent_in_turn(alloc, sent)?;
         let groups = crew.hear(alloc, session, sent, groups)?;
         let soon = soonest_of_each(alloc, session, groups.as_slice(), cut)?;
         Ok(Groups { cut, groups, soon })

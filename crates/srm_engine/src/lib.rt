@@ -10,6 +10,7 @@ pub mod fault;
 mod groups;
 mod halt;
 mod handing;
+mod in_turn;
 mod keep_rows;
 pub mod kept_laws;
 pub mod kept_rows;

@@ -50,20 +50,21 @@ impl<'a, S: RowSink> RowSink for MergedRows<'a, S> {
 impl<'a, S: RowSink> KeptSink<Vec<Row>> for MergedRows<'a, S> {
     ghost use Rattle.std.specs.Prelude.{◌≡◌, ◌<◌, ◌+◌, ◌-◌, ◌^◌, List, MatchResult};
     ghost use Rattle.srm_member.specs.declared.row.Row.{Row as OneRow};
-    ghost use Rattle.srm_interfaces.specs.Grouped.{all_in};
+    ghost use Rattle.srm_interfaces.specs.Grouped.{all_in, sizes};
     ghost use Rattle.srm_interfaces.specs.InTurn.{KeepInTurn};
     ghost use Rattle.srm_interfaces.specs.Sinks.{IsOpen, stage_after, stops_in};
     ghost use Rattle.srm_engine.specs.Kept.{stage_merged};
 
     ghost keeps = { λ list own. list.items ≡ own };
 
-    fn kept(&mut self, alloc: Global, groups: &[Vec<Vec<Row>>]) -> Result<(), SinkFault>
+    fn kept(&mut self, alloc: Global, groups: &mut [Vec<Vec<Row>>]) -> Result<(), SinkFault>
         requires open { IsOpen (stage_merged self.old.is_refused (S.stage self.old.sink.now)) }
         requires failures { S.failures self.old.sink.now < 2 ^ 64 - 1 }
         ensures same { (self.new.sink.ghost_name ≡ self.old.sink.ghost_name) × S.same self.old.sink.now self.new.sink.now }
         ensures stage { stage_merged self.new.is_refused (S.stage self.new.sink.now) ≡ stage_after result }
         ensures failures { S.failures self.new.sink.now ≡ S.failures self.old.sink.now + stops_in result }
-        ensures rows { (rows : List OneRow) → KeepInTurn (λ list own. list.items ≡ own) (all_in groups.now) rows
+        ensures each { sizes groups.new ≡ sizes groups.old }
+        ensures rows { (rows : List OneRow) → KeepInTurn (λ list own. list.items ≡ own) (all_in groups.old) rows
             → MatchResult result (λ _. S.took self.old.sink.now rows self.new.sink.now)
             (λ _. S.part self.old.sink.now rows self.new.sink.now) }
     {

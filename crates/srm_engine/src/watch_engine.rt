@@ -200,8 +200,8 @@ impl<'a, M: Participant, K: Drop> WatchEngine<'a, M, K> {
             → MatchResult result (λ _. S.took sink.old rows sink.new) (λ _. S.part sink.old rows sink.new) }
     {
         let WatchEngine { engine, kept } = self;
-        sink.kept(alloc, kept.as_slice())?;
         let mut kept = kept;
+        sink.kept(alloc, kept.as_mut_slice())?;
         clear_each(watch, kept.as_mut_slice());
         Ok(WatchEngine { engine, kept })
     }

@@ -3,6 +3,7 @@ ghost use Rattle.std.specs.Prelude.{◌≡◌, [], All, IfOk, length};
 ghost use Rattle.srm_engine.specs.Groups.{all_in, sizes};
 ghost use Rattle.srm_engine.specs.WatchedGroups.{watched_with, groups_in, kept_of, sent_of};
 
+use crate::sent::add_runs;
 use srm_cell::cell::Cell;
 use srm_cell::sent::Sent;
 use srm_interfaces::watch::Watch;
@@ -85,14 +86,15 @@ pub(crate) fn watched_jobs<M: Participant, K: Drop>(
     Ok(jobs)
 }
 
-/// What is done of each job, taken apart: the groups, what is kept of their cells, and all that was sent.
+/// What is done of each job, taken apart: the groups, what is kept of their cells, and all that was sent, in lists
+/// that stand in order.
 pub(crate) fn taken_apart<M: Participant, K: Drop>(
     alloc: Global,
     all: Vec<WatchedDone<M, K>>,
-) -> Result<(Vec<Vec<Cell<M>>>, Vec<Vec<K>>, Vec<Sent>), AllocError>
+) -> Result<(Vec<Vec<Cell<M>>>, Vec<Vec<K>>, Vec<Vec<Sent>>), AllocError>
     ensures groups { IfOk result (λ r. r.0.items ≡ groups_in all.items) }
     ensures kept { IfOk result (λ r. r.1.items ≡ kept_of all.items) }
-    ensures sent { IfOk result (λ r. r.2.items ≡ all_in (sent_of all.items)) }
+    ensures sent { IfOk result (λ r. all_in r.2.items ≡ all_in (sent_of all.items)) }
 {
     let mut groups = Vec::with_capacity(alloc, all.len())?;
     let mut each = Vec::with_capacity(alloc, all.len())?;
@@ -106,8 +108,7 @@ pub(crate) fn taken_apart<M: Participant, K: Drop>(
         } = done;
         groups.push(cells)?;
         each.push(kept)?;
-        let mut own = own;
-        sent.append(&mut own)?;
+        add_runs(alloc, own, &mut sent)?;
     }
     Ok((groups, each, sent))
 }

@@ -1,6 +1,7 @@
 -- What is kept of all members of rows that stand in order.
-use Rattle.std.specs.Prelude.{◌<◌, ◌≤◌, ◌^◌, ℕ, List, All, IsSorted, length}
+use Rattle.std.specs.Prelude.{◌<◌, ◌≤◌, ◌^◌, ℕ, List, All, length}
 use Rattle.srm_net.specs.Keys.{key_cmp}
+use Rattle.srm_net.specs.Orders.{Ascends}
 use Rattle.srm_member.specs.declared.row.Row.{Row}
 use Rattle.srm_interfaces.specs.Watches.{KeepMembers}
 
@@ -13,5 +14,5 @@ pub record HasTurn (members : ℕ) (r : Row) : Type 0 where
 pub record KeepInTurn {K : Type 0} (keeps : K → List Row → Type 0) (kept : List K) (rows : List Row) : Type 0 where
   pub few : length kept ≤ 2 ^ 16
   pub turns : All (HasTurn (length kept)) rows
-  pub in_order : IsSorted (λ q r. key_cmp q.key r.key) rows
+  pub rise : Ascends (λ q r. key_cmp q.key r.key) rows
   pub are : KeepMembers keeps 0 kept rows

@@ -15,7 +15,8 @@ use Rattle.srm_cell.specs.Crossings.{joined}
 use Rattle.srm_interfaces.specs.Watches.{KeepMembers}
 use Rattle.srm_interfaces.specs.InTurn.{HasTurn}
 use Rattle.srm_model.specs.World.{row_cmp}
-use Rattle.srm_model.proofs.SortedRows.{rows_rise}
+use Rattle.srm_member.proofs.OrderLemmas.{rises}
+use Rattle.srm_model.proofs.SortedRows.{rows_total}
 use Rattle.srm_report.specs.Listings.{Form, lines_in}
 use Rattle.srm_report.specs.KeptLines.{line_behind, lines_of, text_at, tick_texts, times_in}
 use Rattle.srm_report.specs.KeptLines.{AreLinesOf, AreTicksOf}
@@ -215,7 +216,7 @@ tick_lines : (f : Form) (t : ℕ) (rows : List Row) (lists : List (List (ℕ × 
 tick_lines f t rows lists are =
     let n = length lists in
     let member = λ (r : Row). r.key.member in
-    let rise = rows_rise rows are.in_order in
+    let rise = rises row_cmp rows_total rows are.rise in
     let few : AllIn (λ (r : Row). Contains (range_with_len 0 n) r.key.member) rows =
     AllIn-weaker (HasTurn n) (λ (r : Row). Contains (range_with_len 0 n) r.key.member)
     (λ r has. let low = has.member in range_has 0 n r.key.member (omega arith) (omega arith)) rows
@@ -304,4 +305,4 @@ ticks_are_lines f ts rows lists ticks are =
     ticks_from f ts rows lists are
     ∙ ap (lines_in f) (parts_are_whole (λ (r : Row). r.key.time) ts rows (rising ts ticks.in_order)
     (row_ticks (Contains ts) f rows lists are (AllIn-at_places (Contains ts) (times_in lists) ticks.among))
-    (times_climb rows (rows_rise rows are.in_order)))
+    (times_climb rows (rises row_cmp rows_total rows are.rise)))

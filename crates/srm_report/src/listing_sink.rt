@@ -1,7 +1,7 @@
 //! A table that lists rows, written as they come.
 ghost use Rattle.std.specs.Prelude.{◌≡◌, ◌<◌, ◌+◌, ◌-◌, ◌^◌, ◌≤◌, ◌==◌, ◌||◌, List, [], false, is_ok, not, if◌then◌else◌, length, IfOk};
 ghost use Rattle.srm_member.specs.declared.row.Row.{Row as R};
-ghost use Rattle.srm_interfaces.specs.Grouped.{all_in};
+ghost use Rattle.srm_interfaces.specs.Grouped.{all_in, sizes};
 ghost use Rattle.srm_report.specs.KeptLines.{AreLinesOf};
 ghost use Rattle.srm_report.specs.Pieces.{whole_text};
 ghost use Rattle.srm_report.specs.Standings.{text_next, after_answer, TakesText};
@@ -370,13 +370,14 @@ impl<'a, L: Listing, O: Outlet> KeptSink<Lines> for ListingSink<'a, L, O> {
     ghost keeps = { λ k rows. k ≡ lines_of L.form rows };
 
     /// Writes the lines of the rows that come next after those before, as `rows` does, of the lines of each member.
-    fn kept(&mut self, alloc: Global, groups: &[Vec<Lines>]) -> Result<(), SinkFault>
+    fn kept(&mut self, alloc: Global, groups: &mut [Vec<Lines>]) -> Result<(), SinkFault>
         requires open { IsOpen (stage_of self.old) }
         requires failures { O.failures (outlet_under self.old) < 2 ^ 64 - 1 }
         ensures same { AreOverOne self.old self.new }
         ensures stage { stage_of self.new ≡ stage_after result }
         ensures failures { O.failures (outlet_under self.new) ≡ O.failures (outlet_under self.old) + stops_in result }
-        ensures rows { (rows : List R) → AreLinesOf L.form rows (all_in groups.now)
+        ensures each { sizes groups.new ≡ sizes groups.old }
+        ensures rows { (rows : List R) → AreLinesOf L.form rows (all_in groups.old)
             → MatchResult result (λ _. PutsRows O.taken L.form self.old rows self.new)
             (λ _. PutsPart O.taken L.form self.old rows self.new) }
         ensures left { LeavesOutlet self.old result self.new }

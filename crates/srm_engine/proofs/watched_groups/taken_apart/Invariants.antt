@@ -10,4 +10,4 @@ invariant-loop-done g l =
     × (goal.iterator-loop-done g).is_finite l.done-iterator
     × (l.groups.items ++ groups_in (into_iter_items l.done-iterator) ≡ groups_in l.fn.all.items)
     × (l.each.items ++ kept_of (into_iter_items l.done-iterator) ≡ kept_of l.fn.all.items)
-    × (l.sent.items ++ all_in (sent_of (into_iter_items l.done-iterator)) ≡ all_in (sent_of l.fn.all.items))
+    × (all_in l.sent.items ++ all_in (sent_of (into_iter_items l.done-iterator)) ≡ all_in (sent_of l.fn.all.items))

@@ -36,20 +36,20 @@ returns-then-is_empty-clause-heard g c = λ seed rows is.
     let none : c.args.sent.items ≡ [] = no_items c.args.sent.len c.args.sent.items c.args.sent.ok.0
     (sym c.is_empty.ensures ∙ c.if-is_empty.true) in (
       [],
-      subst (λ ps. IsPermutation ps []) (sym (is ∙ ap packets_in none)) (IsPermutation-refl []),
+      subst (λ ps. IsPermutation ps []) (sym (is ∙ ap (λ ls. packets_in (all_in ls)) none)) (IsPermutation-refl []),
       λ h. (h, sym (packets_are_heard_in_turn s (cells_of g.M.Participant.plain c.args.self)).0),
     )
 
 pub hear-requires-clause-sent : goal.hear-requires-clause-sent
 hear-requires-clause-sent g c =
-    All-permutation (λ (x : Sent). IsSent c.args.session.scenario.now c.args.session.net.now x) c.args.sent.items
+    All-permutation (λ (x : Sent). IsSent c.args.session.scenario.now c.args.session.net.now x) (all_in c.args.sent.items)
     c.in_ok-sent.sent.items c.in_ok-sent.ensures c.requires.sent
 
 pub hear-requires-clause-groups : goal.hear-requires-clause-groups
 hear-requires-clause-groups g c =
     let may = c.requires.may.3 in
     let s = setting_on c.args.session c.requires.may.0 in
-    let others = in_order c.requires.may.1 c.args.sent.items c.in_ok-sent.sent.items c.requires.may.2 c.in_ok-sent.ensures in
+    let others = in_order c.requires.may.1 (all_in c.args.sent.items) c.in_ok-sent.sent.items c.requires.may.2 c.in_ok-sent.ensures in
     subst (λ ps. GroupsMayHear g.M.Participant.plain s.traffic ps c.args.self.groups.items) others.2
     (groups_may g.M.Participant.plain s others.0 c.args.self.groups.items may.kept.grouped.order may.members (may.new others.0 others.1))
 
@@ -87,7 +87,7 @@ returns-clause-heard g c = λ seed from is.
     let gs = c.args.self.groups.items in
     let hs = c.in_ok-groups.groups.items in
     let cut = c.args.self.cut in
-    let others = in_order from c.args.sent.items c.in_ok-sent.sent.items is c.in_ok-sent.ensures in
+    let others = in_order from (all_in c.args.sent.items) c.in_ok-sent.sent.items is c.in_ok-sent.ensures in
     let rows = others.0 in
     let heard = subst (λ (ps : List Packet). GroupsHear f s.traffic ps gs hs) (sym others.2) c.in_ok-groups.ensures.heard in (
       rows,

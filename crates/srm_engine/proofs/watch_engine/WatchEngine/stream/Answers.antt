@@ -100,7 +100,7 @@ returns-in-Err-handed_on-clause-windows g c = λ seed h.
     let rows = told.2.0 in
     let kept = told.2.3 [] v.none in
     let turn = kept_in_turn f g.S.KeptSink.keeps ended c.in-Ok.ensures.stands seed (i.0 ++ i.1 ∷ []) u told.1 i.1.trace rows
-    told.2.1 told.2.2 (keep_as keeps g.S.KeptSink.keeps c.requires.keeps 0 (kept_by ended) rows kept) in
+    told.2.1 (keep_as keeps g.S.KeptSink.keeps c.requires.keeps 0 (kept_by ended) rows kept) in
     subst (λ (k : Session × ℕ × Ends). TellsHalt g.S.RowSink.took g.S.RowSink.part
     (MayCome (setting_on k.0 seed) (ends_rule (setting_on k.0 seed) k.2) k.1) (setting_on k.0 seed)
     c.args.sink.now (Sink c.in-Err-handed_on.fault) c.handed_on.new.sink) v.frame
@@ -146,7 +146,7 @@ loop-begin-preserved g c =
           let told = both.0 in
           let rows = told.2.0 in
           let turn = kept_in_turn f g.S.KeptSink.keeps ended done.stands seed (i.0 ++ i.1 ∷ []) told.0 told.1 i.1.trace rows
-          told.2.1 told.2.2 (keep_as keeps g.S.KeptSink.keeps c.requires.keeps 0 (kept_by ended) rows (told.2.3 [] v.none)) in
+          told.2.1 (keep_as keeps g.S.KeptSink.keeps c.requires.keeps 0 (kept_by ended) rows (told.2.3 [] v.none)) in
           let rule = rule_by e seed in
           let calls = subst (λ l. g.C.WatchCrew.handed c.args.crew.now l c.window.new.crew)
           (sym ((calls_follow rule e.groups.cut).1 i.0 i.1))
