@@ -19,7 +19,7 @@ use Rattle.srm_model.proofs.RunLemmas.{Seq, rest, next}
 use Rattle.srm_model.proofs.StrictRuns.{keys_rise}
 use Rattle.srm_model.proofs.Sequential.{Good, good_reached, good_step, member_below, step_facts}
 use Rattle.srm_engine.specs.declared.halt.Halt.TheVariants as halt
-use Rattle.srm_engine.specs.declared.window_fault.WindowFault.{WindowFault}
+use Rattle.srm_engine.specs.declared.fault.RunFault.{RunFault}
 use Rattle.srm_engine.specs.declared.watch_engine.WatchEngine.{WatchEngine}
 use Rattle.srm_engine.specs.Streams.{TellsHalt}
 use Rattle.srm_engine.specs.WatchEngines.{IsWatching, KeepsRows, kept_by}
@@ -97,7 +97,7 @@ kept_in_turn f keeps e is seed begins w comes front rows grown kept =
 -- where a sink stops as it is handed what is kept of a window, it took no more than a front of the trace
 pub kept_stopped : {S : Type 0} (took part : S → List Row → S → Type 0)
     → ((a b c : S) (xs ys : List Row) → took a xs b → part b ys c → part a (xs ++ ys) c)
-    → (s : Setting) (may : World → WindowFault → Type 0) (rows : List Row) (from sink to : S) (w u : World)
+    → (s : Setting) (may : World → RunFault → Type 0) (rows : List Row) (from sink to : S) (w u : World)
     → took from w.trace sink → IsReached s u → u.trace ≡ w.trace ++ rows
     → (x : SinkFault) → part sink rows to → TellsHalt took part may s from (halt.Sink x) to
 kept_stopped took part more s may rows from sink to w u so_far later grown x h =

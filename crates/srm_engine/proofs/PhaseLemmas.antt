@@ -9,8 +9,9 @@ use Rattle.srm_cell.specs.declared.fault.CellFault.TheVariants as cell
 use Rattle.srm_cell.specs.Cells.{PlainCell, StepOutcome, Stepped}
 use Rattle.srm_cell.specs.Views.{HasWork, Refuses, plain_cell}
 use Rattle.srm_model.specs.World.{World, step, after_step, exit_at, exits_of}
-use Rattle.srm_engine.specs.Faults.{step_fault_of}
-use Rattle.srm_engine.specs.declared.step_fault.StepFault.{StepFault}
+use Rattle.srm_interfaces.specs.Faults.{crew_fault_of}
+use Rattle.srm_engine.specs.Faults.{run_fault_of}
+use Rattle.srm_engine.specs.declared.fault.RunFault.{RunFault}
 use Rattle.srm_engine.specs.Engines.{MayRefuseStep}
 use Rattle.srm_engine.specs.Outcomes.{ends_of}
 use Rattle.srm_engine.specs.Seen.{AreCellsInOrder, plain_cells}
@@ -18,7 +19,7 @@ use Rattle.srm_cell.specs.declared.cell.Cell.{Cell}
 use Rattle.srm_model.proofs.RunLemmas.{after_full}
 
 -- a cell's refusal, but where its member left, is one of a step
-pub of_a_step : (x : CellFault) → x ≢ cell.Spent → IsSome (step_fault_of x)
+pub of_a_step : (x : CellFault) → x ≢ cell.Spent → IsSome (run_fault_of (crew_fault_of x))
 of_a_step cell.NoMemory ne = refl
 of_a_step cell.CountFull ne = refl
 of_a_step cell.Spent ne = absurd (ne refl)
@@ -29,8 +30,8 @@ unfolding after_step
 work_stays s w m o h = grind arith
 
 -- what a member's refused step tells of the step of the run
-pub refused : (s : Setting) (w : World) (m : ℕ) (o : StepOutcome Stepped) (x : CellFault) (y : StepFault)
-    → step_fault_of x ≡ Some y → Refuses o x → step s w ≡ after_step s w m o → MayRefuseStep (step s w) y
+pub refused : (s : Setting) (w : World) (m : ℕ) (o : StepOutcome Stepped) (x : CellFault) (y : RunFault)
+    → run_fault_of (crew_fault_of x) ≡ Some y → Refuses o x → step s w ≡ after_step s w m o → MayRefuseStep (step s w) y
 refused s w m o x y is h e = grind (arith, work_stays, after_full)
 
 module _ {M : Type 0} where

@@ -14,15 +14,13 @@ use Rattle.srm_engine.specs.declared.engine.Engine.{Engine}
 use Rattle.srm_engine.specs.declared.fault.RunFault.TheVariants as fault
 use Rattle.srm_engine.specs.declared.stream_fault.StreamFault.{StreamFault}
 use Rattle.srm_engine.specs.declared.stream_fault.StreamFault.TheVariants.{Run, Stopped}
-use Rattle.srm_engine.specs.declared.step_fault.StepFault.{StepFault}
-use Rattle.srm_engine.specs.declared.step_fault.StepFault.TheVariants as step_fault
+use Rattle.srm_engine.specs.declared.fault.RunFault.{RunFault}
 use Rattle.srm_interfaces.specs.declared.sink.SinkFault.TheVariants as sink
 use Rattle.srm_interfaces.specs.declared.sink.Stage.{Stage}
 use Rattle.srm_model.specs.World.{World, IsReached, step}
 use Rattle.srm_scenario.specs.declared.session.Session.{Session}
 use Rattle.srm_engine.specs.Starts.{setting_on}
 use Rattle.srm_engine.specs.Engines.{MayRefuseStep, HasCounted, traffic_in}
-use Rattle.srm_engine.specs.Faults.{step_refused}
 use Rattle.srm_interfaces.specs.Sinks.{most_rows, stage_after, stops_in}
 use Rattle.srm_engine.specs.Outcomes.{MayRefuseRun}
 use Rattle.srm_engine.specs.Streams.{sink_in, stream_fault_of, run_fault_in, stopped_in, MayStop, MeetsRefusal, TakesTraceFront}
@@ -37,18 +35,20 @@ told_why A n (Run e) h = refl
 told_why A n (Stopped k) h = absurd (omega arith)
 
 -- how a sink stands once steps were halted is what is told of it
-pub halt_stands : (A B : Type 0) (x : Halt StepFault) (at : Stage) → at ≡ stage_after (sink_in {A = B} (Err x))
-    → StandsAs {A = A} (Err (stream_fault_of step_refused x)) at
-halt_stands A B (halt.Run step_fault.NoMemory) at e = tt
-halt_stands A B (halt.Run step_fault.CountFull) at e = e
+pub halt_stands : (A B : Type 0) (x : Halt) (at : Stage) → at ≡ stage_after (sink_in {A = B} (Err x))
+    → StandsAs {A = A} (Err (stream_fault_of x)) at
+halt_stands A B (halt.Run fault.NoMemory) at e = tt
+halt_stands A B (halt.Run fault.CountFull) at e = e
+halt_stands A B (halt.Run fault.ShareFull) at e = e
+halt_stands A B (halt.Run fault.BadCut) at e = tt
+halt_stands A B (halt.Run fault.BadWidth) at e = tt
 halt_stands A B (halt.Sink sink.NoMemory) at e = tt
 halt_stands A B (halt.Sink (sink.Stopped n)) at e = e
 
 -- so are the failures of its device
-pub halt_stops : (A B : Type 0) (x : Halt StepFault)
-    → stops_in (sink_in {A = B} (Err x)) ≡ stopped_in {A = A} (Err (stream_fault_of step_refused x))
-halt_stops A B (halt.Run step_fault.NoMemory) = refl
-halt_stops A B (halt.Run step_fault.CountFull) = refl
+pub halt_stops : (A B : Type 0) (x : Halt)
+    → stops_in (sink_in {A = B} (Err x)) ≡ stopped_in {A = A} (Err (stream_fault_of x))
+halt_stops A B (halt.Run e) = refl
 halt_stops A B (halt.Sink sink.NoMemory) = refl
 halt_stops A B (halt.Sink (sink.Stopped n)) = refl
 
@@ -58,11 +58,14 @@ pub countable : (before rows all : List Row) → all ≡ before ++ rows → leng
 countable before rows all e few short = omega (arith, ap length e, length-append before rows)
 
 -- a step that may be refused in a world that steps from an earlier one led to, or in that one
-pub not_stepped : (most : ℕ) (s : Setting) (w v : World) (rows : List Row) (x : StepFault) → IsReached s v → v.trace ≡ w.trace ++ rows
+pub not_stepped : (most : ℕ) (s : Setting) (w v : World) (rows : List Row) (x : RunFault) → IsReached s v → v.trace ≡ w.trace ++ rows
     → length rows < most → (v ≡ w) ⊎ HasWork (step s w) → MayRefuseStep (step s v) x → MayStop most s w x
-not_stepped most s w v rows step_fault.NoMemory r e few (inl is) h = inl (subst (λ (x : World). HasWork (step s x)) is h)
-not_stepped most s w v rows step_fault.NoMemory r e few (inr work) h = inl work
-not_stepped most s w v rows step_fault.CountFull r e few h5 h = (v, rows, r, e, few, h)
+not_stepped most s w v rows fault.NoMemory r e few (inl is) h = inl (subst (λ (x : World). HasWork (step s x)) is h)
+not_stepped most s w v rows fault.NoMemory r e few (inr work) h = inl work
+not_stepped most s w v rows fault.CountFull r e few h5 h = (v, rows, r, e, few, h)
+not_stepped most s w v rows fault.ShareFull r e few h5 h = absurd h
+not_stepped most s w v rows fault.BadCut r e few h5 h = absurd h
+not_stepped most s w v rows fault.BadWidth r e few h5 h = absurd h
 
 -- where a step was taken, the first of them was
 pub stepped_from : (s : Setting) (w v u : World) → step s v ≡ Done u → (v ≡ w) ⊎ HasWork (step s w) → HasWork (step s w)
@@ -79,16 +82,19 @@ front_taken took part none more a b rows h =
 module _ {S : Type 0} (took part : S → List Row → S → Type 0) where
   -- where not all rows were handed on, a front was
   pub halted_front : ((a : S) → part a [] a) → ((a b c : S) (xs ys : List Row) → took a xs b → part b ys c → part a (xs ++ ys) c)
-      → {F : Type 0} (may : World → F → Type 0) (s : Setting) (old : S) (x : Halt F) (new : S) → TellsHalt took part may s old x new
+      → (may : World → RunFault → Type 0) (s : Setting) (old : S) (x : Halt) (new : S) → TellsHalt took part may s old x new
       → TakesTraceFront took part s old new
   halted_front none more may s old (halt.Run e) new h = (h.0, h.1, front_taken took part none more old new h.0.trace h.2)
   halted_front none more may s old (halt.Sink e) new h = h
 
   -- when a run that is not cut into windows, and hands its rows on, is refused
-  pub halts_refuse : (s : Setting) (old : S) (x : Halt StepFault) (new : S) → TellsHalt took part (MayStop most_rows s) s old x new
-      → MeetsRefusal took part s old (stream_fault_of step_refused x) new
-  halts_refuse s old (halt.Run step_fault.NoMemory) new h = tt
-  halts_refuse s old (halt.Run step_fault.CountFull) new h = h
+  pub halts_refuse : (s : Setting) (old : S) (x : Halt) (new : S) → TellsHalt took part (MayStop most_rows s) s old x new
+      → MeetsRefusal took part s old (stream_fault_of x) new
+  halts_refuse s old (halt.Run fault.NoMemory) new h = tt
+  halts_refuse s old (halt.Run fault.CountFull) new h = h
+  halts_refuse s old (halt.Run fault.ShareFull) new h = absurd h.3
+  halts_refuse s old (halt.Run fault.BadCut) new h = absurd h.3
+  halts_refuse s old (halt.Run fault.BadWidth) new h = absurd h.3
   halts_refuse s old (halt.Sink sink.NoMemory) new h = tt
   halts_refuse s old (halt.Sink (sink.Stopped n)) new h = tt
 
@@ -108,11 +114,14 @@ module _ {S : Type 0} (took part : S → List Row → S → Type 0) where
   uncalled stage may_lack s old x e = inl refl
 
   -- what was left undone where such a run is refused memory
-  pub steps_undone : (stage : S → Stage) (A : Type 0) (s : Setting) (old : S) (x : Halt StepFault) (new : S)
+  pub steps_undone : (stage : S → Stage) (A : Type 0) (s : Setting) (old : S) (x : Halt) (new : S)
       → TellsHalt took part (MayStop most_rows s) s old x new → stage new ≡ stage_after (sink_in {A = A} (Err x))
-      → UndoneAfter stage took part (MayLackSteps s) s old (stream_fault_of step_refused x) new
-  steps_undone stage A s old (halt.Run step_fault.NoMemory) new h at e = inr (inl h)
-  steps_undone stage A s old (halt.Run step_fault.CountFull) new h at e = cc
+      → UndoneAfter stage took part (MayLackSteps s) s old (stream_fault_of x) new
+  steps_undone stage A s old (halt.Run fault.NoMemory) new h at e = inr (inl h)
+  steps_undone stage A s old (halt.Run fault.CountFull) new h at e = cc
+  steps_undone stage A s old (halt.Run fault.ShareFull) new h at e = absurd h.3
+  steps_undone stage A s old (halt.Run fault.BadCut) new h at e = absurd h.3
+  steps_undone stage A s old (halt.Run fault.BadWidth) new h at e = absurd h.3
   steps_undone stage A s old (halt.Sink sink.NoMemory) new h at e = inr (inr (at, h))
   steps_undone stage A s old (halt.Sink (sink.Stopped n)) new h at e = cc
 

@@ -18,9 +18,8 @@ use Rattle.srm_engine.specs.Groups.{all_in, sizes, jobs_with, groups_of, lists_o
 use Rattle.srm_engine.specs.WatchedGroups.{watched_with, groups_in, kept_of, sent_of}
 use Rattle.srm_engine.specs.WatchEngines.{IsWatching, kept_by}
 use Rattle.srm_engine.specs.WindowEngines.{ComesTo, EndsNext}
-use Rattle.srm_engine.specs.declared.window_fault.WindowFault.{WindowFault}
-use Rattle.srm_engine.specs.declared.window_fault.WindowFault.TheVariants as window
-use Rattle.srm_engine.specs.Faults.{run_fault_of}
+use Rattle.srm_engine.specs.declared.fault.RunFault.{RunFault}
+use Rattle.srm_engine.specs.declared.fault.RunFault.TheVariants as fault
 use Rattle.srm_engine.specs.Windowed.{MayCome}
 use Rattle.srm_engine.specs.WindowWatches.{MeetsWatchRefusal}
 use Rattle.srm_engine.proofs.JobLemmas.{joined_some, sizes_kept}
@@ -87,8 +86,10 @@ module _ {M K : Type 0} (f : M → Record) (keeps : K → List Row → Type 0) (
 -- ---- a run
 
 -- when a run is refused one of whose windows is
-pub refused_so : {C : Type 0} (s : Setting) (rule : World → ℕ) (cut : ℕ) (old new : C) (x : WindowFault)
-    → ((w : World) × MayCome s rule cut w x) → MeetsWatchRefusal s rule cut old (run_fault_of x) new
-refused_so s rule cut old new window.NoMemory h = tt
-refused_so s rule cut old new window.CountFull h = h
-refused_so s rule cut old new window.ShareFull h = h
+pub refused_so : {C : Type 0} (s : Setting) (rule : World → ℕ) (cut : ℕ) (old new : C) (x : RunFault)
+    → ((w : World) × MayCome s rule cut w x) → MeetsWatchRefusal s rule cut old x new
+refused_so s rule cut old new fault.NoMemory h = tt
+refused_so s rule cut old new fault.CountFull h = h
+refused_so s rule cut old new fault.ShareFull h = h
+refused_so s rule cut old new fault.BadCut h = absurd h.1.2
+refused_so s rule cut old new fault.BadWidth h = absurd h.1.2

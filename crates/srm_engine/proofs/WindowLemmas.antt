@@ -30,11 +30,10 @@ use Rattle.srm_interfaces.specs.declared.fault.CrewFault.TheVariants as crew
 use Rattle.srm_interfaces.specs.Watches.{KeepEach, KeepMembers}
 use Rattle.srm_interfaces.specs.Crews.{AreDone, AnyEnds, AreRowsOfSome, Maps, HasGrown, IsPast, rows_of, counted_in, plain_jobs}
 use Rattle.srm_engine.specs.declared.window_engine.WindowEngine.{WindowEngine}
-use Rattle.srm_engine.specs.declared.window_fault.WindowFault.{WindowFault}
-use Rattle.srm_engine.specs.declared.window_fault.WindowFault.TheVariants as window
 use Rattle.srm_engine.specs.declared.cutting.Cutting.{Cutting}
 use Rattle.srm_engine.specs.declared.width.Windows.{Windows}
 use Rattle.srm_engine.specs.declared.fault.RunFault.{RunFault}
+use Rattle.srm_engine.specs.declared.fault.RunFault.TheVariants as fault
 use Rattle.srm_engine.specs.declared.stream_fault.StreamFault.{StreamFault}
 use Rattle.srm_engine.specs.declared.stream_fault.StreamFault.TheVariants.{Run, Stopped}
 use Rattle.srm_engine.specs.declared.halt.Halt.{Halt}
@@ -54,7 +53,7 @@ use Rattle.srm_engine.specs.Ends.{MayEnd, TellsCutting, end_from, ends_rule}
 use Rattle.srm_engine.specs.declared.ends.Ends.TheVariants.{After, Promised}
 use Rattle.srm_engine.specs.Seen.{plain_cells}
 use Rattle.srm_engine.specs.Soonest.{first_promise}
-use Rattle.srm_engine.specs.Faults.{window_fault_of, run_fault_of}
+use Rattle.srm_engine.specs.Faults.{run_fault_of}
 use Rattle.srm_engine.specs.Streams.{sink_in, TellsHalt, stream_fault_of, run_fault_in}
 use Rattle.srm_scenario.specs.declared.session.Session.{Session}
 use Rattle.srm_engine.specs.Starts.{setting_on}
@@ -95,14 +94,14 @@ pub record JobsTell {M : Type 0} (f : M → Record) (e : WindowEngine M) (seed t
   pub seen : plain_jobs f js ≡ jobs_of e.groups.cut till w
   pub not_spent : AnyEnds Spent (jobs_of e.groups.cut till w) → ⊥
   pub full : AnyEnds Full (jobs_of e.groups.cut till w)
-      → MayRefuseWindow (setting_by e seed) (rule_by e seed w) e.groups.cut w window.CountFull
+      → MayRefuseWindow (setting_by e seed) (rule_by e seed w) e.groups.cut w fault.CountFull
   pub past : ((rows : List Row) × AreRowsOfSome (jobs_of e.groups.cut till w) rows
       × IsPast (counted_in (crossings (setting_by e seed).traffic rows)) e.seat)
-      → MayRefuseWindow (setting_by e seed) (rule_by e seed w) e.groups.cut w window.ShareFull
-  pub pending : MayRefuseWindow (setting_by e seed) (rule_by e seed w) e.groups.cut w window.NoMemory
+      → MayRefuseWindow (setting_by e seed) (rule_by e seed w) e.groups.cut w fault.ShareFull
+  pub pending : MayRefuseWindow (setting_by e seed) (rule_by e seed w) e.groups.cut w fault.NoMemory
 
 -- a crew's refusal, but for a member that left, is one of a window
-pub of_a_window : (x : CrewFault) → x ≢ crew.Spent → IsSome (window_fault_of x)
+pub of_a_window : (x : CrewFault) → x ≢ crew.Spent → IsSome (run_fault_of x)
 of_a_window crew.NoMemory ne = refl
 of_a_window crew.ShareFull ne = refl
 of_a_window crew.CountFull ne = refl
@@ -110,7 +109,7 @@ of_a_window crew.Spent ne = absurd (ne refl)
 
 -- what a crew's refusal tells of the window
 pub map_refused : {M : Type 0} (f : M → Record) (e : WindowEngine M) (seed till : ℕ) (w : World)
-    (js : List (Job M)) → JobsTell f e seed till w js → (x : CrewFault) (y : WindowFault) → window_fault_of x ≡ Some y
+    (js : List (Job M)) → JobsTell f e seed till w js → (x : CrewFault) (y : RunFault) → run_fault_of x ≡ Some y
     → Maps f e.session.scenario.now e.session.net.now e.seat js (Err x)
     → MayRefuseWindow (setting_by e seed) (rule_by e seed w) e.groups.cut w y
 map_refused f e seed till w js j x y is h = grind arith
@@ -345,28 +344,32 @@ asked_told A net asked (Stopped n) e is h = cc
 
 -- when a run in windows that hands its rows on is refused
 pub halts_refuse : {C S : Type 0} (took part : S → List Row → S → Type 0) (s : Setting) (rule : World → ℕ) (n : ℕ) (old : C) (from : S)
-    (x : Halt WindowFault) (to : S) (new : C) → TellsHalt took part (MayCome s rule n) s from x to
-    → MeetsWindowRefusal s rule n old (stream_fault_of run_fault_of x) new
+    (x : Halt) (to : S) (new : C) → TellsHalt took part (MayCome s rule n) s from x to
+    → MeetsWindowRefusal s rule n old (stream_fault_of x) new
 halts_refuse took part s rule n old from x to new h = grind arith
 
 -- where such a run is refused for what it counts, the sink took the rows up to that window
 pub refused_at_window : {S : Type 0} (took part : S → List Row → S → Type 0) (s : Setting) (rule : World → ℕ) (n : ℕ) (from : S)
-    (x : Halt WindowFault) (to : S) → TellsHalt took part (MayCome s rule n) s from x to
-    → RefusedAtWindow took part s rule n from (stream_fault_of run_fault_of x) to
-refused_at_window took part s rule n from (halt.Run window.NoMemory) to h = tt
-refused_at_window took part s rule n from (halt.Run window.CountFull) to h = h
-refused_at_window took part s rule n from (halt.Run window.ShareFull) to h = h
+    (x : Halt) (to : S) → TellsHalt took part (MayCome s rule n) s from x to
+    → RefusedAtWindow took part s rule n from (stream_fault_of x) to
+refused_at_window took part s rule n from (halt.Run fault.NoMemory) to h = tt
+refused_at_window took part s rule n from (halt.Run fault.CountFull) to h = h
+refused_at_window took part s rule n from (halt.Run fault.ShareFull) to h = h
+refused_at_window took part s rule n from (halt.Run fault.BadCut) to h = tt
+refused_at_window took part s rule n from (halt.Run fault.BadWidth) to h = tt
 refused_at_window took part s rule n from (halt.Sink sink.NoMemory) to h = tt
 refused_at_window took part s rule n from (halt.Sink (sink.Stopped k)) to h = tt
 
 -- what was left undone where such a run is refused memory
 pub windows_undone : {S : Type 0} (took part : S → List Row → S → Type 0) (stage : S → Stage) (A : Type 0) (s : Setting)
-    (net : Network) (asked : Windows) (from : S) (x : Halt WindowFault) (to : S)
+    (net : Network) (asked : Windows) (from : S) (x : Halt) (to : S)
     → TellsHalt took part (MayCome s (rule_of s net asked.width) asked.cut) s from x to → stage to ≡ stage_after (sink_in {A = A} (Err x))
-    → UndoneAfter stage took part (MayLackWindow s net asked) s from (stream_fault_of run_fault_of x) to
-windows_undone took part stage A s net asked from (halt.Run window.NoMemory) to h at e = inr (inl h)
-windows_undone took part stage A s net asked from (halt.Run window.CountFull) to h at e = cc
-windows_undone took part stage A s net asked from (halt.Run window.ShareFull) to h at e = cc
+    → UndoneAfter stage took part (MayLackWindow s net asked) s from (stream_fault_of x) to
+windows_undone took part stage A s net asked from (halt.Run fault.NoMemory) to h at e = inr (inl h)
+windows_undone took part stage A s net asked from (halt.Run fault.CountFull) to h at e = cc
+windows_undone took part stage A s net asked from (halt.Run fault.ShareFull) to h at e = cc
+windows_undone took part stage A s net asked from (halt.Run fault.BadCut) to h at e = cc
+windows_undone took part stage A s net asked from (halt.Run fault.BadWidth) to h at e = cc
 windows_undone took part stage A s net asked from (halt.Sink sink.NoMemory) to h at e = inr (inr (at, h))
 windows_undone took part stage A s net asked from (halt.Sink (sink.Stopped k)) to h at e = cc
 

@@ -6,10 +6,10 @@ use Rattle.srm_cell.specs.Setting.{Setting, setting_of}
 use Rattle.srm_options.specs.declared.width.Width.{Width}
 use Rattle.srm_engine.specs.declared.width.Windows.{Windows}
 use Rattle.srm_engine.specs.declared.cutting.Cutting.{Cutting}
-use Rattle.srm_engine.specs.declared.cutting.CuttingFault.{CuttingFault}
-use Rattle.srm_engine.specs.declared.cutting.CuttingFault.TheVariants as cutting
 use Rattle.srm_engine.specs.declared.ends.Ends.{Ends}
 use Rattle.srm_engine.specs.declared.ends.Ends.TheVariants.{After, Promised}
+use Rattle.srm_engine.specs.declared.fault.RunFault.{RunFault}
+use Rattle.srm_engine.specs.declared.fault.RunFault.TheVariants as fault
 use Rattle.srm_engine.specs.declared.soonest.Soonest.{Soonest}
 use Rattle.srm_model.specs.World.{World}
 use Rattle.srm_model.specs.Windows.{IsWidth, promise_end}
@@ -49,7 +49,8 @@ MayCut net c = IsCut c.cut × MayEnd net c.ends
 
 -- what is told where a run is to be cut so: how it is cut; or that a job may not have so many cells, or else that
 -- windows may not be so wide
-abbrev pub TellsCutting : PlainScenario → Network → Windows → Result Cutting CuttingFault → Type 0
+abbrev pub TellsCutting : PlainScenario → Network → Windows → Result Cutting RunFault → Type 0
 TellsCutting p net asked (Ok c) = IsCut c.cut × (c.cut ≡ asked.cut) × TellsRule p net asked.width (Some c.ends)
-TellsCutting p net asked (Err cutting.BadCut) = ¬ IsCut asked.cut
-TellsCutting p net asked (Err cutting.BadWidth) = IsCut asked.cut × ¬ MayBeWide net asked.width
+TellsCutting p net asked (Err fault.BadCut) = ¬ IsCut asked.cut
+TellsCutting p net asked (Err fault.BadWidth) = IsCut asked.cut × ¬ MayBeWide net asked.width
+TellsCutting p net asked (Err e) = ⊥

@@ -9,8 +9,8 @@ use Rattle.srm_cell.specs.Cells.{StepOutcome, Idle, Full, Done}
 use Rattle.srm_cell.specs.Tallies.{Tallies}
 use Rattle.srm_cell.specs.Views.{HasWork}
 use Rattle.srm_engine.specs.declared.engine.Engine.{Engine}
-use Rattle.srm_engine.specs.declared.step_fault.StepFault.{StepFault}
-use Rattle.srm_engine.specs.declared.step_fault.StepFault.TheVariants as fault
+use Rattle.srm_engine.specs.declared.fault.RunFault.{RunFault}
+use Rattle.srm_engine.specs.declared.fault.RunFault.TheVariants as fault
 use Rattle.srm_model.specs.World.{World, IsReached, step, opening}
 use Rattle.srm_model.specs.Hearing.{IsUnheard, all_hear}
 use Rattle.srm_engine.specs.Seen.{AreWhole, ShowCells, shown_in}
@@ -18,9 +18,10 @@ use Rattle.srm_model.specs.Totalled.{and_sent, MaySend}
 use Rattle.srm_net.specs.Limits.{end_of_time}
 
 -- when a step with this outcome may be refused: memory may be only where there is a step to take
-abbrev pub MayRefuseStep : StepOutcome World → StepFault → Type 0
+abbrev pub MayRefuseStep : StepOutcome World → RunFault → Type 0
 MayRefuseStep o fault.NoMemory = HasWork o
 MayRefuseStep o fault.CountFull = o ≡ Full
+MayRefuseStep o e = ⊥
 
 module _ {M : Type 0} where
   -- the traffic of an engine's scenario and network
@@ -45,7 +46,7 @@ module _ {M : Type 0} where
   MayStep f e = (seed : ℕ) × (w : World) × IsReached (setting_in e seed) w × Shows f e w × (length w.trace + 3 < 2 ^ 64)
 
   -- what the step with this outcome tells: it is over, or the row that it adds; or why it is refused
-  abbrev pub TellsWorld : (M → Record) → World → StepOutcome World → Result (Option Row) StepFault
+  abbrev pub TellsWorld : (M → Record) → World → StepOutcome World → Result (Option Row) RunFault
       → Engine M → Type 0
   TellsWorld f w o (Ok None) after = (o ≡ Idle) × Shows f after w
   TellsWorld f w o (Ok (Some row)) after =
@@ -53,7 +54,7 @@ module _ {M : Type 0} where
   TellsWorld f w o (Err e) after = MayRefuseStep o e
 
   -- so of whatever world the engine is seen as, with every seed
-  abbrev pub StepsOn : (M → Record) → Engine M → Result (Option Row) StepFault → Engine M → Type 0
+  abbrev pub StepsOn : (M → Record) → Engine M → Result (Option Row) RunFault → Engine M → Type 0
   StepsOn f old r new = (seed : ℕ) (w : World) → Shows f old w → TellsWorld f w (step (setting_in old seed) w) r new
 
   -- a packet, if any, may be sent: it is new to all cells, and the packets so far are few enough to be counted

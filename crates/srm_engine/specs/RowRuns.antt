@@ -9,7 +9,6 @@ use Rattle.srm_interfaces.specs.declared.sink.SinkFault.TheVariants as sink
 use Rattle.srm_interfaces.specs.declared.sink.Stage.{Stage}
 use Rattle.srm_interfaces.specs.declared.sink.Stage.TheVariants.{Refused}
 use Rattle.srm_engine.specs.declared.fault.RunFault.TheVariants as fault
-use Rattle.srm_engine.specs.declared.window_fault.WindowFault.TheVariants as window
 use Rattle.srm_engine.specs.declared.stream_fault.StreamFault.{StreamFault}
 use Rattle.srm_engine.specs.declared.stream_fault.StreamFault.TheVariants.{Run}
 use Rattle.srm_model.specs.World.{World, IsLast, IsOutcome}
@@ -36,7 +35,7 @@ module _ {S : Type 0} (took part : S → List Row → S → Type 0) where
 
 -- memory may be refused to the window that begins in a world of a run, where windows end so and jobs are so large
 abbrev pub MayLackWindow : Setting → Network → Windows → World → Type 0
-MayLackWindow s net asked w = MayCome s (rule_of s net asked.width) asked.cut w window.NoMemory
+MayLackWindow s net asked w = MayCome s (rule_of s net asked.width) asked.cut w fault.NoMemory
 
 module _ {S : Type 0} (stage : S → Stage) (took part : S → List Row → S → Type 0) where
   -- where memory is refused to a run that hands its rows to a sink, it left something undone: the sink is as it was; or

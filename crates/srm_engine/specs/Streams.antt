@@ -17,8 +17,6 @@ use Rattle.srm_interfaces.specs.declared.sink.SinkFault.{SinkFault}
 use Rattle.srm_interfaces.specs.declared.sink.SinkFault.TheVariants as sink
 use Rattle.srm_interfaces.specs.declared.sink.Stage.{Stage}
 use Rattle.srm_interfaces.specs.declared.sink.Stage.TheVariants.{Live, Refused}
-use Rattle.srm_engine.specs.declared.step_fault.StepFault.{StepFault}
-use Rattle.srm_engine.specs.declared.step_fault.StepFault.TheVariants as step_fault
 use Rattle.srm_engine.specs.declared.stream_fault.StreamFault.{StreamFault}
 use Rattle.srm_engine.specs.declared.stream_fault.StreamFault.TheVariants.{Run, Stopped}
 use Rattle.srm_interfaces.specs.Sinks.{most_rows}
@@ -27,21 +25,17 @@ use Rattle.srm_engine.specs.Engines.{Shows, IsOpened, setting_in}
 
 -- ---- refusals
 
--- what a sink's refusal is to a run
-abbrev pub fault_of_sink : SinkFault → StreamFault
-fault_of_sink sink.NoMemory = Run fault.NoMemory
-fault_of_sink (sink.Stopped n) = Stopped n
-
 -- what a sink answered last in a run that ends so
-abbrev pub sink_in : {A F : Type 0} → Result A (Halt F) → Result (Unit {0}) SinkFault
+abbrev pub sink_in : {A : Type 0} → Result A Halt → Result (Unit {0}) SinkFault
 sink_in (Ok v) = Ok tt
 sink_in (Err (halt.Run e)) = Ok tt
 sink_in (Err (halt.Sink e)) = Err e
 
--- what a halt is to those who asked for the run, where a refusal of the run is this
-abbrev pub stream_fault_of : {F : Type 0} → (F → RunFault) → Halt F → StreamFault
-stream_fault_of told (halt.Run e) = Run (told e)
-stream_fault_of told (halt.Sink e) = fault_of_sink e
+-- what a halt is to those who asked for the run
+abbrev pub stream_fault_of : Halt → StreamFault
+stream_fault_of (halt.Run e) = Run e
+stream_fault_of (halt.Sink sink.NoMemory) = Run fault.NoMemory
+stream_fault_of (halt.Sink (sink.Stopped n)) = Stopped n
 
 -- why the run gave no outcome, unless it is that the device under the sink failed
 abbrev pub run_fault_in : StreamFault → Option RunFault
@@ -77,9 +71,10 @@ MayLackSteps s w = HasWork (step s w) ⊎ (2 ^ 62 ≤ length w.trace)
 
 -- when up to so many steps from a world of a run on may be refused: for memory; and where the packet count is used up
 -- for one of them
-abbrev pub MayStop : ℕ → Setting → World → StepFault → Type 0
-MayStop most s w step_fault.NoMemory = MayLackSteps s w
-MayStop most s w step_fault.CountFull = MeetsFullWithin most s w
+abbrev pub MayStop : ℕ → Setting → World → RunFault → Type 0
+MayStop most s w fault.NoMemory = MayLackSteps s w
+MayStop most s w fault.CountFull = MeetsFullWithin most s w
+MayStop most s w e = ⊥
 
 module _ {S : Type 0} (took part : S → List Row → S → Type 0) where
   -- the sink took no more than a front of the rows of the sequential run
@@ -92,7 +87,7 @@ module _ {S : Type 0} (took part : S → List Row → S → Type 0) where
 
   -- why the rows of a run were not all handed on: it was refused at a world in which it may be, and the sink took the
   -- rows so far; or the sink refused some, and took no more than a front of the trace
-  abbrev pub TellsHalt : {F : Type 0} → (World → F → Type 0) → Setting → S → Halt F → S → Type 0
+  abbrev pub TellsHalt : (World → RunFault → Type 0) → Setting → S → Halt → S → Type 0
   TellsHalt may s old (halt.Run e) new = TakesUpTo s (λ w. may w e) old new
   TellsHalt may s old (halt.Sink e) new = TakesTraceFront s old new
 
@@ -123,7 +118,7 @@ module _ {M : Type 0} where
 
   -- what steps from a world on tell, up to so many: the rows up to a later world, the last of the run where there are
   -- fewer; or why they are refused
-  abbrev pub TellsSteps : (M → Record) → Setting → ℕ → World → Result (Vec Row) StepFault
+  abbrev pub TellsSteps : (M → Record) → Setting → ℕ → World → Result (Vec Row) RunFault
       → Engine M → Type 0
   TellsSteps f s most w r after =
       MatchResult r (λ rows. (v : World) × IsReached s v × (v.trace ≡ w.trace ++ rows.items) × Shows f after v
@@ -131,7 +126,7 @@ module _ {M : Type 0} where
       (MayStop most s w)
 
   -- so of whatever world of a run the engine is seen as, with every seed
-  abbrev pub TakesSteps : (M → Record) → ℕ → Engine M → Result (Vec Row) StepFault → Engine M
+  abbrev pub TakesSteps : (M → Record) → ℕ → Engine M → Result (Vec Row) RunFault → Engine M
       → Type 0
   TakesSteps f most old r new =
       (seed : ℕ) (w : World) → IsReached (setting_in old seed) w → Shows f old w
@@ -140,14 +135,14 @@ module _ {M : Type 0} where
   module _ {S : Type 0} (took part : S → List Row → S → Type 0) where
     -- what the steps of a run tell, the rows of which are handed to a sink: the last world of the sequential run, of
     -- which the sink took the trace; or why not all were handed on
-    abbrev pub StepsToEnd : {A : Type 0} → (M → Record) → Setting → S → Result A (Halt StepFault) → S
+    abbrev pub StepsToEnd : {A : Type 0} → (M → Record) → Setting → S → Result A Halt → S
         → Engine M → Type 0
     StepsToEnd f s old r new after =
         MatchResult r (λ _. (w : World) × IsLast s w × took old w.trace new × Shows f after w)
         (λ x. TellsHalt took part (MayStop most_rows s) s old x new)
 
     -- so of an engine that is opened, with every seed
-    abbrev pub StreamsRows : {A : Type 0} → (M → Record) → Engine M → S → Result A (Halt StepFault)
+    abbrev pub StreamsRows : {A : Type 0} → (M → Record) → Engine M → S → Result A Halt
         → S → Engine M → Type 0
     StreamsRows f e old r new after =
         (seed : ℕ) → IsOpened f seed e → StepsToEnd f (setting_in e seed) old r new after

@@ -6,8 +6,8 @@ use Rattle.srm_cell.specs.Jobs as cell
 use Rattle.srm_model.specs.World.{World, IsLast, row_cmp}
 use Rattle.srm_model.specs.WindowRuns.{jobs_of}
 use Rattle.srm_model.specs.WindowChains.{window_jobs}
+use Rattle.srm_engine.specs.declared.fault.RunFault.{RunFault}
 use Rattle.srm_engine.specs.declared.watch_engine.WatchEngine.{WatchEngine}
-use Rattle.srm_engine.specs.declared.window_fault.WindowFault.{WindowFault}
 use Rattle.srm_engine.specs.Groups.{all_in, sizes}
 use Rattle.srm_interfaces.specs.Watches.{KeepMembers}
 use Rattle.srm_engine.specs.WindowEngines.{ComesTo, IsUnderWay, OpensAt, setting_by, rule_by}
@@ -31,7 +31,7 @@ module _ {M K : Type 0} where
       (keeps : K → List Row → Type 0) where
     -- what one window tells: one window more, for which the crew was handed its jobs, and whose rows, in order of their
     -- keys, are kept with those before, of whichever rows; or why it is refused
-    abbrev pub TellsWatched : WatchEngine M K → C → Result (WatchEngine M K) WindowFault → C → Type 0
+    abbrev pub TellsWatched : WatchEngine M K → C → Result (WatchEngine M K) RunFault → C → Type 0
     TellsWatched e old r new =
         (seed : ℕ) (begins : List World) (w : World) → ComesTo f seed e.engine begins w
         → MatchResult r (λ v. ((u : World) × ComesTo f seed v.engine (begins ++ w ∷ []) u
@@ -42,7 +42,7 @@ module _ {M K : Type 0} where
 
     -- what all windows of a run tell: they come to its last world, of whose trace each member's rows are kept, and the
     -- crew was handed their jobs, window after window; or windows come to a world, and the next is refused
-    abbrev pub TellsAllWatched : WatchEngine M K → C → Result (WatchEngine M K) WindowFault → C → Type 0
+    abbrev pub TellsAllWatched : WatchEngine M K → C → Result (WatchEngine M K) RunFault → C → Type 0
     TellsAllWatched e old r new =
         (seed : ℕ) → OpensAt f seed e.engine → KeepsRows keeps e []
         → MatchResult r (λ v. (begins : List World) × (w : World) × ComesTo f seed v.engine begins w

@@ -14,7 +14,6 @@ use Rattle.srm_model.specs.WindowChains.{AreWindows, IsNext, start_of, window_jo
 use Rattle.srm_engine.specs.declared.ends.Ends.{Ends}
 use Rattle.srm_engine.specs.declared.halt.Halt.{Halt}
 use Rattle.srm_engine.specs.declared.window_engine.WindowEngine.{WindowEngine}
-use Rattle.srm_engine.specs.declared.window_fault.WindowFault.{WindowFault}
 use Rattle.srm_engine.specs.Ends.{ends_rule, MayEnd}
 use Rattle.srm_engine.specs.Groups.{AreKept, cells_of}
 use Rattle.srm_engine.specs.Starts.{setting_on}
@@ -90,7 +89,7 @@ module _ {M : Type 0} where
       (f : M → Record) where
     -- what all windows of a run tell: they come to its last world, of which the sink took the trace, and the crew was
     -- handed their jobs, window after window; or why not all rows were handed on
-    abbrev pub TellsWindows : WindowEngine M → C → S → Result (WindowEngine M) (Halt WindowFault) → S → C → Type 0
+    abbrev pub TellsWindows : WindowEngine M → C → S → Result (WindowEngine M) Halt → S → C → Type 0
     TellsWindows e old from r to new =
         (seed : ℕ) → OpensAt f seed e
         → MatchResult r (λ v. (begins : List World) × (w : World) × ComesTo f seed v begins w

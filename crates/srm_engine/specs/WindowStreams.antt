@@ -8,7 +8,6 @@ use Rattle.srm_engine.specs.declared.width.Windows.{Windows}
 use Rattle.srm_engine.specs.declared.fault.RunFault.TheVariants as fault
 use Rattle.srm_engine.specs.declared.stream_fault.StreamFault.{StreamFault}
 use Rattle.srm_engine.specs.declared.stream_fault.StreamFault.TheVariants.{Run, Stopped}
-use Rattle.srm_engine.specs.declared.window_fault.WindowFault.TheVariants as window
 use Rattle.srm_model.specs.World.{World}
 use Rattle.srm_engine.specs.Streams.{run_fault_in, TakesUpTo}
 use Rattle.srm_engine.specs.Windowed.{rule_of, IsCut, IsHandedWindows, MayBeWide, TellsRunAsked, MayRefuse, MayCome}
@@ -31,9 +30,9 @@ module _ {S : Type 0} (took part : S → List Row → S → Type 0) where
   -- and the next may be refused so
   abbrev pub RefusedAtWindow : Setting → (World → ℕ) → ℕ → S → StreamFault → S → Type 0
   RefusedAtWindow s rule cut old (Run fault.CountFull) new =
-      TakesUpTo took part s (λ w. MayCome s rule cut w window.CountFull) old new
+      TakesUpTo took part s (λ w. MayCome s rule cut w fault.CountFull) old new
   RefusedAtWindow s rule cut old (Run fault.ShareFull) new =
-      TakesUpTo took part s (λ w. MayCome s rule cut w window.ShareFull) old new
+      TakesUpTo took part s (λ w. MayCome s rule cut w fault.ShareFull) old new
   RefusedAtWindow s rule cut old (Run e) new = Unit {0}
   RefusedAtWindow s rule cut old (Stopped n) new = Unit {0}
 

@@ -11,7 +11,6 @@ use Rattle.srm_model.specs.WindowChains.{AreWindows, window_jobs}
 use Rattle.srm_engine.specs.declared.fault.RunFault.{RunFault}
 use Rattle.srm_engine.specs.declared.fault.RunFault.TheVariants as fault
 use Rattle.srm_engine.specs.declared.width.Windows.{Windows}
-use Rattle.srm_engine.specs.declared.window_fault.WindowFault.TheVariants as window
 use Rattle.srm_interfaces.specs.Watches.{KeepMembers}
 use Rattle.srm_engine.specs.Windowed.{IsCut, MayBeWide, MayCome, TellsRunAsked, rule_of}
 
@@ -30,8 +29,8 @@ TellsKept keeps s r = IfOk r (λ v. (length v.0.items ≡ s.traffic.members)
 -- refused so; and before any call of the crew, where the cut or the width is
 abbrev pub MeetsWatchRefusal : {C : Type 0} → Setting → (World → ℕ) → ℕ → C → RunFault → C → Type 0
 MeetsWatchRefusal s rule cut old fault.NoMemory new = Unit {0}
-MeetsWatchRefusal s rule cut old fault.CountFull new = (w : World) × MayCome s rule cut w window.CountFull
-MeetsWatchRefusal s rule cut old fault.ShareFull new = (w : World) × MayCome s rule cut w window.ShareFull
+MeetsWatchRefusal s rule cut old fault.CountFull new = (w : World) × MayCome s rule cut w fault.CountFull
+MeetsWatchRefusal s rule cut old fault.ShareFull new = (w : World) × MayCome s rule cut w fault.ShareFull
 MeetsWatchRefusal s rule cut old fault.BadCut new = new ≡ old
 MeetsWatchRefusal s rule cut old fault.BadWidth new = new ≡ old
 

@@ -15,8 +15,6 @@ use Rattle.srm_engine.specs.declared.width.Windows.{Windows}
 use Rattle.srm_engine.specs.declared.fault.RunFault.{RunFault}
 use Rattle.srm_engine.specs.declared.fault.RunFault.TheVariants as fault
 use Rattle.srm_engine.specs.declared.outcome.Outcome.{Outcome}
-use Rattle.srm_engine.specs.declared.window_fault.WindowFault.{WindowFault}
-use Rattle.srm_engine.specs.declared.window_fault.WindowFault.TheVariants as window
 use Rattle.srm_model.specs.World.{World, IsLast, RunMeetsFull}
 use Rattle.srm_model.specs.Windows.{IsWidth, promise_end}
 use Rattle.srm_model.specs.WindowRuns.{jobs_of}
@@ -62,13 +60,14 @@ pub record IsCounted (t : Traffic) (l : LedgerView) (rows : List Row) (seat : Se
 -- when the window that begins in a world of a run, and ends so, may be refused: for memory only where something is
 -- pending; where one of its jobs, and so the run, meets a step for which the packet count is used up; and where the
 -- crossings up to it, with those of some of its jobs, are too many for a share
-abbrev pub MayRefuseWindow : Setting → ℕ → ℕ → World → WindowFault → Type 0
-MayRefuseWindow s till cut w window.NoMemory = (e : Event) × IsNext s w e
-MayRefuseWindow s till cut w window.CountFull = RunMeetsFull s × AnyEnds Full (jobs_of cut till w)
-MayRefuseWindow s till cut w window.ShareFull = PassesShare s.traffic w.trace (jobs_of cut till w)
+abbrev pub MayRefuseWindow : Setting → ℕ → ℕ → World → RunFault → Type 0
+MayRefuseWindow s till cut w fault.NoMemory = (e : Event) × IsNext s w e
+MayRefuseWindow s till cut w fault.CountFull = RunMeetsFull s × AnyEnds Full (jobs_of cut till w)
+MayRefuseWindow s till cut w fault.ShareFull = PassesShare s.traffic w.trace (jobs_of cut till w)
+MayRefuseWindow s till cut w e = ⊥
 
 -- windows come to this world, and the next may be refused so
-abbrev pub MayCome : Setting → (World → ℕ) → ℕ → World → WindowFault → Type 0
+abbrev pub MayCome : Setting → (World → ℕ) → ℕ → World → RunFault → Type 0
 MayCome s rule cut w e = (begins : List World) × AreWindows s rule begins w × MayRefuseWindow s (rule w) cut w e
 
 -- when a run in windows may be refused: for memory; where it meets a step for which the packet count is used up; where

@@ -12,9 +12,9 @@ ghost use Rattle.srm_engine.specs.RowRuns.{TellsLast, TellsUndone};
 ghost use Rattle.srm_model.specs.World.{opening};
 
 use crate::cells::{Cells, open_cells};
+use crate::fault::RunFault;
 use crate::halt::Halt;
 use crate::handing::hand_none;
-use crate::step_fault::StepFault;
 use crate::stream_fault::StreamFault;
 use srm_cell::arrival::arrival;
 use srm_cell::tally::Tally;
@@ -93,11 +93,7 @@ impl<'a, M: Participant> Engine<'a, M> {
 
     /// Steps, one after the other, until nothing is pending before the end of the run. The rows are handed to a sink in pieces:
     /// first none, and then all of them, in order, no more than 32 at a time.
-    pub(crate) fn stream<S: RowSink>(
-        &mut self,
-        alloc: Global,
-        sink: &mut S,
-    ) -> Result<(), Halt<StepFault>>
+    pub(crate) fn stream<S: RowSink>(&mut self, alloc: Global, sink: &mut S) -> Result<(), Halt>
         requires opened { (seed : ℕ) × IsOpened M.plain seed self.old }
         requires sink { IsReady (S.stage sink.old) (S.failures sink.old) }
         ensures session { self.new.session ≡ self.old.session }
@@ -125,11 +121,11 @@ impl<'a, M: Participant> Engine<'a, M> {
             }
             left -= 1;
         }
-        Err(Halt::Run(StepFault::NoMemory))
+        Err(Halt::Run(RunFault::NoMemory))
     }
 
     /// Steps, one after the other, until nothing is pending before the end of the run, or there are so many rows.
-    pub(crate) fn steps(&mut self, alloc: Global, most: usize) -> Result<Vec<Row>, StepFault>
+    pub(crate) fn steps(&mut self, alloc: Global, most: usize) -> Result<Vec<Row>, RunFault>
         requires known { MayTake M.plain self.old }
         ensures session { self.new.session ≡ self.old.session }
         ensures few { IfOk result (λ rows. length rows.items ≤ most) }
@@ -148,7 +144,7 @@ impl<'a, M: Participant> Engine<'a, M> {
 
     /// The step of the sequential run: the least pending event of all is taken, its row put behind others, and its packet handed
     /// out. Tells whether there was an event.
-    pub(crate) fn step(&mut self, alloc: Global, rows: &mut Vec<Row>) -> Result<bool, StepFault>
+    pub(crate) fn step(&mut self, alloc: Global, rows: &mut Vec<Row>) -> Result<bool, RunFault>
         requires known { MayStep M.plain self.old }
         ensures session { self.new.session ≡ self.old.session }
         ensures step { PutsStep (λ r. StepsOn M.plain self.old r self.new) rows.old.items result rows.new.items }
@@ -163,7 +159,7 @@ impl<'a, M: Participant> Engine<'a, M> {
         match self.cells.step(alloc, member, until, rows) {
             Ok(true) => {}
             Ok(false) => return Ok(false),
-            Err(fault) => return Err(StepFault::of(fault).unwrap()),
+            Err(fault) => return Err(RunFault::of(fault.into()).unwrap()),
         }
         let row = rows.last().unwrap();
         self.send(alloc, row)?;

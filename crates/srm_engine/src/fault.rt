@@ -1,4 +1,9 @@
 //! Why a run gives no outcome.
+ghost use Rattle.std.specs.Prelude.{◌≡◌};
+ghost use Rattle.srm_engine.specs.Faults.{run_fault_of};
+
+use srm_interfaces::fault::CrewFault;
+use std::alloc::AllocError;
 use thiserror::Error;
 
 /// Why a run gives no outcome.
@@ -19,4 +24,30 @@ pub enum RunFault {
     /// A member was to send a packet, and its packet count, 2^48, is used up.
     #[error("a member sent 281474976710656 packets and was to send another")]
     CountFull,
+}
+
+impl RunFault {
+    /// What a crew's refusal is to a run: the refusal of the same name; `None` for `Spent`, which no run meets.
+    pub fn of(fault: CrewFault) -> Option<RunFault>
+        ensures { result ≡ run_fault_of fault }
+    {
+        match fault {
+            CrewFault::NoMemory => Some(RunFault::NoMemory),
+            CrewFault::ShareFull => Some(RunFault::ShareFull),
+            CrewFault::CountFull => Some(RunFault::CountFull),
+            CrewFault::Spent => None,
+        }
+    }
+}
+
+/// What refused memory is to a run.
+impl From<AllocError> for RunFault {
+    ghost use Rattle.std.specs.Prelude.{◌≡◌};
+    ghost use Rattle.srm_engine.specs.declared.fault.RunFault.{RunFault};
+
+    ghost from_gives = { λ _ told. told ≡ RunFault.NoMemory };
+
+    fn from(_error: AllocError) -> RunFault {
+        RunFault::NoMemory
+    }
 }

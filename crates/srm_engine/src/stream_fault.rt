@@ -1,11 +1,9 @@
 //! Why a run that hands its rows on came to no end.
 ghost use Rattle.std.specs.Prelude.{◌≡◌};
-ghost use Rattle.srm_engine.specs.Streams.{fault_of_sink, run_fault_in};
+ghost use Rattle.srm_engine.specs.Streams.{run_fault_in};
 
 use crate::fault::RunFault;
 use crate::halt::Halt;
-use crate::step_fault::StepFault;
-use crate::window_fault::WindowFault;
 use srm_interfaces::sink::SinkFault;
 use std::alloc::AllocError;
 
@@ -51,50 +49,32 @@ impl From<AllocError> for StreamFault {
     }
 }
 
-/// What a halt is to those who asked for a run that is not cut into windows.
-impl From<Halt<StepFault>> for StreamFault {
+/// What a run's refusal is where its rows are handed on.
+impl From<RunFault> for StreamFault {
     ghost use Rattle.std.specs.Prelude.{◌≡◌};
-    ghost use Rattle.srm_engine.specs.Faults.{step_refused};
-    ghost use Rattle.srm_engine.specs.Streams.{stream_fault_of};
+    ghost use Rattle.srm_engine.specs.declared.stream_fault.StreamFault.{StreamFault};
 
-    ghost from_gives = { λ halt told. told ≡ stream_fault_of step_refused halt };
+    ghost from_gives = { λ fault told. told ≡ StreamFault.Run fault };
 
-    fn from(halt: Halt<StepFault>) -> StreamFault {
-        match halt {
-            Halt::Run(fault) => StreamFault::Run {
-                fault: fault.into(),
-            },
-            Halt::Sink(fault) => stream_fault(fault),
-        }
+    fn from(fault: RunFault) -> StreamFault {
+        StreamFault::Run { fault }
     }
 }
 
-/// What a halt is to those who asked for a run in windows.
-impl From<Halt<WindowFault>> for StreamFault {
+/// What a halt is to those who asked for the run.
+impl From<Halt> for StreamFault {
     ghost use Rattle.std.specs.Prelude.{◌≡◌};
-    ghost use Rattle.srm_engine.specs.Faults.{run_fault_of};
     ghost use Rattle.srm_engine.specs.Streams.{stream_fault_of};
 
-    ghost from_gives = { λ halt told. told ≡ stream_fault_of run_fault_of halt };
+    ghost from_gives = { λ halt told. told ≡ stream_fault_of halt };
 
-    fn from(halt: Halt<WindowFault>) -> StreamFault {
+    fn from(halt: Halt) -> StreamFault {
         match halt {
-            Halt::Run(fault) => StreamFault::Run {
-                fault: fault.into(),
+            Halt::Run(fault) => StreamFault::Run { fault },
+            Halt::Sink(SinkFault::NoMemory) => StreamFault::Run {
+                fault: RunFault::NoMemory,
             },
-            Halt::Sink(fault) => stream_fault(fault),
+            Halt::Sink(SinkFault::Stopped { written }) => StreamFault::Stopped { written },
         }
-    }
-}
-
-// What a sink's refusal is to a run.
-fn stream_fault(fault: SinkFault) -> StreamFault
-    ensures { result ≡ fault_of_sink fault }
-{
-    match fault {
-        SinkFault::NoMemory => StreamFault::Run {
-            fault: RunFault::NoMemory,
-        },
-        SinkFault::Stopped { written } => StreamFault::Stopped { written },
     }
 }

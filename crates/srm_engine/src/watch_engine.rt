@@ -13,6 +13,7 @@ ghost use Rattle.srm_engine.specs.WindowEngines.{frame_of, IsUnderWay, IsAt, Ope
 ghost use Rattle.srm_engine.specs.WatchEngines.{IsWatching, KeepsRows, TellsWatched, TellsAllWatched, kept_by};
 
 use crate::cutting::Cutting;
+use crate::fault::RunFault;
 use crate::groups::Groups;
 use crate::halt::Halt;
 use crate::handing::hand_none;
@@ -21,7 +22,6 @@ use crate::stream_fault::StreamFault;
 use crate::watched_groups::{clear_each, none_of_each, taken_apart, watched_jobs};
 use crate::width::Windows;
 use crate::window_engine::WindowEngine;
-use crate::window_fault::WindowFault;
 use srm_interfaces::kept_sink::KeptSink;
 use srm_interfaces::sink::SinkFault;
 use srm_interfaces::watch::Watch;
@@ -108,7 +108,7 @@ impl<'a, M: Participant, K: Drop> WatchEngine<'a, M, K> {
         crew: &mut C,
         watch: W,
         begin: u64,
-    ) -> Result<WatchEngine<'a, M, K>, WindowFault>
+    ) -> Result<WatchEngine<'a, M, K>, RunFault>
         requires ready { C.ready crew.old }
         requires serves { C.serves crew.old self.engine.session.scenario.now self.engine.session.net.now }
         requires stands { IsWatching M.plain self }
@@ -135,7 +135,7 @@ impl<'a, M: Participant, K: Drop> WatchEngine<'a, M, K> {
         let jobs = watched_jobs(alloc, groups, kept, end)?;
         let (all, seat) = match crew.map(alloc, session, &ledger, seat, watch, jobs) {
             Ok(done) => done,
-            Err(fault) => return Err(WindowFault::of(fault).unwrap()),
+            Err(fault) => return Err(RunFault::of(fault).unwrap()),
         };
         let (groups, kept, sent) = taken_apart(alloc, all)?;
         let groups = Groups { cut, groups, soon }.look_again(session, end);
@@ -156,7 +156,7 @@ impl<'a, M: Participant, K: Drop> WatchEngine<'a, M, K> {
         alloc: Global,
         crew: &mut C,
         watch: W,
-    ) -> Result<WatchEngine<'a, M, K>, WindowFault>
+    ) -> Result<WatchEngine<'a, M, K>, RunFault>
         requires ready { C.ready crew.old }
         requires serves { C.serves crew.old self.engine.session.scenario.now self.engine.session.net.now }
         requires stands { IsWatching M.plain self }
@@ -214,7 +214,7 @@ impl<'a, M: Participant, K: Drop> WatchEngine<'a, M, K> {
         crew: &mut C,
         watch: W,
         sink: &mut S,
-    ) -> Result<WindowEngine<'a, M>, Halt<WindowFault>>
+    ) -> Result<WindowEngine<'a, M>, Halt>
         requires ready { C.ready crew.old }
         requires serves { C.serves crew.old self.engine.session.scenario.now self.engine.session.net.now }
         requires stands { IsWatching M.plain self }

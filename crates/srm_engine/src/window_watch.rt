@@ -43,20 +43,10 @@ pub fn window_watch<M: Participant, K: Drop, W: Watch<K> + Copy, C: WatchCrew<M,
     ensures windows { InRunsOf start.entry (λ s. CallsOfWatch C.handed s start.entry.session.net.now asked
         crew.old result crew.new) }
 {
-    let cutting = match Cutting::of(start.session, asked) {
-        Ok(cutting) => cutting,
-        Err(fault) => return Err(fault.into()),
-    };
-    let Ok(engine) = WatchEngine::open(alloc, start, cutting, &watch) else {
-        return Err(RunFault::NoMemory);
-    };
-    let ran = match engine.windows(alloc, crew, watch) {
-        Ok(ran) => ran,
-        Err(fault) => return Err(fault.into()),
-    };
+    let cutting = Cutting::of(start.session, asked)?;
+    let engine = WatchEngine::open(alloc, start, cutting, &watch)?;
+    let ran = engine.windows(alloc, crew, watch)?;
     let WatchEngine { engine, kept } = ran;
-    let Ok(kept) = in_one(alloc, kept) else {
-        return Err(RunFault::NoMemory);
-    };
+    let kept = in_one(alloc, kept)?;
     Ok((kept, engine.into_totals()))
 }

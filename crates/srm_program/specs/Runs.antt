@@ -15,7 +15,6 @@ use Rattle.srm_interfaces.specs.declared.sink.SinkFault.TheVariants.{Stopped}
 use Rattle.srm_interfaces.specs.declared.sink.Stage.{Stage}
 use Rattle.srm_interfaces.specs.declared.sink.Stage.TheVariants.{Live, Refused}
 use Rattle.srm_interfaces.specs.Sinks.{most_rows}
-use Rattle.srm_engine.specs.declared.window_fault.WindowFault.TheVariants as window
 use Rattle.srm_engine.specs.Streams.{TakesTraceFront, TakesUpTo, MeetsFullWithin}
 use Rattle.srm_model.specs.World.{World, IsReached, IsOutcome, RunMeetsFull}
 use Rattle.srm_engine.specs.Windowed.{IsCut, MayBeWide, MayCome, PassesShareAtWindow, rule_of}
@@ -47,8 +46,8 @@ TellsRefusedFor p net seed o r = o.engine ≡ Window → MayBeCut net o
 -- count is used up for a step fewer than 32 rows later; and in windows where one begins that may be refused so
 abbrev pub MayBreakOffBy : Engine → Setting → Network → Options → LabFault → World → Type 0
 MayBreakOffBy Step s net o CountFull w = MeetsFullWithin most_rows s w
-MayBreakOffBy Window s net o CountFull w = MayCome s (rule_of s net o.width) o.cut w window.CountFull
-MayBreakOffBy Window s net o ShareFull w = MayCome s (rule_of s net o.width) o.cut w window.ShareFull
+MayBreakOffBy Window s net o CountFull w = MayCome s (rule_of s net o.width) o.cut w fault.CountFull
+MayBreakOffBy Window s net o ShareFull w = MayCome s (rule_of s net o.width) o.cut w fault.ShareFull
 MayBreakOffBy engine s net o f w = ⊥
 
 -- the same, of the run of a scenario on its network with random words of this seed

@@ -4,7 +4,6 @@ use Rattle.srm_cell.specs.Setting.{Setting}
 use Rattle.srm_model.specs.World.{opening, IsReached, IsLast}
 use Rattle.srm_engine.specs.Engines.{Shows, setting_in}
 use Rattle.srm_engine.specs.Starts.{setting_on}
-use Rattle.srm_engine.specs.Faults.{step_refused}
 use Rattle.srm_engine.specs.RowRuns.{UndoneAfter}
 use Rattle.srm_interfaces.specs.Sinks.{most_rows}
 use Rattle.srm_engine.specs.Streams.{MayLackSteps, MayStop, MeetsRefusal, stream_fault_of}
@@ -53,7 +52,7 @@ returns-in-Err-stream-clause-refused g c = λ seed h.
     let opened = subst (λ x. Shows g.M.Participant.plain c.in-Ok.engine (opening x)) (sym here) (c.in-Ok.ensures.opened seed h) in
     rw c.into-in-Err-stream.ensures
     (subst (λ (x : Setting). MeetsRefusal g.S.RowSink.took g.S.RowSink.part x c.args.sink.now
-    (stream_fault_of step_refused c.in-Err-stream.halt) c.stream.new.sink) here
+    (stream_fault_of c.in-Err-stream.halt) c.stream.new.sink) here
     (halts_refuse g.S.RowSink.took g.S.RowSink.part (setting_in c.in-Ok.engine seed) c.args.sink.now
     c.in-Err-stream.halt c.stream.new.sink (c.in-Err-stream.ensures.rows seed opened)))
 
@@ -63,7 +62,7 @@ returns-in-Err-stream-clause-undone g c = λ seed h.
     let opened = subst (λ x. Shows g.M.Participant.plain c.in-Ok.engine (opening x)) (sym here) (c.in-Ok.ensures.opened seed h) in
     rw c.into-in-Err-stream.ensures
     (subst (λ (x : Setting). UndoneAfter g.S.RowSink.stage g.S.RowSink.took g.S.RowSink.part (MayLackSteps x) x
-    c.args.sink.now (stream_fault_of step_refused c.in-Err-stream.halt) c.stream.new.sink) here
+    c.args.sink.now (stream_fault_of c.in-Err-stream.halt) c.stream.new.sink) here
     (steps_undone g.S.RowSink.took g.S.RowSink.part g.S.RowSink.stage (Unit {0}) (setting_in c.in-Ok.engine seed)
     c.args.sink.now c.in-Err-stream.halt c.stream.new.sink (c.in-Err-stream.ensures.rows seed opened)
     c.in-Err-stream.ensures.stage))

@@ -11,6 +11,7 @@ use Rattle.srm_cell.proofs.FitSettings.{settings_are_fit}
 use Rattle.srm_cell.proofs.CellSteps.{SentBy}
 use Rattle.srm_model.specs.World.{after_step, cells_after, step}
 use Rattle.srm_engine.specs.Engines.{setting_in, HasCounted}
+use Rattle.srm_engine.specs.Faults.{run_fault_of}
 use Rattle.srm_model.specs.Hearing.{all_hear}
 use Rattle.srm_engine.proofs.SeenLemmas.{shown_many, times_many, told_step}
 use Rattle.srm_cell.specs.declared.fault.CellFault.TheVariants as cell
@@ -90,7 +91,7 @@ returns-in-Ok-false-clause-step g c =
     )
 
 pub unwrap-requires : goal.unwrap-requires
-unwrap-requires g c = rw c.of.ensures (of_a_step c.in-Err.fault (λ spent.
+unwrap-requires g c = rw (c.of.ensures, c.into.ensures) (of_a_step c.in-Err.fault (λ spent.
     let k = c.requires.known in
     let s = setting_in c.args.self.now k.0 in
     let fit : IsFit s = subst (λ (n : Network). IsFit (setting_of c.args.self.now.session.scenario.now n k.0)) (sym
@@ -114,8 +115,9 @@ returns-in-Err-clause-step g c = λ seed w h.
     (let lt = c.if-time-until.false in let u = c.until-until.ensures.until in omega arith) in
     let p = cell_there g.M.Participant.plain c.args.self.now.cells s w h.seen c.in-Some.time c.in-Some.member c.in-Some.ensures early in
     refused s w c.in-Some.member (own_step c.until-until.result c.in-Some.member p.0) c.in-Err.fault c.unwrap.result
-    (sym c.of.ensures ∙ c.unwrap.ensures) (told_step g.M.Participant.plain c.in-Some.member c.until-until.result c.args.self.now.cells
-    c.step.new.self (Err c.in-Err.fault) c.in-Err.ensures w.cells p.0 h.seen p.1)
+    (ap run_fault_of (sym c.into.ensures) ∙ sym c.of.ensures ∙ c.unwrap.ensures)
+    (told_step g.M.Participant.plain c.in-Some.member c.until-until.result c.args.self.now.cells c.step.new.self (Err c.in-Err.fault)
+    c.in-Err.ensures w.cells p.0 h.seen p.1)
     (step_by g.M.Participant.plain c.args.self.now.cells s w h.seen c.in-Some.time c.in-Some.member c.in-Some.ensures early p.0 p.1
     ∙ ap (λ u. after_step s w c.in-Some.member (own_step u c.in-Some.member p.0)) (sym c.until-until.ensures.until))
 
