@@ -18,11 +18,13 @@ use Rattle.srm_cell.specs.Cells.{StepOutcome, Stepped, Spent, Full}
 use Rattle.srm_cell.proofs.CrossingLemmas.{crossings_add}
 use Rattle.srm_interfaces.specs.declared.fault.CrewFault.{CrewFault}
 use Rattle.srm_interfaces.specs.declared.fault.CrewFault.TheVariants as fault
+use Rattle.srm_interfaces.specs.Faults.{crew_fault_of}
 use Rattle.srm_crew.specs.Indices.{times}
-use Rattle.srm_interfaces.specs.Crews.{AdvanceEach, AnyEnds, AreRowsOfSome, Maps, plain_jobs, sum_at, counted_in}
-use Rattle.srm_crew.specs.Shared.{HoldsAt, sum_of, ComeOf, TellsAll}
+use Rattle.srm_interfaces.specs.Crews.{AdvanceEach, AnyEnds, AreDone, AreRowsOfSome, HasGrown, Maps}
+use Rattle.srm_interfaces.specs.Crews.{plain_jobs, rows_of, sum_at, counted_in}
+use Rattle.srm_crew.specs.Shared.{HoldsAt, sum_of, ComeOf, Settles, TellsAll}
 use Rattle.srm_crew.proofs.Peeling.{lower, lower_times, peel}
-use Rattle.srm_interfaces.proofs.Sums.{crossings_long, none_crossed, word_of_added, rows_are, sum_is, all_long}
+use Rattle.srm_interfaces.proofs.Sums.{crossings_long, none_crossed, word_of_added, rows_are, rows_of_all, sum_is, all_long}
 
 module _ {M : Type 0} where
   abbrev numbers : job.Done M → List ℕ
@@ -95,6 +97,34 @@ module _ {M : Type 0} where
     shared_maps seat js (Err fault.ShareFull) s =
         let rows = some_rows js s.0 s.1 s.2.0 s.3 in
         (rows.0, rows.1, (s.4.0, subst (λ n. 2 ^ 47 < slice_index seat.shares s.4.0 + n) (rows.2 s.4.0) s.4.1))
+
+    -- what refuses cells refuses their crew
+    pub as_refused : (seat : SeatView) (js : List (Job M)) (e : CellFault) → AdvanceEach f k net js (Err e)
+        → Maps f k net seat js (Err (crew_fault_of e))
+    as_refused seat js cell.NoMemory a = tt
+    as_refused seat js cell.Spent a = a
+    as_refused seat js cell.CountFull a = a
+
+    -- adding the crossings of all that is done makes of it what a crew tells
+    pub jobs_settled : (seat : SeatView) (js : List (Job M)) (adv : Result (Vec (job.Done M)) CellFault)
+        (r : Result (Vec (job.Done M) × SeatView) CrewFault) → AdvanceEach f k net js adv → Settles numbers seat adv r
+        → Maps f k net seat js r
+    jobs_settled seat js (Ok all) (Ok r) a t = shared_maps seat js (Ok r)
+        (subst (λ (v : Vec (job.Done M)). AreDone f k net js v.items × HasGrown (λ w. sum_of numbers w v.items) seat r.1) (sym t.0)
+        (a, t.1))
+    jobs_settled seat js (Ok all) (Err fault.ShareFull) a t = (
+      rows_of all.items,
+      rows_of_all f k net js all.items a,
+      (
+        t.0,
+        subst (λ n. 2 ^ 47 < slice_index seat.shares t.0 + n) (sum_of_is t.0 all.items ∙ sum_is f k net js all.items a t.0) t.1,
+      ),
+    )
+    jobs_settled seat js (Ok all) (Err fault.NoMemory) a t = absurd t
+    jobs_settled seat js (Ok all) (Err fault.Spent) a t = absurd t
+    jobs_settled seat js (Ok all) (Err fault.CountFull) a t = absurd t
+    jobs_settled seat js (Err e) (Ok r) a t = absurd t
+    jobs_settled seat js (Err e) (Err g) a t = subst (λ (x : CrewFault). Maps f k net seat js (Err x)) (sym t) (as_refused seat js e a)
 
     -- a job that is done has five numbers for each link
     pub done_long : (links : ℕ) (j : Job M) (d : job.Done M) → (traffic_of k net).links ≡ links → Advances f k net j (Ok d)

@@ -21,14 +21,14 @@ use Rattle.srm_interfaces.specs.declared.fault.CrewFault.TheVariants as crew
 use Rattle.srm_interfaces.specs.declared.watched.WatchedJob.{WatchedJob}
 use Rattle.srm_interfaces.specs.declared.watched.WatchedDone.{WatchedDone}
 use Rattle.srm_interfaces.specs.Crews.{AnyEnds, AreDone, Maps, counted_in, plain_jobs, rows_of, sum_at}
-use Rattle.srm_interfaces.specs.Faults.{crew_fault_of}
 use Rattle.srm_interfaces.specs.Watches.{AdvanceWatched, HaveKept, MapsWatched, WatchEach, job_in, jobs_in}
 use Rattle.srm_interfaces.proofs.InPieces.{all_each, all_in}
 use Rattle.srm_interfaces.proofs.Sums.{all_long, rows_of_all, sum_is}
 use Rattle.srm_net.proofs.Basics.{zip_append}
-use Rattle.srm_crew.specs.Shared.{sum_of}
+use Rattle.srm_crew.specs.Shared.{sum_of, Settles}
 use Rattle.srm_crew.specs.Pieces.{PutTogether}
-use Rattle.srm_crew.specs.Watched.{MayWatch, SettlesWatched}
+use Rattle.srm_crew.specs.Watched.{MayWatch}
+use Rattle.srm_crew.proofs.JobsShared.{as_refused}
 use Rattle.srm_crew.proofs.JobPieces.{any_first, any_last}
 
 module _ {M K : Type 0} (f : M → Record) (k : PlainScenario) (net : Network) where
@@ -176,7 +176,8 @@ module _ {M K : Type 0} (f : M → Record) (k : PlainScenario) (net : Network) w
     -- adding the crossings of all that is left makes of it what a crew tells
     pub maps_settled : (seat : SeatView) (js : List (WatchedJob M K)) (adv : Result (Vec (WatchedDone M K)) CellFault)
         (r : Result (Vec (WatchedDone M K) × SeatView) CrewFault)
-        → AdvanceWatched f keeps k net js adv → SettlesWatched seat adv r → MapsWatched f keeps k net seat js r
+        → AdvanceWatched f keeps k net js adv → Settles (λ (e : WatchedDone M K). e.crossings) seat adv r
+        → MapsWatched f keeps k net seat js r
     maps_settled seat js (Ok all) (Ok r) a t =
         let same = λ (w : ℕ). left_sum w js a.0 all.items a.2 ∙ sum_is f k net (jobs_in js) a.0 a.1 w in (
           a.0,
@@ -203,12 +204,7 @@ module _ {M K : Type 0} (f : M → Record) (k : PlainScenario) (net : Network) w
     maps_settled seat js (Ok all) (Err crew.CountFull) a t = absurd t
     maps_settled seat js (Err e) (Ok r) a t = absurd t
     maps_settled seat js (Err e) (Err g) a t =
-        subst (λ (x : CrewFault). Maps f k net seat (jobs_in js) (Err x)) (sym t) (as_refused e a)
-      where
-        as_refused : (e : CellFault) → AdvanceWatched f keeps k net js (Err e) → Maps f k net seat (jobs_in js) (Err (crew_fault_of e))
-        as_refused cell.NoMemory a = tt
-        as_refused cell.Spent a = a
-        as_refused cell.CountFull a = a
+        subst (λ (x : CrewFault). Maps f k net seat (jobs_in js) (Err x)) (sym t) (as_refused f k net seat (jobs_in js) e a)
 
 -- what is told of one scenario and network is told of the same under other names
 module _ {M K : Type 0} (f : M → Record) where

@@ -14,6 +14,7 @@ use Rattle.srm_crew.specs.declared.bag_fault.SplitFault.TheVariants as split
 use Rattle.srm_crew.specs.Indices.{EachAtMostOnce}
 use Rattle.srm_crew.specs.Passes.{PassView, both_passes, TookEachAtMostOnce}
 use Rattle.srm_interfaces.specs.Crews.{HasGrown, IsPast, counted_in}
+use Rattle.srm_interfaces.specs.Faults.{crew_fault_of}
 
 -- P holds of the item at an index of the list
 abbrev pub HoldsAt : {T : Type 0} → (T → Type 0) → List T → ℕ → Type 0
@@ -38,6 +39,14 @@ MayNotHalve pass seat split.TooManySeats = (pass ≡ 1) ⊎ (seat ≡ 1)
 MayNotHalve pass seat split.NoMemory = pass ≢ 1
 
 module _ {D : Type 0} where
+  -- what adding the numbers of all that was given tells: all of it, with a seat that has grown by them; or the refusal
+  -- of the cells; or else, that a share would be past its bound
+  abbrev pub Settles : (D → List ℕ) → SeatView → Result (Vec D) CellFault → Result (Vec D × SeatView) CrewFault → Type 0
+  Settles numbers seat (Ok all) (Ok r) = (r.0 ≡ all) × HasGrown (λ k. sum_of numbers k all.items) seat r.1
+  Settles numbers seat (Ok all) (Err fault.ShareFull) = IsPast (λ k. sum_of numbers k all.items) seat
+  Settles numbers seat (Err e) (Err f) = f ≡ crew_fault_of e
+  Settles numbers seat _ _ = ⊥
+
   -- what one item more tells, of which P says what may come: a result more, and a seat that has grown by its numbers.
   -- Memory is refused to the work, or else to a list of results that is full, and then the seat has grown
   abbrev pub TellsItem : (Result D CellFault → Type 0) → (D → List ℕ) → SeatView → Vec D → Result (Unit {0}) CrewFault

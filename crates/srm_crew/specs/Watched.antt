@@ -11,12 +11,6 @@ use Rattle.srm_cell.specs.declared.fault.CellFault.{CellFault}
 use Rattle.srm_cell.specs.declared.fault.CellFault.TheVariants as fault
 use Rattle.srm_cell.specs.Jobs.{Advances, MayAdvance}
 use Rattle.srm_cell.specs.Views.{IsSoundCell}
-use Rattle.srm_ledger.specs.Seats.{SeatView}
-use Rattle.srm_interfaces.specs.declared.fault.CrewFault.{CrewFault}
-use Rattle.srm_interfaces.specs.declared.fault.CrewFault.TheVariants as crew
-use Rattle.srm_interfaces.specs.Crews.{HasGrown, IsPast}
-use Rattle.srm_interfaces.specs.Faults.{crew_fault_of}
-use Rattle.srm_crew.specs.Shared.{sum_of}
 use Rattle.srm_crew.specs.declared.watching.Watching.{Watching}
 use Rattle.srm_interfaces.specs.declared.watched.WatchedJob.{WatchedJob}
 use Rattle.srm_interfaces.specs.declared.watched.WatchedDone.{WatchedDone}
@@ -43,14 +37,3 @@ module _ {M K : Type 0} where
   -- the jobs may be advanced, and something is kept of each of their cells
   abbrev pub MayWatch : (M → Record) → Network → List (WatchedJob M K) → Type 0
   MayWatch f net js = All (λ j. MayAdvance f (length net.hosts) j) (jobs_in js) × All HaveKept js
-
-  -- what adding the crossings of all that is left tells: all of it, with a seat that has grown by them; or the refusal
-  -- of the cells; or else, that a share would be past its bound
-  abbrev pub SettlesWatched : SeatView → Result (Vec (WatchedDone M K)) CellFault
-      → Result (Vec (WatchedDone M K) × SeatView) CrewFault → Type 0
-  SettlesWatched seat (Ok all) (Ok r) =
-      (r.0 ≡ all) × HasGrown (λ k. sum_of (λ (e : WatchedDone M K). e.crossings) k all.items) seat r.1
-  SettlesWatched seat (Ok all) (Err crew.ShareFull) =
-      IsPast (λ k. sum_of (λ (e : WatchedDone M K). e.crossings) k all.items) seat
-  SettlesWatched seat (Err e) (Err f) = f ≡ crew_fault_of e
-  SettlesWatched seat _ _ = ⊥

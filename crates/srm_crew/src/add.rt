@@ -1,24 +1,16 @@
 //! Crossings, added to a ledger.
-ghost use Rattle.std.specs.Prelude.{◌≡◌, ◌<◌, ◌*◌, List, length, All, Err, IfErr, IfOk, MatchResult};
+ghost use Rattle.std.specs.Prelude.{◌≡◌, ◌<◌, ◌*◌, length, All, IfOk, MatchResult};
 ghost use Rattle.srm_ledger.specs.Counts.{place_of};
-ghost use Rattle.srm_net.specs.Network.{Network};
-ghost use Rattle.srm_scenario.specs.Plain.{PlainScenario};
-ghost use Rattle.srm_cell.specs.declared.job.Job.{Job as DeclaredJob};
-ghost use Rattle.srm_interfaces.specs.Faults.{crew_fault_of};
-ghost use Rattle.srm_interfaces.specs.Crews.{HasGrown, IsPast, counted_in, AdvanceEach, Maps};
-ghost use Rattle.srm_crew.specs.Shared.{sum_of};
-ghost use Rattle.srm_crew.specs.Watched.{SettlesWatched};
+ghost use Rattle.srm_interfaces.specs.Crews.{HasGrown, IsPast, counted_in};
+ghost use Rattle.srm_crew.specs.Shared.{sum_of, Settles};
 
 use crate::counted::Counted;
 use srm_cell::crossings::Crossings;
 use srm_cell::fault::CellFault;
-use srm_cell::job::Done;
 use srm_interfaces::fault::CrewFault;
-use srm_interfaces::watched::WatchedDone;
 use srm_ledger::kind::Kind;
 use srm_ledger::ledger::{Ledger, Seat, ShareFull};
 use srm_ledger::totals::Totals;
-use srm_member::participant::Participant;
 
 // The kind whose number stands at an index of a link's five.
 fn kind_at(index: usize) -> Kind
@@ -90,21 +82,18 @@ pub(crate) fn add_each<D: Counted>(
     Ok(())
 }
 
-/// The jobs that are done, with a seat that has grown by the crossings of all of them. It does not allocate.
+/// All that was given, with a seat that has grown by its crossings. It does not allocate.
 ///
 /// # Errors
 /// The cells' refusal, where they were refused; and else `ShareFull` alone.
-pub(crate) fn settle<M: Participant>(
+pub(crate) fn settle<D: Counted + Drop>(
     ledger: &Ledger,
     seat: Seat,
-    advanced: Result<Vec<Done<M>>, CellFault>,
-) -> Result<(Vec<Done<M>>, Seat), CrewFault>
+    advanced: Result<Vec<D>, CellFault>,
+) -> Result<(Vec<D>, Seat), CrewFault>
     requires seat { seat.ledger ≡ ledger.now.name }
-    requires long { IfOk advanced (λ all. All (λ d. length d.crossings ≡ 5 * ledger.now.links) all.items) }
-    ensures refused { MatchResult advanced (λ _. IfErr result (λ e. e ≡ CrewFault.ShareFull))
-        (λ e. result ≡ Err (crew_fault_of e)) }
-    ensures told { (k : PlainScenario) (net : Network) (js : List (DeclaredJob M)) → AdvanceEach M.plain k net js advanced
-        → Maps M.plain k net seat js result }
+    requires long { IfOk advanced (λ all. All (λ d. length (D.numbers d) ≡ 5 * ledger.now.links) all.items) }
+    ensures { Settles D.numbers seat advanced result }
 {
     let all = match advanced {
         Ok(all) => all,
@@ -113,30 +102,6 @@ pub(crate) fn settle<M: Participant>(
     let mut seat = seat;
     match add_each(ledger, &mut seat, all.as_slice()) {
         Ok(()) => Ok((all, seat)),
-        Err(full) => Err(CrewFault::from(full)),
-    }
-}
-
-/// What is left of the jobs that are done, with a seat that has grown by the crossings of all of them. It does not allocate.
-///
-/// # Errors
-/// As [`settle`].
-pub(crate) fn settle_watched<M: Participant, K: Drop>(
-    ledger: &Ledger,
-    seat: Seat,
-    advanced: Result<Vec<WatchedDone<M, K>>, CellFault>,
-) -> Result<(Vec<WatchedDone<M, K>>, Seat), CrewFault>
-    requires seat { seat.ledger ≡ ledger.now.name }
-    requires long { IfOk advanced (λ all. All (λ e. length e.crossings ≡ 5 * ledger.now.links) all.items) }
-    ensures { SettlesWatched seat advanced result }
-{
-    let left = match advanced {
-        Ok(left) => left,
-        Err(fault) => return Err(CrewFault::from(fault)),
-    };
-    let mut seat = seat;
-    match add_each(ledger, &mut seat, left.as_slice()) {
-        Ok(()) => Ok((left, seat)),
         Err(full) => Err(CrewFault::from(full)),
     }
 }

@@ -7,7 +7,7 @@ ghost use Rattle.srm_interfaces.specs.Hearers.{GroupsMayHear, TellsHeard};
 ghost use Rattle.srm_interfaces.specs.Watches.{AdvanceWatched, MayMap, MapsWatched};
 ghost use Rattle.srm_crew.specs.Watched.{IsWatchOn, MayWatch};
 
-use crate::add::settle_watched;
+use crate::add::settle;
 use crate::piece::Piece;
 use crate::pieces::{
     advanced_of, cells_in, due_in_all, even_pieces, heard_of, pieces_of, put_together, to_advance,
@@ -224,7 +224,7 @@ impl<'a, R: Wait, M: Participant, K: Drop, W: Watch<K> + Copy, J: Naming> WatchC
         } else {
             advance_in_team(&self.rt, &mut self.team, work, due, jobs)
         };
-        settle_watched(ledger, seat, advanced)
+        settle(ledger, seat, advanced)
     }
 
     fn hear(

@@ -4,8 +4,8 @@ use Rattle.srm_crew.proofs.WatchedPieces.{maps_settled, settled_long, watched_as
 use Rattle.srm_crew.proofs.watch_team.WatchTeamWatchCrew.map.Goals.{then-due-self, else-due-self}
 use Rattle.srm_crew.proofs.watch_team.WatchTeamWatchCrew.map.Goals as goal
 
-pub settle_watched-requires-clause-long : goal.settle_watched-requires-clause-long
-settle_watched-requires-clause-long g c =
+pub settle-requires-clause-long : goal.settle-requires-clause-long
+settle-requires-clause-long g c =
     let keeps = g.W.Watch.keeps c.args.watch in
     let told : AdvanceWatched g.M.Participant.plain keeps c.args.session.scenario.now c.args.session.net.now c.args.jobs.items
     c.if-due-self.advanced =
@@ -32,4 +32,4 @@ returns-clause-done g c =
       | else-due-self w ↦ rw w.advanced-is w.advance_in_team-advanced.ensures.advanced
     ]) in
     maps_settled g.M.Participant.plain c.args.session.scenario.now c.args.session.net.now keeps c.args.seat c.args.jobs.items
-    c.if-due-self.advanced c.settle_watched.result told c.settle_watched.ensures
+    c.if-due-self.advanced c.settle.result told c.settle.ensures
