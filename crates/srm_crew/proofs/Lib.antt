@@ -1,6 +1,5 @@
 pub mod JobsSoFar
 pub mod Gathering
-pub mod NoteLemmas
 pub mod Keeps
 pub mod Peeling
 pub mod WorkedLemmas

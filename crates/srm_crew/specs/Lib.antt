@@ -2,9 +2,7 @@ pub use Rattle.srm_interfaces.specs.Faults
 pub use Rattle.srm_interfaces.specs.Crews
 pub use Rattle.srm_interfaces.specs.Hearers
 pub mod Pieces
-pub mod Notes
 pub mod Indices
 pub mod Passes
 pub mod Shared
-pub mod Recorded
 pub mod Watched

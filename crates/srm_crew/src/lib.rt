@@ -14,7 +14,6 @@ pub mod piece;
 mod pieces;
 pub mod plain;
 pub mod pool;
-pub mod recording;
 pub mod rule;
 mod shared;
 pub mod taken;

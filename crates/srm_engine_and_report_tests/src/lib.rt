@@ -7,6 +7,7 @@ mod drops_tests;
 mod opening;
 #[cfg(test)]
 mod outlet_tests;
+mod recording;
 #[cfg(test)]
 mod stream_tests;
 #[cfg(test)]

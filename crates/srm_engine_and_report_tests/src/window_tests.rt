@@ -1,6 +1,6 @@
 //! The windows of a whole run, as a crew that notes its calls is handed them.
 use crate::opening::{members_of, opened};
-use srm_crew::recording::{Note, Recording};
+use crate::recording::{Note, Recording};
 use srm_engine::fault::RunFault;
 use srm_engine::width::{Width, Windows};
 use srm_engine::window_run::window_run;

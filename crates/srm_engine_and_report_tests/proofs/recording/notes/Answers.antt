@@ -1,8 +1,8 @@
 use Rattle.std.proofs.Common.{rules, ◌≡◌, ◌∙◌, ap, take, length, arith, map, ◌++◌, ◌∷◌, [], List}
 use Rattle.std.proofs.Math.Seq.{take-length}
-use Rattle.srm_crew.specs.declared.recording.Note.{Note}
-use Rattle.srm_crew.proofs.NoteLemmas.{own_note, notes_more, notes_seen}
-use Rattle.srm_crew.proofs.recording.notes.Goals as goal
+use Rattle.srm_engine_and_report_tests.specs.declared.recording.Note.{Note}
+use Rattle.srm_engine_and_report_tests.proofs.NoteLemmas.{own_note, notes_more, notes_seen}
+use Rattle.srm_engine_and_report_tests.proofs.recording.notes.Goals as goal
 
 pub loop-job-preserved : goal.loop-job-preserved
 loop-job-preserved g c =

@@ -1,8 +1,8 @@
 use Rattle.std.proofs.Common.{◌++◌, ◌∷◌, [], List, sym, ◌∙◌, ap}
 use Rattle.srm_cell.proofs.Pushes.{pushed_if}
-use Rattle.srm_crew.specs.declared.recording.Note.{Note}
-use Rattle.srm_crew.proofs.NoteLemmas.{always_ok}
-use Rattle.srm_crew.proofs.recording.RecordingCrew.map.Goals as goal
+use Rattle.srm_engine_and_report_tests.specs.declared.recording.Note.{Note}
+use Rattle.srm_engine_and_report_tests.proofs.NoteLemmas.{always_ok}
+use Rattle.srm_engine_and_report_tests.proofs.recording.RecordingCrew.map.Goals as goal
 
 pub returns-clause-handed : goal.returns-clause-handed
 returns-clause-handed g c = always_ok c.map.result _ (

@@ -5,9 +5,9 @@ use Rattle.std.proofs.lemmas.List.{take_more, map-append, length-map}
 use Rattle.srm_member.specs.Record.{Record}
 use Rattle.srm_cell.specs.declared.job.Job.{Job}
 use Rattle.srm_cell.specs.Views.{own_cell}
-use Rattle.srm_crew.specs.declared.recording.Note.{Note}
+use Rattle.srm_engine_and_report_tests.specs.declared.recording.Note.{Note}
 use Rattle.srm_interfaces.specs.Crews.{plain_jobs}
-use Rattle.srm_crew.specs.Notes.{notes_of}
+use Rattle.srm_engine_and_report_tests.specs.Recorded.{notes_of}
 
 module _ {M : Type 0} where
   -- the note of a job as it is

@@ -4,10 +4,10 @@ ghost use Rattle.std.specs.List.{range_with_len};
 ghost use Rattle.srm_net.specs.Limits.{most_nodes};
 ghost use Rattle.srm_cell.specs.Jobs.{MayAdvance};
 ghost use Rattle.srm_interfaces.specs.Crews.{Maps, plain_jobs};
-ghost use Rattle.srm_crew.specs.Notes.{notes_of, noted_none, noted_more};
+ghost use Rattle.srm_engine_and_report_tests.specs.Recorded.{notes_of, noted_none, noted_more};
 
-use crate::plain::PlainCrew;
 use srm_cell::job::{Done, Job};
+use srm_crew::plain::PlainCrew;
 use srm_interfaces::crew::Crew;
 use srm_interfaces::fault::CrewFault;
 use srm_ledger::ledger::{Ledger, Seat};
@@ -28,8 +28,7 @@ pub struct Note {
     pub cells: usize,
 }
 
-/// A plain crew that notes its calls: a caller that is to hand a crew certain jobs is tried with it, and the calls that it noted
-/// are compared with those that were due. Its contract says that it notes exactly the calls, as long as each is answered.
+/// A plain crew that notes its calls, to be compared with those that were due: exactly the calls, as long as each is answered.
 #[derive(Drop)]
 pub struct Recording {
     inner: PlainCrew,
@@ -37,7 +36,7 @@ pub struct Recording {
 }
 
 impl Recording {
-    ghost use Rattle.srm_crew.specs.Recorded.{calls_kept};
+    ghost use Rattle.srm_engine_and_report_tests.specs.Recorded.{calls_kept};
 
     /// It has noted nothing yet.
     pub fn new(alloc: Global) -> Recording
