@@ -4,4 +4,5 @@ pub mod Hearers
 pub mod Sinks
 pub mod Watches
 pub mod InTurn
+pub mod WatchSinks
 pub mod Grouped

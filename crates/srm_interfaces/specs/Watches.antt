@@ -33,6 +33,11 @@ abbrev pub KeepMembers : {K : Type 0} → (K → List Row → Type 0) → ℕ �
 KeepMembers keeps m [] rows = Unit {0}
 KeepMembers keeps m (k ∷ ks) rows = keeps k (rows_of_member m rows) × KeepMembers keeps (suc m) ks rows
 
+-- of each member is now kept: what was kept before, of whichever rows, and its rows of these
+abbrev pub KeepOn : {K : Type 0} → (K → List Row → Type 0) → List K → List Row → List K → Type 0
+KeepOn keeps old rows new =
+    (before : List Row) → KeepMembers keeps 0 old before → KeepMembers keeps 0 new (before ++ rows)
+
 module _ {M K : Type 0} where
   -- the job without what is kept
   abbrev pub job_in : WatchedJob M K → Job M
