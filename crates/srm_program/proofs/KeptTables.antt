@@ -1,5 +1,5 @@
 -- What is told of a table that is written at the end of a run, of what a watch kept.
-use Rattle.std.proofs.Common.{◌≡◌, ◌≤◌, ℕ, List, length, Option, Result, Ok, Err, refl, sym, subst, arith}
+use Rattle.std.proofs.Common.{◌≡◌, ◌∙◌, ◌≤◌, ℕ, List, [], length, Option, Result, Ok, Err, ap, refl, sym, subst, arith}
 use Rattle.std.proofs.lemmas.List.{length-map}
 use Rattle.std.specs.Global.{Vec}
 use Rattle.srm_net.specs.Network.{Network}
@@ -9,8 +9,9 @@ use Rattle.srm_member.specs.declared.row.Row.{Row}
 use Rattle.srm_member.specs.declared.exit.Exit.{Exit}
 use Rattle.srm_cell.specs.Setting.{setting_of}
 use Rattle.srm_interfaces.specs.Watches.{KeepMembers}
-use Rattle.srm_model.specs.World.{IsOutcome}
-use Rattle.srm_options.specs.declared.options.Engine.TheVariants.{Window}
+use Rattle.srm_interfaces.specs.declared.watch_sink.WatchSink.{WatchSink}
+use Rattle.srm_interfaces.specs.WatchSinks.{TakesIn, kept_in, watch_in}
+use Rattle.srm_options.specs.declared.options.Engine.TheVariants.{Step, Window}
 use Rattle.srm_options.specs.declared.options.Options.{Options}
 use Rattle.srm_options.specs.declared.options.Show.{Show}
 use Rattle.srm_options.specs.declared.options.Show.TheVariants.{Trace, Members, Losses, Operations, Links, Timers}
@@ -25,9 +26,10 @@ use Rattle.srm_program.specs.declared.fault.LabFault.{LabFault}
 use Rattle.srm_program.specs.declared.fault.LabFault.TheVariants.{BadCut, BadWidth, ShareFull, NoMemory, CountFull, WriteFault}
 use Rattle.srm_program.specs.declared.task.Task.{Task}
 use Rattle.srm_program.specs.Askings.{ForEachSeed, IsKept, Reports}
-use Rattle.srm_program.specs.Reports.{ByShow, TellsReport, TellsTable, Writes, failures_after_run}
-use Rattle.srm_program.specs.Runs.{BreaksOff, KeepsRows, LeavesOff, MayBreakOff, TellsRefusedFor, fault_of_run}
-use Rattle.srm_program.proofs.TableTexts.{asked_told, shown, table_told}
+use Rattle.srm_program.specs.EndTables.{IsKeptOf}
+use Rattle.srm_program.specs.Reports.{ByShow, IsWhole, TellsReport, TellsTable, Writes, failures_after_run, table_shown}
+use Rattle.srm_program.specs.Runs.{BreaksOff, KeepsRows, LeavesOff, MayBreakOff, TellsRefusedFor, TellsRows, fault_of_run}
+use Rattle.srm_program.proofs.TableTexts.{asked_told, table_told}
 use Rattle.srm_program.proofs.Texts.{keeps-itself}
 
 -- the refusal of a run whose rows are watched
@@ -43,9 +45,42 @@ kept_refused A T keeps p net seed o old new fault.ShareFull window asked met =
 kept_refused A T keeps p net seed o old new fault.BadCut window asked met = (tt, (window, asked))
 kept_refused A T keeps p net seed o old new fault.BadWidth window asked met = (tt, (window, asked.0, asked.1))
 
--- this table is written at the end
-abbrev pub IsWhole : Show → Type 0
-IsWhole show = ByShow show (λ text. ⊥) (Unit {0})
+-- what a sink took of the sequential run is kept; and where that was refused, nothing is told of it
+module _ {K W : Type 0} (keeps : W → K → List Row → Type 0) (watch : W) (task : Task) (rs : List Record) (a b : WatchSink K W) where
+  abbrev Took : Result (List ℕ) LabFault → PlainScenario → Network → ℕ → Type 0
+  Took r p net seed = TellsRows (TakesIn keeps) (λ a rows b. Unit {0}) p net seed task.options a r b
+
+  pub steps_kept : (v : Vec K) (totals : List ℕ) → watch_in a ≡ watch → length (kept_in a) ≡ length task.session.scenario.now.members
+      → KeepMembers (keeps watch) 0 (kept_in a) [] → v.items ≡ kept_in b → ForEachSeed task rs (Took (Ok totals))
+      → IsKept (keeps watch) task rs (Ok (v, totals))
+  steps_kept v totals same many none is told = record {
+    kept = λ seed h.
+        let t = (told seed h).0 in
+        let all : KeepMembers (keeps watch) 0 (kept_in b) t.0 =
+        subst (λ (w : W). KeepMembers (keeps w) 0 (kept_in b) t.0) same
+        (t.3.kept [] (subst (λ (w : W). KeepMembers (keeps w) 0 (kept_in a) []) (sym same) none)) in (
+          ap length is ∙ t.3.many ∙ many,
+          (t.0, t.1, t.2, subst (λ (l : List K). KeepMembers (keeps watch) 0 l t.0) (sym is) all),
+        );
+    refused = λ seed h. (told seed h).1;
+  }
+
+  pub steps_refused : (f : LabFault) → 0 ≡ failures_after_run {T = List ℕ} (Err f) 0 → ForEachSeed task rs (Took (Err f))
+      → IsKept (keeps watch) task rs (Err f)
+  steps_refused f count told = record {
+    kept = λ seed h. (by task.session.scenario.now task.session.net.now seed f count (told seed h)).0;
+    refused = λ seed h. (by task.session.scenario.now task.session.net.now seed f count (told seed h)).1;
+  }
+    where
+      by : (p : PlainScenario) (net : Network) (seed : ℕ) (f : LabFault) → 0 ≡ failures_after_run {T = List ℕ} (Err f) 0
+          → Took (Err f) p net seed → KeepsRows (keeps watch) (setting_of p net seed) (Err f)
+          × TellsRefusedFor {T = Vec K × List ℕ} p net seed task.options (Err f)
+      by p net seed BadCut count t = (tt, t.1)
+      by p net seed BadWidth count t = (tt, t.1)
+      by p net seed ShareFull count t = (tt, t.1)
+      by p net seed NoMemory count t = (tt, t.1)
+      by p net seed CountFull count t = (t.0.0, t.1)
+      by p net seed (WriteFault n) count t = absurd (omega (arith, count))
 
 whole_report : (T : Type 0) (p : PlainScenario) (net : Network) (seed : ℕ) (asked show : Show) (old new : Option (List ℕ))
     (r : Result T LabFault) → IsWhole show → asked ≡ show → TellsTable p net seed show old new r → TellsReport p net seed asked old new r
@@ -99,17 +134,18 @@ module _ {K : Type 0} (keeps : K → List Row → Type 0) where
 
   -- what was kept, seen as this list, is of each member
   pub rows_kept : (task : Task) (rs : List Record) (v : Vec K × List ℕ) (ks : List K) → ks ≡ v.0.items → IsKept keeps task rs (Ok v)
-      → ForEachSeed task rs (λ p net seed. (rows : List Row) × (exits : List Exit) × IsOutcome (setting_of p net seed) rows exits v.1
-      × (length p.members ≤ length ks) × KeepMembers keeps 0 ks rows)
+      → ForEachSeed task rs (λ p net seed. (rows : List Row) × (exits : List Exit) × IsKeptOf keeps task.session seed ks v.1 rows exits)
   rows_kept task rs v ks are kept seed h =
       let k = kept.kept seed h in
       let p = task.session.scenario.now in
       let many : length p.members ≤ length v.0.items = let n = k.0 in omega (arith, n) in (
         k.1.0,
         k.1.1,
-        k.1.2,
-        subst (λ (l : List K). length p.members ≤ length l) (sym are) many,
-        subst (λ (l : List K). KeepMembers keeps 0 l k.1.0) (sym are) k.1.3,
+        record {
+          outcome = k.1.2;
+          many = subst (λ (l : List K). length p.members ≤ length l) (sym are) many;
+          are = subst (λ (l : List K). KeepMembers keeps 0 l k.1.0) (sym are) k.1.3;
+        },
       )
 
   module _ {O : Type 0} (T : Type 0) (o : outlet.Ghosts O) (task : Task) (rs : List Record) (show : Show) (whole : IsWhole show)
@@ -135,9 +171,8 @@ module _ {K : Type 0} (keeps : K → List Row → Type 0) where
     -- the report of a whole run, of which the outlet took the table
     pub kept_report : (old new : O) (v : Vec K × List ℕ) (ks : List K) (r : Result T LabFault) → ks ≡ v.0.items
         → IsKept keeps task rs (Ok v) → o.failures new ≡ failures_after_run r (o.failures old)
-        → ForEachSeed task rs (λ p net seed. (rows : List Row) (exits : List Exit) → IsOutcome (setting_of p net seed) rows exits v.1
-        → length p.members ≤ length ks → KeepMembers keeps 0 ks rows
-        → Writes (o.taken old) (o.taken new) (shown show p net rows v.1) r)
+        → ForEachSeed task rs (λ p net seed. (rows : List Row) (exits : List Exit)
+        → IsKeptOf keeps task.session seed ks v.1 rows exits → Writes (o.taken old) (o.taken new) (table_shown show p net rows v.1) r)
         → Reports o task rs old r new
     kept_report old new v ks r are kept failures writes = record {
       failures = failures;
@@ -146,13 +181,13 @@ module _ {K : Type 0} (keeps : K → List Row → Type 0) where
           let net = task.session.net.now in
           let t = rows_kept task rs v ks are kept seed h in
           whole_report T p net seed task.options.show show (o.taken old) (o.taken new) r whole is
-          (table_told p net seed show t.0 t.1 v.1 t.2 (o.taken old) (o.taken new) r (writes seed h t.0 t.1 t.2 t.3 t.4));
+          (table_told p net seed show t.0 t.1 v.1 t.2.outcome (o.taken old) (o.taken new) r (writes seed h t.0 t.1 t.2));
       refusals = λ seed h.
           let p = task.session.scenario.now in
           let net = task.session.net.now in
           let t = rows_kept task rs v ks are kept seed h in (
-            asked_told p net seed task.options (kept.refused seed h) (o.taken old) (o.taken new) (shown show p net t.0 v.1) r
-                (writes seed h t.0 t.1 t.2 t.3 t.4),
+            asked_told p net seed task.options (kept.refused seed h) (o.taken old) (o.taken new) (table_shown show p net t.0 v.1) r
+                (writes seed h t.0 t.1 t.2),
             whole_left T p net seed task.options show (o.taken old) (o.taken new) r whole is,
           );
     }

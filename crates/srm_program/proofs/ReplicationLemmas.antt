@@ -8,7 +8,7 @@ use Rattle.std.specs.Option.{option_map_or}
 use Rattle.std.specs.Io.KnownBytes.{Appends}
 use Rattle.std.proofs.KnownBytes.{Appends-trans}
 use Rattle.std.proofs.lemmas.Grind.{flat_map-append}
-use Rattle.csv.specs.Writing.{default_writer, row_text}
+use Rattle.csv.specs.Writing.{default_writer, fields_text, is_blank, row_text}
 use Rattle.srm_net.specs.Network.{Network}
 use Rattle.srm_scenario.specs.declared.parts.MemberSpec.{MemberSpec}
 use Rattle.srm_scenario.specs.Plain.{PlainScenario}
@@ -97,6 +97,17 @@ columns_are_line Losses = (refl, (refl, (refl, (refl, (refl, (refl, (refl, tt)))
 columns_are_line Operations = (refl, (refl, (refl, (refl, (refl, (refl, (refl, (refl, (refl, (refl, (refl, (refl, tt))))))))))))
 columns_are_line Links = (refl, (refl, (refl, (refl, (refl, (refl, tt))))))
 columns_are_line Timers = (refl, (refl, (refl, (refl, (refl, (refl, (refl, (refl, (refl, (refl, (refl, (refl, tt))))))))))))
+
+-- the line of the columns, that of the seed in front
+pub seed_first : (show : Show) → row_text default_writer (codes "seed" ∷ columns_shown show)
+    ≡ codes "seed," ++ row_text default_writer (columns_shown show)
+unfolding fields_text is_blank
+seed_first Trace = refl
+seed_first Members = refl
+seed_first Losses = refl
+seed_first Operations = refl
+seed_first Links = refl
+seed_first Timers = refl
 
 -- ---- a run more
 

@@ -7,26 +7,21 @@ use Rattle.srm_member.specs.declared.row.Row.{Row}
 use Rattle.srm_member.specs.declared.exit.Exit.{Exit}
 use Rattle.srm_cell.specs.Setting.{setting_of}
 use Rattle.srm_model.specs.World.{IsOutcome}
-use Rattle.srm_report.specs.Tables.{table_lines}
 use Rattle.srm_program.specs.declared.fault.LabFault.{LabFault}
 use Rattle.srm_program.specs.declared.fault.LabFault.TheVariants.{BadCut, BadWidth, ShareFull, NoMemory, CountFull, WriteFault}
 use Rattle.srm_options.specs.declared.options.Show.{Show}
 use Rattle.srm_options.specs.declared.options.Engine.TheVariants.{Window}
 use Rattle.srm_options.specs.declared.options.Options.{Options}
-use Rattle.srm_program.specs.Reports.{columns_shown, rows_shown, report_of, Writes, TellsTable}
+use Rattle.srm_program.specs.Reports.{report_of, table_shown, Writes, TellsTable}
 use Rattle.srm_program.specs.Runs.{MayBeCut, TellsRefusedFor}
-
--- the table of a run that left these rows and totals
-abbrev pub shown : Show → PlainScenario → Network → List Row → List ℕ → List ℕ
-shown show p net rows totals = table_lines (columns_shown show) (rows_shown show p net rows totals)
 
 module _ (p : PlainScenario) (net : Network) (seed : ℕ) (show : Show) (rows : List Row) (exits : List Exit) (totals : List ℕ)
     (o : IsOutcome (setting_of p net seed) rows exits totals) where
   -- the table is a function of the world in which the run ends
-  report_is : shown show p net rows totals ≡ report_of show p net o.world
-  report_is = λ i. shown show p net (o.trace_is i) (o.totals_are i)
+  report_is : table_shown show p net rows totals ≡ report_of show p net o.world
+  report_is = λ i. table_shown show p net (o.trace_is i) (o.totals_are i)
 
-  pub table_told : {T : Type 0} (old new : Option (List ℕ)) (r : Result T LabFault) → Writes old new (shown show p net rows totals) r
+  pub table_told : {T : Type 0} (old new : Option (List ℕ)) (r : Result T LabFault) → Writes old new (table_shown show p net rows totals) r
       → TellsTable p net seed show old new r
   table_told old new (Ok v) w = (o.world, o.last, subst (λ (t : List ℕ). Appends old new t) report_is w)
   table_told old new (Err NoMemory) w = w

@@ -18,7 +18,7 @@ use Rattle.srm_interfaces.specs.declared.sink.Stage.TheVariants.{Fresh}
 use Rattle.srm_engine.specs.Openings.{HoldOpeningRecords}
 use Rattle.srm_program.specs.declared.task.Task.{Task}
 use Rattle.srm_program.specs.declared.fault.LabFault.{LabFault}
-use Rattle.srm_program.specs.Reports.{failures_after_run, TellsListing, TellsReport, TellsTable}
+use Rattle.srm_program.specs.Reports.{failures_after_run, TellsListing, TellsReport}
 use Rattle.srm_program.specs.Runs.{most_gathered, KeepsRows, LeavesOff, MayBreakOff, StandsAfter, TellsRefusals}
 use Rattle.srm_program.specs.Runs.{TellsRefusedFor, TellsRows}
 
@@ -70,13 +70,6 @@ pub record IsFresh {L O : Type 0} (s : ListingSink L O) : Type 0 where
   pub written : written_by s ≡ 0
 
 module _ {O T : Type 0} (o : outlet.Ghosts O) where
-  -- what comes of a table that is written at the end: how often its outlet failed, what it took, and the refusals
-  pub record Tabled (show : Show) (task : Task) (rs : List Record) (old : O) (r : Result T LabFault) (new : O)
-      : Type 0 where
-    pub failures : o.failures new ≡ failures_after_run r (o.failures old)
-    pub table : ForEachSeed task rs (λ p net seed. TellsTable p net seed show (o.taken old) (o.taken new) r)
-    pub refused : ForEachSeed task rs (λ p net seed. TellsRefusedFor p net seed task.options r)
-
   -- what comes of a table that lists rows: how often its outlet failed, what it took, the refusals, and where a run
   -- that broke off left it
   pub record IsListed (form : Form) (task : Task) (rs : List Record) (old : O) (r : Result T LabFault) (new : O)

@@ -41,7 +41,11 @@ rows_shown Operations p net rows totals = map (operation_row net rows) (names_lo
 rows_shown Links p net rows totals = link_rows totals
 rows_shown Timers p net rows totals = flat_map timers_rows rows
 
--- the same of a run that ended in this world: its totals are the crossings of its packets
+-- the table of a run that left these rows and totals
+abbrev pub table_shown : Show → PlainScenario → Network → List Row → List ℕ → List ℕ
+table_shown show p net rows totals = table_lines (columns_shown show) (rows_shown show p net rows totals)
+
+-- the rows of a run that ended in this world: its totals are the crossings of its packets
 abbrev pub rows_of_run : Show → PlainScenario → Network → World → List (List (List ℕ))
 rows_of_run show p net w = rows_shown show p net w.trace (crossings (traffic_of p net) w.trace)
 
@@ -103,6 +107,10 @@ abbrev pub ByShow : Show → ((List Row → List ℕ) → Type 0) → Type 0 →
 ByShow Trace listed written = listed (λ rows. table_lines trace_columns (map trace_fields rows))
 ByShow Timers listed written = listed (λ rows. table_lines timers_columns (flat_map timers_rows rows))
 ByShow show listed written = written
+
+-- the table lists no rows, and is written at the end
+abbrev pub IsWhole : Show → Type 0
+IsWhole show = ByShow show (λ text. ⊥) (Unit {0})
 
 -- what an outlet took of the report of a run: that of the sequential run, for the seed and the table alone. After a
 -- refusal it is of the trace and the table of timers a front, and of another table nothing but where the outlet failed

@@ -1,19 +1,21 @@
-//! Tables that are written at the end of a run, of what a watch kept of each member.
+//! The tables that are made at the end of a run.
 use crate::asked::Asked;
+use crate::at_end::write_windows;
+use crate::end_table::EndTable;
 use crate::fault::LabFault;
-use crate::keep_rows::keep_rows;
-use crate::report::write_text;
 use crate::watched_table::WatchedTable;
 use srm_interfaces::watch_crew::WatchCrew;
+use srm_ledger::totals::Totals;
 use srm_member::participant::Participant;
 use srm_report::count_rows::CountRows;
+use srm_report::fault::ReportFault;
 use srm_report::find_losses::FindLosses;
 use srm_report::find_operations::FindOperations;
 use srm_report::keep_nothing::{KeepNothing, Nothing};
 use srm_report::links::links_text;
 use srm_report::losses::losses_kept;
-use srm_report::losses_sink::LossesSink;
 use srm_report::member_count::MemberCount;
+use srm_report::member_losses::MemberLosses;
 use srm_report::member_operations::MemberOperations;
 use srm_report::members::members_kept;
 use srm_report::operations::operations_kept;
@@ -22,6 +24,24 @@ use srm_scenario::session::Session;
 use std::alloc::Global;
 
 /// The table of members, of the counts of each.
+impl EndTable<MemberCount> for CountRows {
+    ghost use Rattle.srm_options.specs.declared.options.Show.TheVariants.{Members};
+
+    ghost table = { Members };
+
+    ghost is_whole = { tt };
+
+    fn text(
+        &self,
+        alloc: Global,
+        session: Session,
+        kept: &[MemberCount],
+        _totals: &Totals,
+    ) -> Result<Vec<u8>, ReportFault> {
+        members_kept(alloc, session.scenario, kept)
+    }
+}
+
 impl WatchedTable<MemberCount> for CountRows {
     ghost use Rattle.srm_options.specs.declared.options.Show.TheVariants.{Members};
 
@@ -34,38 +54,68 @@ impl WatchedTable<MemberCount> for CountRows {
         crew: &mut C,
         outlet: &mut O,
     ) -> Result<(), LabFault> {
-        let scenario = asked.task.session.scenario;
-        match keep_rows(alloc, asked, crew, self) {
-            Ok((kept, _)) => write_text(members_kept(alloc, scenario, kept.as_slice()), outlet),
-            Err(fault) => Err(fault),
-        }
+        write_windows(alloc, asked, crew, self, outlet)
     }
 }
 
 /// The table of losses, of what became of those of each member.
-impl WatchedTable<LossesSink> for FindLosses {
+impl EndTable<MemberLosses> for FindLosses {
+    ghost use Rattle.srm_options.specs.declared.options.Show.TheVariants.{Losses};
+
+    ghost table = { Losses };
+
+    ghost is_whole = { tt };
+
+    fn text(
+        &self,
+        alloc: Global,
+        session: Session,
+        kept: &[MemberLosses],
+        _totals: &Totals,
+    ) -> Result<Vec<u8>, ReportFault> {
+        // By its contract, every scenario is accepted: that makes the rows of its run orderly.
+        let _ = session.scenario.until();
+        losses_kept(alloc, session.net, kept)
+    }
+}
+
+impl WatchedTable<MemberLosses> for FindLosses {
     ghost use Rattle.srm_options.specs.declared.options.Show.TheVariants.{Losses};
 
     ghost show = { Losses };
 
-    fn write<M: Participant, C: WatchCrew<M, LossesSink, FindLosses>, O: Outlet>(
+    fn write<M: Participant, C: WatchCrew<M, MemberLosses, FindLosses>, O: Outlet>(
         self,
         alloc: Global,
         asked: Asked<M>,
         crew: &mut C,
         outlet: &mut O,
     ) -> Result<(), LabFault> {
-        let Session { scenario, net } = asked.task.session;
-        // By its contract, every scenario is accepted: that makes the rows of its run orderly.
-        let _ = scenario.until();
-        match keep_rows(alloc, asked, crew, self) {
-            Ok((kept, _)) => write_text(losses_kept(alloc, net, kept.as_slice()), outlet),
-            Err(fault) => Err(fault),
-        }
+        write_windows(alloc, asked, crew, self, outlet)
     }
 }
 
 /// The table of operations, of what the rows of each member tell of them.
+impl EndTable<MemberOperations> for FindOperations {
+    ghost use Rattle.srm_options.specs.declared.options.Show.TheVariants.{Operations};
+
+    ghost table = { Operations };
+
+    ghost is_whole = { tt };
+
+    fn text(
+        &self,
+        alloc: Global,
+        session: Session,
+        kept: &[MemberOperations],
+        _totals: &Totals,
+    ) -> Result<Vec<u8>, ReportFault> {
+        // By its contract, every scenario is accepted: that makes the rows of its run orderly.
+        let _ = session.scenario.until();
+        operations_kept(alloc, session.net, kept)
+    }
+}
+
 impl WatchedTable<MemberOperations> for FindOperations {
     ghost use Rattle.srm_options.specs.declared.options.Show.TheVariants.{Operations};
 
@@ -78,17 +128,29 @@ impl WatchedTable<MemberOperations> for FindOperations {
         crew: &mut C,
         outlet: &mut O,
     ) -> Result<(), LabFault> {
-        let Session { scenario, net } = asked.task.session;
-        // By its contract, every scenario is accepted: that makes the rows of its run orderly.
-        let _ = scenario.until();
-        match keep_rows(alloc, asked, crew, self) {
-            Ok((kept, _)) => write_text(operations_kept(alloc, net, kept.as_slice()), outlet),
-            Err(fault) => Err(fault),
-        }
+        write_windows(alloc, asked, crew, self, outlet)
     }
 }
 
 /// The table of links, of the totals alone.
+impl EndTable<Nothing> for KeepNothing {
+    ghost use Rattle.srm_options.specs.declared.options.Show.TheVariants.{Links};
+
+    ghost table = { Links };
+
+    ghost is_whole = { tt };
+
+    fn text(
+        &self,
+        alloc: Global,
+        _session: Session,
+        _kept: &[Nothing],
+        totals: &Totals,
+    ) -> Result<Vec<u8>, ReportFault> {
+        links_text(alloc, totals)
+    }
+}
+
 impl WatchedTable<Nothing> for KeepNothing {
     ghost use Rattle.srm_options.specs.declared.options.Show.TheVariants.{Links};
 
@@ -101,9 +163,6 @@ impl WatchedTable<Nothing> for KeepNothing {
         crew: &mut C,
         outlet: &mut O,
     ) -> Result<(), LabFault> {
-        match keep_rows(alloc, asked, crew, self) {
-            Ok((_, totals)) => write_text(links_text(alloc, &totals), outlet),
-            Err(fault) => Err(fault),
-        }
+        write_windows(alloc, asked, crew, self, outlet)
     }
 }

@@ -2,7 +2,9 @@
 #![tactic(auto)]
 
 mod asked;
+mod at_end;
 mod by_watch;
+mod end_table;
 mod explained;
 pub mod fault;
 mod hand_rows;

@@ -15,13 +15,14 @@ use crate::replicating::Replicating;
 use srm_net::net::Net;
 use srm_report::outlet::Outlet;
 use srm_report::writing::{WriteFault, write_out};
+use srm_report::{links, losses, members, operations, timers, trace};
 use srm_scenario::scenario::Scenario;
 use srm_team::bench::{Bench, serve_all};
 use srm_team::naming::Naming;
 use srm_team::opened::Opened;
 use srm_team::relay::{Relay, open_relay};
 use srm_team::work::Work;
-use std::alloc::Global;
+use std::alloc::{AllocError, Global};
 use std::marker::{Brand, Send, Sync};
 use std::sync::Wait;
 use std::thread::{Threads, join_mut};
@@ -29,34 +30,27 @@ use std::thread::{Threads, join_mut};
 // How many runs a worker has at most under way, or done and not written.
 const RUNS: usize = 4;
 
-// The lines of the columns.
-const TRACE: &[u8] = b"seed,time,member,cause,ref,result,lost,sent\n";
-
-const MEMBERS: &[u8] =
-    b"seed,member,role,node,joined,left,drawn,heard,lost,fixed,open,requests,repairs,sessions\n";
-
-const LOSSES: &[u8] = b"seed,member,source,page,number,detected,recovered,delay\n";
-
-const OPERATIONS: &[u8] =
-    b"seed,source,page,number,losers,recovered,left,detected,asked,requests,repairs,last,delay\n";
-
-const LINKS: &[u8] = b"seed,link,data,requests,repairs,sessions,dropped\n";
-
-const TIMERS: &[u8] =
-    b"seed,time,member,cause,ref,c1,c2,d1,d2,ave_dup_req,ave_req_delay,ave_dup_rep,ave_rep_delay\n";
-
 // The line of the columns.
-fn header(show: Show) -> &'static [u8]
-    ensures { result.now ≡ row_text default_writer (codes "seed" ∷ columns_shown show) }
+fn columns(show: Show) -> &'static [u8]
+    ensures { result.now ≡ row_text default_writer (columns_shown show) }
 {
     match show {
-        Show::Trace => TRACE,
-        Show::Members => MEMBERS,
-        Show::Losses => LOSSES,
-        Show::Operations => OPERATIONS,
-        Show::Links => LINKS,
-        Show::Timers => TIMERS,
+        Show::Trace => trace::HEADER,
+        Show::Members => members::HEADER,
+        Show::Losses => losses::HEADER,
+        Show::Operations => operations::HEADER,
+        Show::Links => links::HEADER,
+        Show::Timers => timers::HEADER,
     }
+}
+
+// The same, with the column of the seed in front.
+fn header(alloc: Global, show: Show) -> Result<Vec<u8>, AllocError>
+    ensures { IfOk result (λ text. text.items ≡ row_text default_writer (codes "seed" ∷ columns_shown show)) }
+{
+    let mut text = Vec::from_slice(alloc, b"seed,")?;
+    text.extend_from_slice(columns(show))?;
+    Ok(text)
 }
 
 // Writes a text, and counts the bytes that were taken.
@@ -171,7 +165,10 @@ fn lead<W: Work<u64, Result<Vec<u8>, LabFault>> + Copy, J: Naming, R: Wait, O: O
 {
     let mut relay = relay;
     let mut written = 0;
-    match put(outlet, &mut written, header(span.show)) {
+    let Ok(columns) = header(alloc, span.show) else {
+        return Err(LabFault::NoMemory);
+    };
+    match put(outlet, &mut written, columns.as_slice()) {
         Ok(()) => {}
         Err(fault) => return Err(fault),
     }

@@ -2,27 +2,21 @@
 ghost use Rattle.std.specs.Prelude.{◌≡◌, ◌<◌, ◌-◌, ◌^◌, ℕ, map};
 ghost use Rattle.srm_scenario.specs.Plain.{network_of};
 ghost use Rattle.srm_engine.specs.Openings.{HoldOpeningRecords};
-ghost use Rattle.srm_engine.specs.Starts.{AreOpening};
-ghost use Rattle.srm_program.specs.Askings.{MayStep, Tabled};
 ghost use Rattle.srm_program.specs.Reports.{failures_after_run, TellsReport};
 ghost use Rattle.srm_program.specs.Runs.{MayShareBag, TellsRefusals};
 
-use crate::asked::Asked;
+use crate::at_end::write_steps;
 use crate::fault::LabFault;
-use crate::hand_rows::hand_rows;
 use crate::in_windows::in_windows;
 use crate::listed::write_listing;
 use crate::options::{Engine, Options, Show};
-use crate::report::write_text;
 use crate::task::Task;
 use srm_member::member::Member;
-use srm_member::participant::Participant;
 use srm_net::net::Net;
-use srm_report::links::links_text;
-use srm_report::losses_sink::LossesSink;
-use srm_report::members_sink::MembersSink;
-use srm_report::no_rows::NoRows;
-use srm_report::operations_sink::OperationsSink;
+use srm_report::count_rows::CountRows;
+use srm_report::find_losses::FindLosses;
+use srm_report::find_operations::FindOperations;
+use srm_report::keep_nothing::KeepNothing;
 use srm_report::outlet::Outlet;
 use srm_report::timers::TimersListing;
 use srm_report::trace::TraceListing;
@@ -81,89 +75,10 @@ pub fn run<R: Threads + Wait + Sync, O: Outlet>(
     }
     match options.show {
         Show::Trace => write_listing(alloc, task, members, TraceListing, outlet),
-        Show::Members => write_members(alloc, task, members, outlet),
-        Show::Losses => write_losses(alloc, task, members, outlet),
-        Show::Operations => write_operations(alloc, task, members, outlet),
-        Show::Links => write_links(alloc, task, members, outlet),
+        Show::Members => write_steps(alloc, task, members, CountRows, outlet),
+        Show::Losses => write_steps(alloc, task, members, FindLosses { alloc }, outlet),
+        Show::Operations => write_steps(alloc, task, members, FindOperations { alloc }, outlet),
+        Show::Links => write_steps(alloc, task, members, KeepNothing, outlet),
         Show::Timers => write_listing(alloc, task, members, TimersListing, outlet),
-    }
-}
-
-// Counts the rows of each member, and writes the table of members at the end.
-fn write_members<M: Participant, O: Outlet>(
-    alloc: Global,
-    task: Task,
-    members: Vec<M>,
-    outlet: &mut O,
-) -> Result<(), LabFault>
-    requires opening { AreOpening task.session (map M.plain members.items) }
-    requires may { MayStep O.Outlet task outlet.old }
-    ensures { Tabled O.Outlet Show.Members task.entry (map M.plain members.items) outlet.old result outlet.new }
-{
-    let scenario = task.session.scenario;
-    let mut sink = MembersSink::new(alloc);
-    match hand_rows(alloc, Asked { task, members }, &mut sink) {
-        Ok(_) => write_text(sink.text(alloc, scenario), outlet),
-        Err(fault) => Err(fault),
-    }
-}
-
-// Finds the losses of the rows, and writes the table of losses at the end.
-fn write_losses<M: Participant, O: Outlet>(
-    alloc: Global,
-    task: Task,
-    members: Vec<M>,
-    outlet: &mut O,
-) -> Result<(), LabFault>
-    requires opening { AreOpening task.session (map M.plain members.items) }
-    requires may { MayStep O.Outlet task outlet.old }
-    ensures { Tabled O.Outlet Show.Losses task.entry (map M.plain members.items) outlet.old result outlet.new }
-{
-    let Session { scenario, net } = task.session;
-    // By its contract, every scenario is accepted: that makes the rows of its run orderly.
-    let _ = scenario.until();
-    let mut sink = LossesSink::new(alloc);
-    match hand_rows(alloc, Asked { task, members }, &mut sink) {
-        Ok(_) => write_text(sink.text(alloc, net), outlet),
-        Err(fault) => Err(fault),
-    }
-}
-
-// Finds what became of each operation that was lost, and writes the table of operations at the end.
-fn write_operations<M: Participant, O: Outlet>(
-    alloc: Global,
-    task: Task,
-    members: Vec<M>,
-    outlet: &mut O,
-) -> Result<(), LabFault>
-    requires opening { AreOpening task.session (map M.plain members.items) }
-    requires may { MayStep O.Outlet task outlet.old }
-    ensures { Tabled O.Outlet Show.Operations task.entry (map M.plain members.items) outlet.old result outlet.new }
-{
-    let Session { scenario, net } = task.session;
-    // By its contract, every scenario is accepted: that makes the rows of its run orderly.
-    let _ = scenario.until();
-    let mut sink = OperationsSink::new(alloc);
-    match hand_rows(alloc, Asked { task, members }, &mut sink) {
-        Ok(_) => write_text(sink.text(alloc, net), outlet),
-        Err(fault) => Err(fault),
-    }
-}
-
-// Writes the table of links at the end, of the totals alone.
-fn write_links<M: Participant, O: Outlet>(
-    alloc: Global,
-    task: Task,
-    members: Vec<M>,
-    outlet: &mut O,
-) -> Result<(), LabFault>
-    requires opening { AreOpening task.session (map M.plain members.items) }
-    requires may { MayStep O.Outlet task outlet.old }
-    ensures { Tabled O.Outlet Show.Links task.entry (map M.plain members.items) outlet.old result outlet.new }
-{
-    let mut sink = NoRows::new();
-    match hand_rows(alloc, Asked { task, members }, &mut sink) {
-        Ok(totals) => write_text(links_text(alloc, &totals), outlet),
-        Err(fault) => Err(fault),
     }
 }

@@ -1,12 +1,9 @@
 -- Counts of rows, row by row.
-use Rattle.std.proofs.Common.{◌≡◌, ◌∙◌, ℕ, ◌+◌, ◌<◌, ◌≢◌, map, Bool, true, false, cond, ◌&&◌, List, [], ◌∷◌, ◌++◌}
-use Rattle.std.proofs.Common.{length, Option}
-use Rattle.std.proofs.Common.{refl, ap, sym, subst, zero, suc, get_or, slice_set, ◌==◌, eqb-true, eq-eqb, true≢false, arith}
+use Rattle.std.proofs.Common.{◌≡◌, ◌∙◌, ℕ, ◌+◌, ◌<◌, Bool, cond, ◌&&◌, List, [], ◌∷◌, ◌++◌, length, Option}
+use Rattle.std.proofs.Common.{ap, sym, zero, suc, arith}
 use Rattle.std.specs.List.{count_by}
 use Rattle.std.proofs.lemmas.List.Sums.{sum_by_push}
 use Rattle.std.proofs.lemmas.List.Folds.{find-append}
-use Rattle.std.proofs.lemmas.List.{get_or-map, get_or-set_other, length-map, map-set}
-use Rattle.std.proofs.lemmas.Grind.{get_or-set_at}
 use Rattle.srm_member.specs.ByMember.{rows_of_member}
 use Rattle.srm_member.specs.declared.row.Word.{Word}
 use Rattle.srm_member.specs.declared.row.Row.{Row}
@@ -16,7 +13,7 @@ use Rattle.srm_scenario.specs.declared.parts.MemberSpec.{MemberSpec}
 use Rattle.srm_report.specs.declared.counts.Counts.{Counts}
 use Rattle.srm_report.specs.declared.member_count.MemberCount.{MemberCount}
 use Rattle.srm_report.specs.Counted.{first_known}
-use Rattle.srm_report.specs.MemberCounts.{CountsOn, IsCounted, IsCountOf, counts_at}
+use Rattle.srm_report.specs.MemberCounts.{IsCountOf, counts_at}
 use Rattle.srm_report.specs.Members.{counts_of, member_fields, member_rows}
 use Rattle.srm_report.specs.Rows.{time_of_first}
 
@@ -77,21 +74,6 @@ counts_more rows r c joined left drawn heard lost fixed requests repairs session
 
 -- ---- members
 
-rows_push : (m : ℕ) (rows : List Row) (r : Row) → rows_of_member m (rows ++ r ∷ [])
-    ≡ cond (r.key.member == m) (rows_of_member m rows ++ r ∷ []) (rows_of_member m rows)
-rows_push m [] r = elim (r.key.member == m) as (λ b. cond b (r ∷ []) [] ≡ cond b (r ∷ []) []) [ true ↦ refl | false ↦ refl ]
-rows_push m (q ∷ rows) r = elim (q.key.member == m)
-    as (λ b. cond b (q ∷ rows_of_member m (rows ++ r ∷ [])) (rows_of_member m (rows ++ r ∷ []))
-    ≡ cond (r.key.member == m) (cond b (q ∷ rows_of_member m rows) (rows_of_member m rows) ++ r ∷ [])
-    (cond b (q ∷ rows_of_member m rows) (rows_of_member m rows))) [
-      | true ↦ ap (λ l. q ∷ l) (rows_push m rows r) ∙ under (r.key.member == m) q (rows_of_member m rows ++ r ∷ []) (rows_of_member m rows)
-      | false ↦ rows_push m rows r
-    ]
-  where
-    under : (b : Bool) (q : Row) (xs ys : List Row) → q ∷ cond b xs ys ≡ cond b (q ∷ xs) (q ∷ ys)
-    under true q xs ys = refl
-    under false q xs ys = refl
-
 -- the rows of one member more
 pub member_rows-more : (rows : List Row) (m : ℕ) (ks : List MemberSpec) (k : MemberSpec) (n : ℕ) → m + length ks ≡ n
     → member_rows rows m (ks ++ k ∷ []) ≡ member_rows rows m ks ++ member_fields n k (counts_of (rows_of_member n rows)) ∷ []
@@ -101,43 +83,6 @@ member_rows-more rows m (q ∷ ks) k n e = ap (λ l. member_fields m q (counts_o
     (member_rows-more rows (m + 1) ks k n (omega arith))
 
 -- ---- the counts of all members
-
-not_eqb : (a b : ℕ) → a ≢ b → (a == b) ≡ false
-not_eqb a b ne = grind arith
-
--- one row more, of the member whose counts are these
-module _ (rows : List Row) (r : Row) (ks : List MemberCount) (was : (m : ℕ) → IsCounted rows ks m) where
-  rows_at : (m : ℕ) (b : Bool) → (r.key.member == m) ≡ b
-      → rows_of_member m (rows ++ r ∷ []) ≡ cond b (rows_of_member m rows ++ r ∷ []) (rows_of_member m rows)
-  rows_at m b e = rows_push m rows r ∙ ap (λ t. cond t (rows_of_member m rows ++ r ∷ []) (rows_of_member m rows)) e
-
-  pub counted : (k : ℕ) (old new : MemberCount) → k ≡ r.key.member → k < length ks → old ≡ get_or ks k old
-      → CountsOn old (r ∷ []) new → (m : ℕ) → IsCounted (rows ++ r ∷ []) (slice_set ks k new) m
-  counted k old new e within here adds m =
-      let counts = λ (x : MemberCount). x.counts in
-      let cs = map counts ks in
-      let inside : k < length cs = subst (λ n. k < n) (sym (length-map ks counts)) within in
-      let read : get_or cs k (counts_of []) ≡ old.counts = get_or-map counts ks k old (counts_of []) within ∙ ap counts (sym here) in
-      ap (λ l. get_or l m (counts_of [])) (map-set counts ks k new)
-      ∙ elim (m == k) as (λ b. (m == k) ≡ b
-      → get_or (slice_set cs k new.counts) m (counts_of []) ≡ counts_of (rows_of_member m (rows ++ r ∷ []))) [
-        | true ↦ λ q.
-            let same : m ≡ k = eqb-true m k q in
-            get_or-set_at cs k m new.counts (counts_of []) same inside
-            ∙ adds (rows_of_member m rows) (sym read ∙ ap (λ j. get_or cs j (counts_of [])) (sym same) ∙ was m)
-            ∙ ap counts_of (sym (rows_at m true (eq-eqb _ _ (sym e ∙ sym same))))
-        | false ↦ λ q.
-            let ne : m ≢ k = λ same. true≢false (sym (eq-eqb m k same) ∙ q) in
-            get_or-set_other cs k m new.counts (counts_of []) ne ∙ was m
-            ∙ ap counts_of (sym (rows_at m false (not_eqb r.key.member m (λ same. ne (sym same ∙ sym e)))))
-      ] refl
-
--- a member of which no row was counted yet
-pub pushed : (ks : List MemberCount) (k : MemberCount) → IsCountOf [] k → (m : ℕ) → counts_at (ks ++ k ∷ []) m ≡ counts_at ks m
-pushed [] k h zero = h
-pushed [] k h (suc m) = refl
-pushed (q ∷ ks) k h zero = refl
-pushed (q ∷ ks) k h (suc m) = pushed ks k h m
 
 -- what is kept of each member is counted of its rows
 pub kept_counted : (rows : List Row) (k : ℕ) (ks : List MemberCount) → KeepMembers (λ c own. IsCountOf own c) k ks rows → (m : ℕ)

@@ -17,9 +17,8 @@ use Rattle.srm_report.specs.declared.course.Course.{Course}
 use Rattle.srm_report.specs.declared.loss.Loss.{Loss}
 use Rattle.srm_report.specs.declared.member_operations.MemberOperations.{MemberOperations}
 use Rattle.srm_report.specs.declared.sending.Sending.{Sending}
-use Rattle.srm_report.specs.KeptOperations.{KeepsOperations}
+use Rattle.srm_report.specs.KeptOperations.{KeepsOperations, TellOperations}
 use Rattle.srm_report.specs.Operations.{has_left}
-use Rattle.srm_report.specs.OperationsSinks.{TellOperations}
 use Rattle.srm_report.specs.Sendings.{TellLeft, TellSent}
 use Rattle.srm_report.proofs.KeptLossLemmas.{all_few, entries_of, kept_losses, Lost, none_own}
 use Rattle.srm_report.proofs.SendingLemmas.{tell_sent_alike}

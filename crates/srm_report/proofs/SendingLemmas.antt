@@ -1,4 +1,4 @@
--- What was sent for names, and who left, row by row.
+-- What was sent for names, row by row.
 use Rattle.std.proofs.Common.{◌≡◌, ◌∙◌, ℕ, ◌+◌, Bool, true, false, cond, ◌&&◌, List, [], ◌∷◌, ◌++◌, map, Option, Some, None}
 use Rattle.std.proofs.Common.{refl, ap, sym, subst, append-nil, arith, ◌⊎◌, inl, inr, Result, Ok, Err, OnOk}
 use Rattle.std.specs.List.{count_by, fold}
@@ -195,12 +195,3 @@ caused_other rows r es was h k = sent_none rows r es was (λ m. (fails is_ask m 
 pub on_ok : {A E : Type 0} (r : Result A E) (P Q : Type 0) → OnOk r P → (P → Q) → OnOk r Q
 on_ok (Ok v) P Q p f = f p
 on_ok (Err e) P Q p f = tt
-
--- ---- answers
-
-pub where_ok : {A E : Type 0} (r : Result A E) (P : Type 0) → ((v : A) → r ≡ Ok v → P) → OnOk r P
-where_ok (Ok v) P f = f v refl
-where_ok (Err e) P f = tt
-
-pub ok_of : {A E : Type 0} (r : Result A E) (v : A) (P : Type 0) → r ≡ Ok v → OnOk r P → P
-ok_of r v P e h = subst (λ (q : Result _ _). OnOk q P) e h

@@ -10,14 +10,10 @@ pub mod Links
 pub mod ListingSinks
 pub mod Listings
 pub mod Losses
-pub mod LossesSinks
 pub mod MemberCounts
 pub mod Members
-pub mod MembersSinks
-pub mod NoRows
 pub mod OperationLaws
 pub mod Operations
-pub mod OperationsSinks
 pub mod Pieces
 pub mod Rows
 pub mod Seeds

@@ -19,10 +19,6 @@ CountsOn = TakesIn IsCountOf
 abbrev pub counts_at : List MemberCount → ℕ → Counts
 counts_at ks m = slice_index_or (map (λ k. k.counts) ks) m (counts_of [])
 
--- of member m they are of exactly its rows
-abbrev pub IsCounted : List Row → List MemberCount → ℕ → Type 0
-IsCounted rows ks m = counts_at ks m ≡ counts_of (rows_of_member m rows)
-
--- so of each of so many members
+-- of each of so many members they are of exactly its rows
 abbrev pub AreCounts : ℕ → List Row → List MemberCount → Type 0
-AreCounts members rows ks = (m : ℕ) → m < members → IsCounted rows ks m
+AreCounts members rows ks = (m : ℕ) → m < members → counts_at ks m ≡ counts_of (rows_of_member m rows)

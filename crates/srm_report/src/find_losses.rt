@@ -1,5 +1,7 @@
 //! The watch that keeps what became of the losses of a member.
-use crate::losses_sink::LossesSink;
+use crate::by_loss::ByLoss;
+use crate::courses::note;
+use crate::member_losses::MemberLosses;
 use srm_interfaces::watch::Watch;
 use srm_member::row::Row;
 use std::alloc::{AllocError, Global};
@@ -11,20 +13,25 @@ pub struct FindLosses {
     pub alloc: Global,
 }
 
-impl Watch<LossesSink> for FindLosses {
+impl Watch<MemberLosses> for FindLosses {
     ghost use Rattle.srm_report.specs.KeptLosses.{KeepsLosses};
 
     ghost keeps = { λ _ k rows. KeepsLosses rows k };
 
-    fn none(&self) -> LossesSink {
-        LossesSink::new(self.alloc)
+    fn none(&self) -> MemberLosses {
+        MemberLosses {
+            losses: ByLoss::new(self.alloc),
+        }
     }
 
-    fn clear(&self, kept: &mut LossesSink) {
+    fn clear(&self, kept: &mut MemberLosses) {
         *kept = self.none();
     }
 
-    fn add(&self, kept: &mut LossesSink, rows: &[Row]) -> Result<(), AllocError> {
-        kept.take(rows)
+    fn add(&self, kept: &mut MemberLosses, rows: &[Row]) -> Result<(), AllocError> {
+        for row in rows {
+            note(&mut kept.losses, row)?;
+        }
+        Ok(())
     }
 }

@@ -13,8 +13,8 @@ use srm_ledger::kind::Kind;
 use srm_ledger::totals::Totals;
 use std::alloc::Global;
 
-// The line of the columns.
-const HEADER: &[u8] = b"link,data,requests,repairs,sessions,dropped\n";
+/// The line of the columns.
+pub const HEADER: &[u8] = b"link,data,requests,repairs,sessions,dropped\n";
 
 /// The table of links, as CSV with line feeds: a header, and a line for each link, in the order of their numbers.
 ///

@@ -13,11 +13,9 @@ use crate::fault::ReportFault;
 use crate::fields::{put_dash, put_delay, put_number, put_time};
 use crate::line::Line;
 use crate::loss::Loss;
+use crate::losses::HEADER;
 use srm_net::net::Net;
 use std::alloc::Global;
-
-// The line of the columns.
-const HEADER: &[u8] = b"member,source,page,number,detected,recovered,delay\n";
 
 // The table of these losses, which are those of orderly rows in rising order, with what became of each.
 pub(crate) fn table_text(

@@ -7,11 +7,16 @@ ghost use Rattle.srm_report.specs.KeptLosses.{KeepsLosses};
 ghost use Rattle.srm_report.specs.Losses.{losses_table};
 
 use crate::fault::ReportFault;
+use crate::find_losses::FindLosses;
 use crate::loss_lines::table_text;
-use crate::losses_sink::LossesSink;
+use crate::member_losses::MemberLosses;
+use srm_interfaces::keeping::kept_of;
 use srm_member::row::Row;
 use srm_net::net::Net;
 use std::alloc::Global;
+
+/// The line of the columns.
+pub const HEADER: &[u8] = b"member,source,page,number,detected,recovered,delay\n";
 
 /// The table of losses, as CSV with line feeds: a header, and a line for each name that a member lost. Lines rise by member,
 /// source, page and number.
@@ -34,16 +39,20 @@ pub fn losses_text(alloc: Global, net: &Net, rows: &[Row]) -> Result<Vec<u8>, Re
     requires { IsOrderly (length net.now.hosts) rows.now }
     ensures { IfOk result (λ text. text.items ≡ losses_table net.now rows.now) }
 {
-    let mut sink = LossesSink::new(alloc);
-    sink.take(rows)?;
-    sink.text(alloc, net)
+    let kept = kept_of(
+        alloc,
+        &FindLosses { alloc },
+        usize::from(net.members()),
+        rows,
+    )?;
+    losses_kept(alloc, net, kept.as_slice())
 }
 
-/// The same of rows of whose losses this was kept of each member, as [`FindLosses`](crate::find_losses::FindLosses) keeps them.
+/// The same of rows of whose losses this was kept of each member, as [`FindLosses`] keeps them.
 ///
 /// # Errors
 /// `NoMemory`.
-pub fn losses_kept(alloc: Global, net: &Net, kept: &[LossesSink]) -> Result<Vec<u8>, ReportFault>
+pub fn losses_kept(alloc: Global, net: &Net, kept: &[MemberLosses]) -> Result<Vec<u8>, ReportFault>
     requires { (rows : List R) × IsOrderly (length net.now.hosts) rows × (length net.now.hosts ≤ length kept.now)
         × KeepMembers (λ k own. KeepsLosses own k) 0 kept.now rows }
     ensures { (rows : List R) → IsOrderly (length net.now.hosts) rows → length net.now.hosts ≤ length kept.now

@@ -12,14 +12,11 @@ use crate::fault::ReportFault;
 use crate::fields::{put_number, put_sum, put_time, put_word};
 use crate::line::Line;
 use crate::member_count::MemberCount;
+use crate::members::HEADER;
 use srm_net::role::Role;
 use srm_scenario::parts::MemberSpec;
 use srm_scenario::scenario::Scenario;
 use std::alloc::Global;
-
-// The line of the columns.
-const HEADER: &[u8] =
-    b"member,role,node,joined,left,drawn,heard,lost,fixed,open,requests,repairs,sessions\n";
 
 // The table of a scenario's members of which this was counted, in the order of their numbers. Members after the last had no row.
 pub(crate) fn table_text(

@@ -5,13 +5,18 @@ ghost use Rattle.srm_member.specs.declared.row.Row.{Row as R};
 ghost use Rattle.srm_report.specs.MemberCounts.{IsCountOf};
 ghost use Rattle.srm_report.specs.Members.{members_table};
 
+use crate::count_rows::CountRows;
 use crate::fault::ReportFault;
 use crate::member_count::MemberCount;
 use crate::member_lines::table_text;
-use crate::members_sink::MembersSink;
+use srm_interfaces::keeping::kept_of;
 use srm_member::row::Row;
 use srm_scenario::scenario::Scenario;
 use std::alloc::Global;
+
+/// The line of the columns.
+pub const HEADER: &[u8] =
+    b"member,role,node,joined,left,drawn,heard,lost,fixed,open,requests,repairs,sessions\n";
 
 /// The table of members, as CSV with line feeds: a header, and a line for each member of the scenario, in the order of their
 /// numbers.
@@ -41,12 +46,11 @@ pub fn members_text(
 ) -> Result<Vec<u8>, ReportFault>
     ensures { IfOk result (λ text. text.items ≡ members_table scenario.now rows.now) }
 {
-    let mut sink = MembersSink::new(alloc);
-    sink.take(rows)?;
-    sink.text(alloc, scenario)
+    let kept = kept_of(alloc, &CountRows, usize::from(scenario.members()), rows)?;
+    members_kept(alloc, scenario, kept.as_slice())
 }
 
-/// The same of rows of which this was counted of each member, as [`CountRows`](crate::count_rows::CountRows) counts it.
+/// The same of rows of which this was counted of each member, as [`CountRows`] counts it.
 ///
 /// # Errors
 /// `NoMemory`.

@@ -7,7 +7,7 @@ ghost use Rattle.srm_member.specs.declared.row.Row.{Row as R};
 ghost use Rattle.srm_member.specs.Orderly.{IsOrderly};
 ghost use Rattle.srm_report.specs.Lines.{full_room, line_room, line_text, line_written};
 ghost use Rattle.srm_report.specs.Operations.{last_told, operation_columns, operation_fields, operations_table};
-ghost use Rattle.srm_report.specs.OperationsSinks.{TellOperations};
+ghost use Rattle.srm_report.specs.KeptOperations.{TellOperations};
 ghost use Rattle.srm_report.specs.Sendings.{sending_in};
 ghost use Rattle.srm_report.specs.Tables.{table_lines};
 ghost use Rattle.srm_report.specs.Tallies.{tally_in};
@@ -17,6 +17,7 @@ use crate::fault::ReportFault;
 use crate::fields::{put_dash, put_delay, put_number, put_time};
 use crate::line::Line;
 use crate::loss::Loss;
+use crate::operations::HEADER;
 use crate::recovery::Recovery;
 use crate::sending::Sending;
 use crate::sendings::sending;
@@ -26,10 +27,6 @@ use srm_member::named::Named;
 use srm_net::net::Net;
 use srm_net::packet::Name;
 use std::alloc::Global;
-
-// The line of the columns.
-const HEADER: &[u8] =
-    b"source,page,number,losers,recovered,left,detected,asked,requests,repairs,last,delay\n";
 
 // The table of orderly rows of which this was found: their losses, in rising order, with what became of each; what was sent for
 // each name; and of each member whether it left.

@@ -7,14 +7,19 @@ ghost use Rattle.srm_report.specs.KeptOperations.{KeepsOperations};
 ghost use Rattle.srm_report.specs.Operations.{operations_table};
 
 use crate::fault::ReportFault;
+use crate::find_operations::FindOperations;
 use crate::member_operations::MemberOperations;
 use crate::operation_lines::found_text;
-use crate::operations_sink::OperationsSink;
 use crate::sendings::add_sent;
+use srm_interfaces::keeping::kept_of;
 use srm_member::named::Named;
 use srm_member::row::Row;
 use srm_net::net::Net;
 use std::alloc::Global;
+
+/// The line of the columns.
+pub const HEADER: &[u8] =
+    b"source,page,number,losers,recovered,left,detected,asked,requests,repairs,last,delay\n";
 
 /// The table of operations, as CSV with line feeds: a header, and a line for each name that some member lost. Lines rise by source,
 /// page and number.
@@ -43,12 +48,16 @@ pub fn operations_text(alloc: Global, net: &Net, rows: &[Row]) -> Result<Vec<u8>
     requires { IsOrderly (length net.now.hosts) rows.now }
     ensures { IfOk result (λ text. text.items ≡ operations_table net.now rows.now) }
 {
-    let mut sink = OperationsSink::new(alloc);
-    sink.take(rows)?;
-    sink.text(alloc, net)
+    let kept = kept_of(
+        alloc,
+        &FindOperations { alloc },
+        usize::from(net.members()),
+        rows,
+    )?;
+    operations_kept(alloc, net, kept.as_slice())
 }
 
-/// The same of rows of which this was kept of each member, as [`FindOperations`](crate::find_operations::FindOperations) keeps it.
+/// The same of rows of which this was kept of each member, as [`FindOperations`] keeps it.
 ///
 /// # Errors
 /// `NoMemory`, also where a count would be too great for its number.

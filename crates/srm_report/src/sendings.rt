@@ -1,10 +1,10 @@
-//! What was sent for names, and who left, row by row.
-ghost use Rattle.std.specs.Prelude.{◌≡◌, ◌<◌, ◌++◌, ◌∷◌, [], ℕ, List, Some, OnOk, IfSome, length, get_or, false};
+//! What was sent for names, row by row.
+ghost use Rattle.std.specs.Prelude.{◌≡◌, ◌++◌, ◌∷◌, [], List, Some, OnOk, IfSome};
 ghost use Rattle.std.specs.FinMap.Entries.{put};
 ghost use Rattle.srm_net.specs.Names.{name_cmp};
 ghost use Rattle.srm_member.specs.declared.row.Row.{Row as R};
 ghost use Rattle.srm_report.specs.Operations.{sooner};
-ghost use Rattle.srm_report.specs.Sendings.{repaired, requested, sending_in, TellLeft, TellSent, together as sent_together};
+ghost use Rattle.srm_report.specs.Sendings.{repaired, requested, sending_in, TellSent, together as sent_together};
 
 use crate::sending::Sending;
 use srm_member::named::Named;
@@ -120,28 +120,4 @@ fn together(some: Sending, others: Sending) -> Option<Sending>
         requests,
         repairs,
     })
-}
-
-// Takes in whether the member of one more row left.
-pub(crate) fn note_left(left: &mut Vec<bool>, row: &Row) -> Result<(), AllocError>
-    ensures { (rows : List R) → TellLeft rows left.old.items → OnOk result (TellLeft (rows ++ row.now ∷ []) left.new.items) }
-{
-    if row.cause != Word::Leave {
-        return Ok(());
-    }
-    let member = usize::from(row.key.member);
-    reach(left, member)?;
-    left[member] = true;
-    Ok(())
-}
-
-// Makes room for a member.
-fn reach(left: &mut Vec<bool>, member: usize) -> Result<(), AllocError>
-    ensures room { OnOk result (member < length left.new.items) }
-    ensures same { (m : ℕ) → get_or left.new.items m false ≡ get_or left.old.items m false }
-{
-    while left.len() <= member {
-        left.push(false)?;
-    }
-    Ok(())
 }

@@ -18,8 +18,8 @@ use srm_member::intervals::Intervals;
 use srm_member::row::Row;
 use std::alloc::{AllocError, Global};
 
-// The line of the columns.
-const HEADER: &[u8] =
+/// The line of the columns.
+pub const HEADER: &[u8] =
     b"time,member,cause,ref,c1,c2,d1,d2,ave_dup_req,ave_req_delay,ave_dup_rep,ave_rep_delay\n";
 
 /// The table of timers, as a table that lists the rows which tell of intervals.

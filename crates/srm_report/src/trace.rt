@@ -16,8 +16,8 @@ use srm_member::told::Told;
 use srm_net::packet::Packet;
 use std::alloc::{AllocError, Global};
 
-// The line of the columns.
-const HEADER: &[u8] = b"time,member,cause,ref,result,lost,sent\n";
+/// The line of the columns.
+pub const HEADER: &[u8] = b"time,member,cause,ref,result,lost,sent\n";
 
 // How many bytes most lines of a run have at most, to make room for them at once.
 const USUAL_LINE: usize = 40;

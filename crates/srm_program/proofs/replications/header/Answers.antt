@@ -1,27 +1,7 @@
-use Rattle.std.proofs.Common.{refl}
-use Rattle.csv.specs.Writing.{fields_text, is_blank}
+use Rattle.std.proofs.Common.{◌∙◌, ◌++◌, sym}
+use Rattle.srm_program.proofs.ReplicationLemmas.{seed_first}
 use Rattle.srm_program.proofs.replications.header.Goals as goal
 
-pub returns-in-Trace : goal.returns-in-Trace
-unfolding fields_text is_blank
-returns-in-Trace c = rw c.in-Trace.is refl
-
-pub returns-in-Members : goal.returns-in-Members
-unfolding fields_text is_blank
-returns-in-Members c = rw c.in-Members.is refl
-
-pub returns-in-Losses : goal.returns-in-Losses
-unfolding fields_text is_blank
-returns-in-Losses c = rw c.in-Losses.is refl
-
-pub returns-in-Operations : goal.returns-in-Operations
-unfolding fields_text is_blank
-returns-in-Operations c = rw c.in-Operations.is refl
-
-pub returns-in-Links : goal.returns-in-Links
-unfolding fields_text is_blank
-returns-in-Links c = rw c.in-Links.is refl
-
-pub returns-in-Timers : goal.returns-in-Timers
-unfolding fields_text is_blank
-returns-in-Timers c = rw c.in-Timers.is refl
+pub returns : goal.returns
+returns c =
+    c.in_ok-extend_from_slice.ensures.items ∙ (λ i. c.in_ok-text.ensures.items i ++ c.columns.ensures i) ∙ sym (seed_first c.args.show)

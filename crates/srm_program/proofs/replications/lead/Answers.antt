@@ -10,7 +10,8 @@ pub returns-in-Err : goal.returns-in-Err
 returns-in-Err g c = λ p net each. (
   c.in-Err.ensures.failures,
   header_failed (series_of p net c.args.span) (Unit {0}) (Unit {0}) (g.O.Outlet.taken c.args.outlet.now)
-      (g.O.Outlet.taken c.put.new.outlet) c.put.new.written c.header.result.now c.in-Err.fault c.header.ensures c.in-Err.ensures.taken,
+      (g.O.Outlet.taken c.put.new.outlet) c.put.new.written c.as_slice.result.now c.in-Err.fault
+      (c.as_slice.ensures.value ∙ c.in-Ok.ensures) c.in-Err.ensures.taken,
 )
 
 pub loop-seed-init : goal.loop-seed-init
@@ -24,13 +25,13 @@ loop-seed-init g c =
       to = refl;
       work = refl;
       under_way = c.requires.fresh ∙ ap (range_with_len first) none;
-      unfailed = c.in-Ok.ensures.failures;
+      unfailed = c.in-Ok-put.ensures.failures;
       below = c.requires.count;
       runs = λ p net each. (
         [],
         omega arith,
         header_put (series_of p net c.args.span) (Unit {0}) tt (g.O.Outlet.taken c.args.outlet.now) (g.O.Outlet.taken c.put.new.outlet)
-            c.put.new.written c.header.result.now c.header.ensures c.in-Ok.ensures.taken,
+            c.put.new.written c.as_slice.result.now (c.as_slice.ensures.value ∙ c.in-Ok.ensures) c.in-Ok-put.ensures.taken,
       );
     }
 
@@ -72,8 +73,8 @@ returns-in-Err-put g c = λ p net each.
     let mid = g.O.Outlet.taken c.loop-seed.outlet in
     let new = g.O.Outlet.taken c.put-in-loop-seed.new.outlet in
     let fault : Result (Unit {0}) LabFault = Err c.in-Err-put.fault in
-    let put = subst (λ t. PutsNext mid c.loop-seed.written t fault new c.put-in-loop-seed.new.written) c.as_slice.ensures.value
-    c.in-Err-put.ensures.taken in (
+    let put = subst (λ t. PutsNext mid c.loop-seed.written t fault new c.put-in-loop-seed.new.written)
+    c.as_slice-in-loop-seed.ensures.value c.in-Err-put.ensures.taken in (
       c.in-Err-put.ensures.failures ∙ ap (failures_after_run fault) was.unfailed,
       run_failed (series_of p net c.args.span) runs.0 (g.O.Outlet.taken c.args.outlet.now) mid
           c.loop-seed.written runs.2 seed runs.1 was.from
@@ -90,8 +91,8 @@ loop-seed-preserved g c =
     let mid = g.O.Outlet.taken c.loop-seed.outlet in
     let new = g.O.Outlet.taken c.put-in-loop-seed.new.outlet in
     let ok : Result (Unit {0}) LabFault = Ok tt in
-    let put = subst (λ t. PutsNext mid c.loop-seed.written t ok new c.put-in-loop-seed.new.written) c.as_slice.ensures.value
-    c.in-Ok-put.ensures.taken in
+    let put = subst (λ t. PutsNext mid c.loop-seed.written t ok new c.put-in-loop-seed.new.written)
+    c.as_slice-in-loop-seed.ensures.value c.in-Ok-put-2.ensures.taken in
     record {
       from = omega (arith, was.from);
       ahead = ahead.0;
@@ -99,7 +100,7 @@ loop-seed-preserved g c =
       to = was.to;
       work = c.next_lines.ensures.work ∙ was.work;
       under_way = ahead.2;
-      unfailed = c.in-Ok-put.ensures.failures ∙ was.unfailed;
+      unfailed = c.in-Ok-put-2.ensures.failures ∙ was.unfailed;
       below = was.below;
       runs = λ p net each.
           let runs = was.runs p net each in

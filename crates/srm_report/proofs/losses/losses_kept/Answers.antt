@@ -1,11 +1,11 @@
 use Rattle.std.proofs.Common.{◌≡◌, ◌∙◌, ◌++◌, ◌<◌, List, length, sym, arith}
 use Rattle.srm_report.specs.declared.course.Course.{Course}
 use Rattle.srm_report.specs.declared.loss.Loss.{Loss}
-use Rattle.srm_report.specs.declared.losses_sink.LossesSink.{LossesSink}
+use Rattle.srm_report.specs.declared.member_losses.MemberLosses.{MemberLosses}
 use Rattle.srm_report.proofs.KeptLossLemmas.{entries_more, kept_losses}
 use Rattle.srm_report.proofs.losses.losses_kept.Goals as goal
 
-abbrev found : LossesSink → List (Loss × Course)
+abbrev found : MemberLosses → List (Loss × Course)
 found k = k.losses
 
 pub loop-own-preserved : goal.loop-own-preserved

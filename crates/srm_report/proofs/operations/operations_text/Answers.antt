@@ -1,14 +1,16 @@
-use Rattle.std.proofs.Common.{[], length, sym, subst, append-nil}
-use Rattle.srm_report.specs.Courses.{LoseInTurn}
-use Rattle.srm_report.proofs.ByMemberLemmas.{orderly_loses}
+use Rattle.std.proofs.Common.{◌∙◌}
+use Rattle.srm_report.specs.KeptOperations.{KeepsOperations}
+use Rattle.srm_report.proofs.TakingLemmas.{as_seen}
 use Rattle.srm_report.proofs.operations.operations_text.Goals as goal
 
-pub text-requires : goal.text-requires
-text-requires c =
-    let o = subst LoseInTurn (sym (append-nil c.args.rows.now)) (orderly_loses (length c.args.net.now.hosts) c.args.rows.now c.requires) in
-    (c.args.rows.now, c.requires, c.in_ok-take.ensures.taken [] [] o c.new-sink.ensures.found)
+pub operations_kept-requires : goal.operations_kept-requires
+operations_kept-requires c =
+    let t = as_seen (λ k own. KeepsOperations own k) c.args.rows.now _ _ _ _ c.as_slice.ensures.value c.in_ok-kept.ensures.many
+    (c.from.ensures ∙ c.members.ensures.members) c.in_ok-kept.ensures.kept in
+    (c.args.rows.now, c.requires, t.0, t.1)
 
 pub returns : goal.returns
 returns c =
-    let o = subst LoseInTurn (sym (append-nil c.args.rows.now)) (orderly_loses (length c.args.net.now.hosts) c.args.rows.now c.requires) in
-    c.text.ensures c.args.rows.now c.requires (c.in_ok-take.ensures.taken [] [] o c.new-sink.ensures.found)
+    let t = as_seen (λ k own. KeepsOperations own k) c.args.rows.now _ _ _ _ c.as_slice.ensures.value c.in_ok-kept.ensures.many
+    (c.from.ensures ∙ c.members.ensures.members) c.in_ok-kept.ensures.kept in
+    c.operations_kept.ensures c.args.rows.now c.requires t.0 t.1
