@@ -44,7 +44,8 @@ JOBS ?= $(shell nproc)
 # a name is taken from where make was called, and where there is no such file, from experiments/
 CONFIG_FILE = $(firstword $(wildcard $(PWD)/$(CONFIG) $(abspath $(CONFIG)) $(abspath experiments/$(CONFIG))) $(CONFIG))
 # it runs in the folder of its configuration, in which that names files; only one sweep at a time into one folder of
-# results: the lock is the process's, so that a killed sweep leaves none behind
+# results: the lock is the process's, so that a killed sweep leaves none behind, and no sweep outlives make
+UNDER = $(PYTHON) $(abspath experiments/under_make.py) $$PPID
 SNAKEMAKE = cd $(dir $(CONFIG_FILE)) && export PYTHONPATH=$(abspath python/src) SETUPTOOLS_USE_DISTUTILS=stdlib && \
 	results=$$($(PYTHON) $(abspath experiments/check_config.py) $(CONFIG_FILE)) && mkdir -p "$$results" && \
 	flock --verbose --nonblock --conflict-exit-code 3 "$$results/.lock" $(UNDER) \
@@ -57,7 +58,7 @@ REPORT = && realpath "$$results/report.html"
 experiments: $(SRM_LAB) ## makes the sweeps of experiments/config.yaml or CONFIG=.., their figures and report; keeps what is there
 	$(SNAKEMAKE) --cores $(JOBS) $(REPORT)
 
-# the directory has to be one that all nodes share; a job is over when Slurm says so, and none outlives make
+# the directory has to be one that all nodes share; a job is over when Slurm says so
 experiments-slurm: CORES ?= 4
 experiments-slurm: UNDER = $(PYTHON) $(abspath experiments/slurm/sweep.py) $$PPID "$$results"
 experiments-slurm: $(SRM_LAB) ## the same by Slurm: make experiments-slurm JOBS=2 CORES=2 SBATCH="--partition=short --time=30"

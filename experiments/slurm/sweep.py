@@ -3,30 +3,21 @@
 usage: sweep.py MAKE RESULTS SNAKEMAKE WORD ..
 
 All jobs have one name, made of the folder of results, which only one sweep has at a time. They are cancelled when Snakemake
-ends, which it does when this process is interrupted, terminated or loses its terminal, or when the process MAKE is no more;
-and where none of this was left to do so, when the next sweep begins.
+ends (as under_make.py has it), and where nothing was left to do so, when the next sweep begins.
 """
 import hashlib
 import os
 import shutil
-import signal
 import subprocess
 import sys
 import time
 from pathlib import Path
-from types import FrameType
 
-# seconds until it looks again whether make is there, that Snakemake has to end, and that Slurm has to end jobs
-LOOK, LEAVE, CANCEL = 1, 20, 120
-SIGNALS = (signal.SIGINT, signal.SIGTERM, signal.SIGHUP)
+sys.path.append(str(Path(__file__).resolve().parents[1]))
+from under_make import Stopped, heed_signals, run  # noqa: E402
 
-
-class Stopped(Exception):
-    """The sweep is to end before it is done."""
-
-
-def stop(number: int, frame: FrameType | None) -> None:
-    raise Stopped(f"by {signal.Signals(number).name}")
+# seconds that Slurm has to end jobs
+CANCEL = 120
 
 
 class Jobs:
@@ -58,50 +49,8 @@ class Jobs:
             time.sleep(1)
 
 
-def is_there(process: int) -> bool:
-    """Whether a process has not ended; one that has may still be in the table of processes."""
-    try:
-        return Path(f"/proc/{process}/stat").read_text().rpartition(")")[2].split()[0] != "Z"
-    except (FileNotFoundError, ProcessLookupError):
-        return False
-
-
-def watch(running: subprocess.Popen[bytes], make: int) -> int:
-    """Waits for Snakemake to end, and gives its status; Stopped where make ends first."""
-    while True:
-        try:
-            return running.wait(LOOK)
-        except subprocess.TimeoutExpired:
-            if not is_there(make):
-                raise Stopped("since make is no more") from None
-
-
-def end(running: subprocess.Popen[bytes]) -> None:
-    """Ends Snakemake, and what it is running here."""
-    for number in SIGNALS:
-        signal.signal(number, signal.SIG_IGN)
-    running.send_signal(signal.SIGINT)
-    try:
-        running.wait(LEAVE)
-    except subprocess.TimeoutExpired:
-        os.killpg(running.pid, signal.SIGKILL)
-
-
-def run(command: list[str], make: int) -> int:
-    """Runs Snakemake in a group of its own, which no key of the terminal reaches, and gives its status."""
-    with subprocess.Popen(command, start_new_session=True) as running:
-        try:
-            return watch(running, make)
-        except Stopped as why:
-            sys.stderr.write(f"the sweep is stopped {why}\n")
-            end(running)
-            return 1
-
-
 def main(make: str, results: str, *command: str) -> int:
-    for number in SIGNALS:
-        if signal.getsignal(number) is not signal.SIG_IGN:
-            signal.signal(number, stop)
+    heed_signals()
     jobs, folder = Jobs(Path(results)), Path(results, ".slurm").resolve()
     try:
         jobs.cancelled()

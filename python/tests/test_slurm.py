@@ -2,15 +2,12 @@
 import json
 import os
 import shutil
-import signal
 import subprocess
-import time
-from pathlib import Path
 
 import pytest
 import status
 import sweep
-from test_workflow import CONFIG, HERE, PROGRAM, ROWS
+from test_workflow import CONFIG, ENDS, HERE, PROGRAM, ROWS, at_work_in, kill_groups, until
 
 # the commands of Slurm: a job is a file with its name, state and limit; one of a point named by SLURM_KEEPS is never run
 SLURM = r"""#!/usr/bin/python3 -IS
@@ -67,35 +64,12 @@ def cluster(tmp_path):
         return started[-1]
 
     yield start
-    for one in started:
-        for group in {one.pid, *at_work_in(tmp_path)}:
-            try:
-                os.killpg(group, signal.SIGKILL)
-            except ProcessLookupError:
-                pass
-
-
-def at_work_in(folder):
-    """The groups of processes that a test left at work in its folder."""
-    for process in Path("/proc").glob("[0-9]*"):
-        try:
-            if os.readlink(process / "cwd") == str(folder):
-                yield os.getpgid(int(process.name))
-        except OSError:
-            pass
+    kill_groups([one.pid for one in started], tmp_path)
 
 
 def states(folder):
     """The states of all jobs, in the order in which they were submitted."""
     return [job.read_text().split("|")[1] for job in sorted((folder / "slurm/jobs").glob("*"))]
-
-
-def until(holds, seconds=300):
-    """Waits until something holds."""
-    end = time.monotonic() + seconds
-    while not holds():
-        assert time.monotonic() < end, "this takes too long"
-        time.sleep(0.1)
 
 
 def test_sweep_by_slurm_is_that_without(cluster, tmp_path):
@@ -114,10 +88,8 @@ def test_job_that_slurm_ends_is_told_and_the_others_go_on(cluster, tmp_path):
     assert not (tmp_path / "results/runs/one/size-2/part-0.done").exists()
 
 
-@pytest.mark.parametrize("number, send", [
-    (signal.SIGTERM, os.kill), (signal.SIGKILL, os.kill), (signal.SIGINT, os.killpg), (signal.SIGHUP, os.killpg)])
+@ENDS
 def test_ended_make_leaves_no_job(cluster, tmp_path, number, send):
-    """Killed alone, or with its group as by a key of the terminal, or with the terminal."""
     running = cluster("size-2|RUNNING")
     until(lambda: "RUNNING" in states(tmp_path))
     send(running.pid, number)

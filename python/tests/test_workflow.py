@@ -4,8 +4,11 @@ import json
 import os
 import re
 import shutil
+import signal
 import subprocess
 import sys
+import time
+from contextlib import suppress
 from pathlib import Path
 
 import pytest
@@ -32,6 +35,9 @@ END
 ONE: dict = {"kind": "chain", "size": [2, 3], "drop_link": 0, "seeds": 3}
 CONFIG: dict[str, dict] = {"experiments": {"one": ONE},
                            "figures": {"delay": {"draw": "lines", "of": ["one"], "x": "size", "y": "ratio"}}}
+# make is killed alone, or with its group as by a key of the terminal, or with the terminal
+ENDS = pytest.mark.parametrize("number, send", [
+    (signal.SIGTERM, os.kill), (signal.SIGKILL, os.kill), (signal.SIGINT, os.killpg), (signal.SIGHUP, os.killpg)])
 ROWS = [f"chain,{size},0,{seed},0/0/0,1,0,0,1,1,5000,5000,5000,2000" for size in (2, 3) for seed in (1, 2, 3)]
 
 
@@ -98,11 +104,37 @@ def test_configuration_is_taken_from_where_make_was_called(tmp_path):
     assert f"--configfile {HERE}/config.yaml" in make("SRM_LAB=/bin/true", "experiments")
 
 
+def at_work_in(folder):
+    """The groups of processes that a test left at work in its folder."""
+    for process in Path("/proc").glob("[0-9]*"):
+        try:
+            if os.readlink(process / "cwd") == str(folder):
+                yield os.getpgid(int(process.name))
+        except OSError:
+            pass
+
+
+def kill_groups(groups, folder):
+    """Kills these groups of processes, and what is at work in a folder."""
+    for group in {*groups, *at_work_in(folder)}:
+        with suppress(ProcessLookupError):
+            os.killpg(group, signal.SIGKILL)
+
+
+def until(holds, seconds=300):
+    """Waits until something holds."""
+    end = time.monotonic() + seconds
+    while not holds():
+        assert time.monotonic() < end, "this takes too long"
+        time.sleep(0.1)
+
+
 @pytest.fixture
 def started(tmp_path):
-    """Starts `make experiments` of a small sweep, whose program waits until a file is there."""
+    """Starts `make experiments` of a small sweep, whose program waits until a file is there; ends what is left of it."""
     if shutil.which("snakemake") is None:
         pytest.skip("no snakemake")
+    sweeps = []
 
     def start(name, waits_for):
         begun, program, config = (tmp_path / f"{name}.{ending}" for ending in ("begun", "sh", "json"))
@@ -110,11 +142,13 @@ def started(tmp_path):
         program.write_text(PROGRAM.replace("#!/bin/sh\n", f"#!/bin/sh\n{waiting}"))
         program.chmod(0o755)
         config.write_text(json.dumps({"experiments": {"one": {**ONE, "size": 2, "seeds": 1}}, "results": name}))
-        return subprocess.Popen(["make", "-s", f"--directory={HERE.parent}", "experiments", f"CONFIG={config}",
-                                 f"SRM_LAB={program}", "JOBS=1"], stderr=subprocess.PIPE, stdout=subprocess.PIPE,
-                                text=True)
+        words = ["make", "-s", f"--directory={HERE.parent}", "experiments", f"CONFIG={config}", f"SRM_LAB={program}", "JOBS=1"]
+        sweeps.append(subprocess.Popen(["env", "--default-signal=HUP,INT", *words], start_new_session=True,
+                                       stderr=subprocess.PIPE, stdout=subprocess.PIPE, text=True))
+        return sweeps[-1]
 
-    return start
+    yield start
+    kill_groups([one.pid for one in sweeps], tmp_path)
 
 
 def test_sweeps_with_different_results_run_side_by_side(started, tmp_path):
@@ -128,6 +162,15 @@ def test_sweeps_with_different_results_run_side_by_side(started, tmp_path):
         assert sweep.returncode == 0, told
         assert out.splitlines()[-1] == str(tmp_path / name / "report.html")
         assert (tmp_path / name / "tables/one.csv").read_text().splitlines()[1:] == ROWS[:3]
+
+
+@ENDS
+def test_ended_make_leaves_no_run(started, tmp_path, number, send):
+    sweep = started("ended", "/nowhere")
+    until((tmp_path / "ended.begun").exists)
+    send(sweep.pid, number)
+    _, told = sweep.communicate(timeout=600)  # all that writes there has ended
+    assert "the sweep is stopped" in told and not list(at_work_in(tmp_path))
 
 
 def test_second_sweep_into_the_same_results_is_refused_at_once(started, tmp_path):
