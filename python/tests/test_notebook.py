@@ -7,14 +7,13 @@ import subprocess
 import sys
 import xml.etree.ElementTree as xml
 from pathlib import Path
-from typing import Any
 
 import pandas
 import pytest
 from matplotlib.figure import Figure
 
 import srm_lab
-from srm_lab import ScenarioError, paired, plot, run, scenario, summarise, sweep
+from srm_lab import ScenarioError, paired, plot, run, scenario, summarise
 from srm_lab.page.html import D3
 from srm_lab.tree_picture import TreePicture, places_of
 
@@ -115,46 +114,6 @@ def test_bar_is_seen_in_a_notebook(monkeypatch, capsys):
     monkeypatch.setitem(sys.modules, "IPython", IPython)
     assert not bar_of(3, None).disable and bar_of(3, False).disable
     assert "0/3" in capsys.readouterr().err
-
-
-def test_scenario_of_a_point_is_made_once(program, tmp_path):
-    log = tmp_path / "log"
-
-    def make(nodes):
-        with open(log, "a", encoding="ascii") as lines:
-            lines.write(f"{nodes}\n")
-        return scenario.chain(nodes)
-
-    for workers in (1, 2):
-        log.write_text("")
-        sweep({"nodes": [3, 4, 5]}, make, seeds=4, program=program, cache=None, workers=workers)
-        assert sorted(log.read_text().split()) == ["3", "4", "5"]
-
-
-def test_scenarios_that_are_the_same_for_all_seeds_are_one(program, tmp_path):
-    def make(shape, seed):
-        return scenario.star(5, seed=seed) if shape == "star" else scenario.random_tree(5, seed=seed)
-
-    words = {"tables": "members", "program": program}
-    found = sweep({"shape": ["star", "tree"]}, make, seeds=6, cache=tmp_path, **words)
-    assert len([*tmp_path.iterdir()]) == 1 + 6
-    assert found[["shape", "seed"]].drop_duplicates().values.tolist() == [
-        [shape, seed] for shape in ("star", "tree") for seed in range(6)]
-    alone = sweep({"shape": ["tree"]}, make, seeds=[4], cache=None, **words)
-    same = found.query("shape == 'tree' and seed == 4").reset_index(drop=True)
-    pandas.testing.assert_frame_equal(alone, same)
-
-
-def test_networks_that_were_asked_for_are_kept_and_others_are_made():
-    assert scenario.star(9) is scenario.star(9) and scenario.star(9) is not scenario.star(9, seed=1)
-    wrong: Any
-    for wrong, told in ((9.0, "size is 9.0"), ([9], "size is .9")):
-        with pytest.raises(ScenarioError, match=told):
-            scenario.star(wrong)
-    first = scenario.chain(1000)
-    for delay in range(1, 101):
-        scenario.chain(1000, delay=delay)
-    assert scenario.chain(1000) is not first  # as many as 100,000 nodes are kept
 
 
 def test_plot_of_a_summary_has_its_means_and_intervals():

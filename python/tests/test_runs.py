@@ -18,7 +18,7 @@ import pytest
 from second_tables import second
 from srm_lab import RefusedError, ScenarioError, __version__, read_scenario, run, save, scenario
 from srm_lab.follower import Follower
-from srm_lab.frames import COLUMNS, Text, frame_of
+from srm_lab.frames import COLUMNS, Text, columns_of, joined
 from srm_lab.limits import MOST_SEED, MOST_TIME
 from srm_lab.tables import read_trace
 from srm_lab.traces import table_text
@@ -71,6 +71,11 @@ OPERATIONS = b"""seed,source,page,number,losers,recovered,left,detected,asked,re
 1,0,0,0,1,0,0,11,12,1,0,-,-
 1,0,0,1,1,1,0,2,-,0,0,2,0/4
 """
+
+
+def frame_of(name, texts):
+    """A table of these texts."""
+    return joined([columns_of(name, texts)])
 
 
 def test_operations_are_read():

@@ -5,24 +5,24 @@ from typing import TYPE_CHECKING, Any
 
 from . import writing
 from .form import PARTS, are_faultless, check_keys, elements
+from .kept import kept_of
 from .limits import VERSIONS, Limits
 from .repetition import DEFAULTS
 from .rules import check_rules
+from .writing import FIELDS
 
 if TYPE_CHECKING:
     from .scenario import Scenario
 
-# the field of a scenario that has the elements of a part, and the attribute of an element that has a key
-FIELDS = {"link": "tree", "member": "members", "draw": "draws", "session": "sessions", "drop": "drops", "outage": "outages",
-          "loss": "random_losses"}
-ELEMENTS = {*FIELDS.values()} - {"tree"}
+ELEMENTS = {*FIELDS.values()}
+# the attribute of an element that has a key
 ATTRIBUTES = {"from": "first", "to": "end"}
 
 
 def check(given: "Scenario", changed: Collection[str] | None = None) -> None:
     """Refuses a scenario with the first of its faults; of some changed fields only what concerns them."""
     limits = VERSIONS.get(given.least_version if given.version is None else given.version)
-    parts = [part for part in PARTS if changed is None or FIELDS[part] in changed]
+    parts = [part for part in PARTS if changed is None or FIELDS.get(part, "tree") in changed]
     doubtful = [part for part in parts if limits is None or not is_faultless(given, part, limits)]
     if doubtful or changed is None or not ELEMENTS.issuperset(changed):
         check_keys(writing.keys_of(given, doubtful))
@@ -37,7 +37,12 @@ def is_faultless(given: "Scenario", part: str, limits: Limits) -> bool:
     if part == "outage" and not limits.outages or part == "loss" and not limits.losses:
         return not several
     most = limits.members if part == "member" else limits.elements
-    return len(several) <= most and are_faultless(len(several), lambda key: column_of(several, key), elements(limits)[part])
+    return len(several) <= most and _are_faultless(several, part, limits)
+
+
+@kept_of
+def _are_faultless(several: tuple[Any, ...], part: str, limits: Limits) -> bool:
+    return are_faultless(len(several), lambda key: column_of(several, key), elements(limits)[part])
 
 
 def column_of(several: Collection[Any], key: str) -> list[Any]:

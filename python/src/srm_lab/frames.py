@@ -1,6 +1,6 @@
 """Tables as DataFrames: read from what the program writes, and saved with what they are of."""
 import json
-from collections.abc import Callable, Iterable, Sequence
+from collections.abc import Callable, Sequence
 from dataclasses import dataclass
 from functools import cache
 from io import BytesIO
@@ -33,6 +33,7 @@ WRITTEN: dict[str, tuple[str, ...]] = {
 # what the scenario tells besides
 ADDED = {"losses": ("ended", "node"), "links": ("a", "b"), "constants": ("node",)}
 COLUMNS = {name: (*columns, *ADDED.get(name, ())) for name, columns in WRITTEN.items()}
+Columns = dict[str, Any]  # of one table, in order
 Frames = dict[str, pandas.DataFrame]
 ENDS = numpy.array(["recovered", "left", "open"], dtype=object)  # each word once, however many rows have it
 
@@ -46,8 +47,8 @@ class Text:
     text: bytes
 
 
-def frame_of(name: str, texts: Sequence[Text]) -> pandas.DataFrame:
-    """The rows of a table of several scenarios, with their numbers and the seeds in front."""
+def columns_of(name: str, texts: Sequence[Text]) -> Columns:
+    """The columns of a table of several scenarios, with their numbers and the seeds in front."""
     bodies = [one.text.partition(b"\n")[2] for one in texts]
     counts = [body.count(b"\n") for body in bodies]
     scenarios = numpy.repeat(numpy.arange(len(texts)), counts)
@@ -62,10 +63,10 @@ def frame_of(name: str, texts: Sequence[Text]) -> pandas.DataFrame:
         for end in ("a", "b"):
             ends = [[one.tree.name(getattr(link, end)) for link in one.tree.links] for one in given]
             columns[end] = _looked_up(given, ends, scenarios, columns["link"])
-    return pandas.DataFrame(columns, copy=False)
+    return columns
 
 
-def _read(name: str, rows: bytes) -> dict[str, Any]:
+def _read(name: str, rows: bytes) -> Columns:
     """The columns that are written; numbers are whole, and may be none."""
     columns = WRITTEN[name]
     words = [column for column in columns if column in WORDS]
@@ -80,7 +81,7 @@ def _read(name: str, rows: bytes) -> dict[str, Any]:
             **{column: read[column] if column in words else _whole(read[column]) for column in columns}}
 
 
-def _numbers(columns: Sequence[str], rows: bytes) -> dict[str, Any]:
+def _numbers(columns: Sequence[str], rows: bytes) -> Columns:
     """The columns of a table without words, in which no number is below 0: numpy reads it faster than pandas does."""
     text = rows.replace(b"-", b"-1").replace(b"\n", b",")
     seed, *found = numpy.fromstring(text, "int64", sep=",").reshape(rows.count(b"\n"), 1 + len(columns)).T.copy()
@@ -95,7 +96,7 @@ def _whole(column: pandas.Series) -> pandas.arrays.IntegerArray:
     return pandas.arrays.IntegerArray(numpy.where(is_missing, 0, values).astype("int64"), is_missing)
 
 
-def _ends(losses: dict[str, Any], given: Sequence[Scenario], scenarios: numpy.ndarray) -> dict[str, Any]:
+def _ends(losses: Columns, given: Sequence[Scenario], scenarios: numpy.ndarray) -> Columns:
     """How losses ended, and the round trips also of those that did not end with a recovery."""
     leaves = [[member.leave is not None and member.leave < one.end for member in one.members] for one in given]
     left = numpy.asarray(_looked_up(given, leaves, scenarios, losses["member"]), bool)
@@ -116,10 +117,16 @@ def _looked_up(given: Sequence[Scenario], values: Sequence[Sequence[Any]], scena
     return found if is_named else pandas.arrays.IntegerArray(found, numpy.zeros(len(found), bool))
 
 
-def joined(frames: Iterable[Frames]) -> Frames:
-    """The rows of the same tables below each other."""
-    several = list(frames)
-    return {name: pandas.concat([one[name] for one in several], ignore_index=True) for name in several[0]}
+def joined(parts: Sequence[Columns]) -> pandas.DataFrame:
+    """A table of these rows, in order of the scenarios' numbers. It takes column after column out of the parts."""
+    order = numpy.argsort(numpy.concatenate([part["scenario"] for part in parts]), kind="stable")
+    return pandas.DataFrame({column: _below([part.pop(column) for part in parts]).take(order) for column in [*parts[0]]},
+                            copy=False)
+
+
+def _below(parts: Sequence[Any]) -> Any:
+    """The values of these arrays, one array's below the other's."""
+    return pandas.concat([*map(pandas.Series, parts)], ignore_index=True).array
 
 
 @spelled

@@ -2,6 +2,7 @@
 from dataclasses import dataclass
 
 from .errors import verbs_spelled
+from .kept import kept
 from .limits import NEWEST
 from .loss_words import loss_word
 
@@ -92,3 +93,15 @@ class RandomLoss:
         """Whether it takes a packet of a sender that comes to the link at a tick, in the run of a seed."""
         word = loss_word(seed, self.stream, self.link, sender, count)
         return self.is_on(at) and word < self.rate * 2**32 // NEWEST.rate
+
+
+@kept(len)
+def drawn_evenly(member: int, page: int, start: int, every: int, count: int) -> tuple[Draw, ...]:
+    """So many draws of a member on a page, so many ticks apart."""
+    return tuple(Draw(member, page, number, start + number * every) for number in range(count))
+
+
+@kept(len)
+def losses_alike(links: range, rate: int, stream: int, first: int, end: int | None) -> tuple[RandomLoss, ...]:
+    """The same loss of each of these links."""
+    return tuple(RandomLoss(link, rate, stream, first, end) for link in links)

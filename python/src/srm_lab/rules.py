@@ -1,8 +1,11 @@
 """What the parts of a scenario have to be to each other, as docs/FORMATS.md has it, in the order of its refusals."""
+import math
 from collections.abc import Collection
 from typing import TYPE_CHECKING
 
 from .errors import ScenarioError
+from .kept import kept_of
+from .parts import Draw, RandomLoss
 
 if TYPE_CHECKING:
     from .scenario import Scenario
@@ -50,7 +53,17 @@ def _known(given: "Scenario", part: str, place: int, key: str, number: int) -> N
                             part, place, key)
 
 
+def _may_draw(given: "Scenario", number: int, first: int, last: int) -> bool:
+    """Whether there is such a member, and it may draw from one tick to another."""
+    if number >= len(given.members) or last >= given.end:
+        return False
+    member = given.members[number]
+    return member.role == "sender" and member.join <= first and (member.leave is None or last <= member.leave)
+
+
 def _draws(given: "Scenario") -> None:
+    if all(_may_draw(given, number, *span) for number, span in _spans(given.draws).items()):
+        return
     for place, draw in enumerate(given.draws):
         _known(given, "draw", place, "member", draw.member)
         role = given.members[draw.member].role
@@ -90,11 +103,29 @@ def _outages(given: "Scenario") -> None:
 
 
 def _losses(given: "Scenario") -> None:
+    if _greatest_link(given.random_losses) < len(given.tree.links):
+        return
     for place, loss in enumerate(given.random_losses):
         _link(given, "loss", place, loss.link)
         if loss.end is not None and loss.first >= loss.end:
             raise ScenarioError(f"loss {place}: `from` is {loss.first}, and has to be below `to`, {loss.end}",
                                 "loss", place, "from")
+
+
+@kept_of
+def _spans(draws: tuple[Draw, ...]) -> dict[int, tuple[int, int]]:
+    """For each member that draws the first tick at which it does, and the last."""
+    ticks: dict[int, list[int]] = {}
+    for draw in draws:
+        ticks.setdefault(draw.member, []).append(draw.at)
+    return {member: (min(found), max(found)) for member, found in ticks.items()}
+
+
+@kept_of
+def _greatest_link(losses: tuple[RandomLoss, ...]) -> float:
+    """The greatest link of losses, which is above all links where one of them ends before it begins."""
+    spans = all(loss.end is None or loss.first < loss.end for loss in losses)
+    return max((loss.link for loss in losses), default=-1) if spans else math.inf
 
 
 # in the order of refusals, each with the fields of a scenario by which it may be broken; an end that is not set suits all

@@ -20,7 +20,7 @@ import tqdm
 
 from . import __version__, shown
 from .errors import RefusedError, ScenarioError, perhaps, spelled, verbs_spelled
-from .frames import COLUMNS, Frames, Text, frame_of, joined, save
+from .frames import COLUMNS, Columns, Frames, Text, columns_of, joined, save
 from .limits import MOST_SEED, within
 from .page.cut import Cut
 from .page.shown import Page, page_of
@@ -107,7 +107,7 @@ def keep(place: Path, text: bytes) -> None:
 
 def perform_all(make: Callable[[int], Scenario], jobs: Sequence[Job], asked: Asked, workers: int | None,
                 progress: bool | None, said: Callable[[int], str] | None = None) -> tuple[Frames, list[str]]:
-    """The tables of many runs, with the number of the scenario in front, and the digest of each scenario in order.
+    """The tables of many runs, with the number of the scenario in front, and the digest of each scenario, in order of numbers.
 
     `make` gives the scenario of a number, and `said` what a refusal tells of it. A bar counts the runs.
     """
@@ -119,7 +119,7 @@ def perform_all(make: Callable[[int], Scenario], jobs: Sequence[Job], asked: Ask
     chunks = list(chunks_of(jobs, several))
     rest = len(chunks) % several  # parts of the last round, which share all processors
 
-    def work(place: int) -> tuple[list[str], Frames]:
+    def work(place: int) -> tuple[list[str], dict[str, Columns]]:
         sharing = several if place < len(chunks) - rest else rest
         digests, texts = [], []
         for number, seeds in chunks[place]:
@@ -135,16 +135,17 @@ def perform_all(make: Callable[[int], Scenario], jobs: Sequence[Job], asked: Ask
                     fault.add_note(f"refused at {said(number)}")
                 raise
             texts.append({name: Text(number, given, text) for name, text in found.items()})
-        return digests, {name: frame_of(name, [one[name] for one in texts]) for name in asked.tables}
+        return digests, {name: columns_of(name, [one[name] for one in texts]) for name in asked.tables}
 
-    digests, parts, made = [], [], 0
+    digests: dict[int, str] = {}
+    parts, made = [], 0
     with bar:
-        for chunk, (found, frames) in zip(chunks, _mapped(work, range(len(chunks)), several)):
-            digests += found
-            parts.append(frames)
+        for chunk, (found, tables) in zip(chunks, _mapped(work, range(len(chunks)), several)):
+            digests.update(zip((number for number, _ in chunk), found))
+            parts.append(tables)
             made += sum(len(seeds) for _, seeds in chunk)
             move(bar, 0, made)
-    return joined(parts), digests
+    return {name: joined([one[name] for one in parts]) for name in asked.tables}, [digests[one] for one in sorted(digests)]
 
 
 def chunks_of(jobs: Sequence[Job], several: int) -> Iterator[Sequence[Job]]:

@@ -10,7 +10,7 @@ ticks. All random choices are those of the scenario's seed, of each verb its own
 """
 import hashlib
 import random
-from collections.abc import Collection, Iterable
+from collections.abc import Callable, Collection, Iterable
 from dataclasses import dataclass, field, replace
 from decimal import Decimal
 from functools import cached_property
@@ -22,10 +22,10 @@ from . import graphs, loss_rules, losses, router_map, shown, tree as trees, writ
 from .checks import check
 from .errors import ScenarioError, perhaps, spelled, verbs_spelled
 from .graphs import Delays
-from .kept import kept
+from .kept import kept, kept_of
 from .limits import MOST_NUMBERS, MOST_SEED, MOST_TIME, NEWEST, VERSIONS, Limits, within
 from .loss_rules import EveryOperation, EveryPacket, ListedLosses, Rounds, Rule
-from .parts import CONSTANTS, LIMITS, Draw, Drop, Member, Outage, RandomLoss, Session
+from .parts import CONSTANTS, LIMITS, Draw, Drop, Member, Outage, RandomLoss, Session, drawn_evenly, losses_alike
 from .timing import BACKOFF, Timing
 from .tree import Tree
 
@@ -340,33 +340,22 @@ class Scenario:
     def role(self, members: Iterable[int], role: str, pages: Iterable[int] | None = None) -> "Scenario":
         """Gives members a role; `pages` are those that late members want."""
         wanted = None if pages is None else tuple(_numbers("pages", pages))
-        return self._changed(_numbers("members", members), lambda member: replace(member, role=role, pages=wanted))
+        return self._with(members=_changed(self.members, _numbers("members", members),
+                                           lambda member: replace(member, role=role, pages=wanted)))
 
     def join(self, members: int | Iterable[int], at: Ticks, seed: int | None = None) -> "Scenario":
         """Lets members join at a tick, or each at a random one of a range, both ends in it.
 
         A number says how many receivers and listeners, chosen at random among those that join at 0.
         """
-        rng = self._rng("join", seed)
-        free = [place for place, one in enumerate(self.members) if one.role != "sender" and one.join == 0]
-        return self._changed(_chosen(members, free, rng), lambda member: replace(member, join=_tick(at, rng)))
+        return self._with(members=_at_ticks(self.members, "join", members, at, self._seed(seed)))
 
     def leave(self, members: int | Iterable[int], at: Ticks, seed: int | None = None) -> "Scenario":
         """Lets members leave at a tick, or each at a random one of a range, both ends in it.
 
         A number says how many, chosen at random among those that do not draw and do not leave yet.
         """
-        rng = self._rng("leave", seed)
-        free = [place for place, one in enumerate(self.members) if one.role != "sender" and one.leave is None]
-        return self._changed(_chosen(members, free, rng), lambda member: replace(member, leave=_tick(at, rng)))
-
-    def _changed(self, places: list[int], change: Any) -> "Scenario":
-        members = list(self.members)
-        for place in places:
-            if not 0 <= place < len(members):
-                raise ScenarioError(f"there is no member {place}: there are {len(members)}")
-            members[place] = change(members[place])
-        return self._with(members=tuple(members))
+        return self._with(members=_at_ticks(self.members, "leave", members, at, self._seed(seed)))
 
     def draw(self, at: int, member: int = 0, page: int = 0, ink: int | None = None) -> "Scenario":
         """Lets a sender draw once more."""
@@ -384,9 +373,9 @@ class Scenario:
         """
         count, every = within("count", count, 0, MOST_NUMBERS), within("every", every, 1, MOST_TIME)
         start = within("start", start, 0, MOST_TIME)
-        own = tuple(Draw(member, page, number, start + number * every) for number in range(count))
         told = (Session(member, start + count * every),) if count else ()
-        return self._with(draws=(*(one for one in self.draws if one.member != member), *own),
+        others = tuple(one for one in self.draws if one.member != member)
+        return self._with(draws=others + drawn_evenly(member, page, start, every, count),
                           sessions=(*(one for one in self.sessions if one.member != member), *told),
                           rules=tuple(one for one in self.rules if not isinstance(one, Rounds) or one.sender != member))
 
@@ -469,9 +458,9 @@ class Scenario:
         end = None if last is None else within("last", last, 0, MOST_TIME) + 1
         within("stream", stream, 0, NEWEST.stream)
         within("first", first, 0, MOST_TIME)
-        links = range(len(self.tree.links)) if link is None else (link,)
-        made = tuple(RandomLoss(one, share, stream, first, end) for one in links if share)
-        return self._with(random_losses=(*self.random_losses, *made))
+        links = range(len(self.tree.links)) if link is None else range(link, link + 1)
+        made = losses_alike(links, share, stream, first, end) if share else ()
+        return self._with(random_losses=self.random_losses + made)
 
     def outage(self, link: int, first: int, last: int) -> "Scenario":
         """Lets a link drop each packet that comes to it from tick `first` to tick `last`, both in it."""
@@ -497,6 +486,25 @@ def _millionths(rate: float) -> int:
     if share != int(share):
         raise ScenarioError(f"lose: rate is {rate}, which has more than six decimals, and the format has millionths")
     return int(share)
+
+
+@kept_of
+def _at_ticks(members: tuple[Member, ...], verb: str, which: int | Iterable[int], at: Ticks, seed: int) -> tuple[Member, ...]:
+    """The members, of whom those that are named, or so many, `join` or `leave` at a tick or at random ones."""
+    rng = random.Random(f"{verb} {seed}")
+    stays = {"join": 0, "leave": None}[verb]
+    free = [place for place, one in enumerate(members) if one.role != "sender" and getattr(one, verb) == stays]
+    return _changed(members, _chosen(which, free, rng), lambda member: replace(member, **{verb: _tick(at, rng)}))
+
+
+def _changed(members: tuple[Member, ...], places: list[int], change: Callable[[Member], Member]) -> tuple[Member, ...]:
+    """The members with a change of those at some places."""
+    made = list(members)
+    for place in places:
+        if not 0 <= place < len(made):
+            raise ScenarioError(f"there is no member {place}: there are {len(made)}")
+        made[place] = change(made[place])
+    return tuple(made)
 
 
 def _tick(at: Ticks, rng: random.Random) -> int:
@@ -531,6 +539,8 @@ def seed_of(seed: Any) -> int:
 
 # ---- scenarios on networks of a kind -------------------------------------------
 
+_kept = kept(lambda made: made.tree.nodes)
+
 if not TYPE_CHECKING:
     def __getattr__(name: str) -> Any:
         if name.startswith("_"):
@@ -540,7 +550,7 @@ if not TYPE_CHECKING:
 
 
 @spelled
-@kept
+@_kept
 def chain(nodes: int, members: Members = "all", source: int | str = "first", delay: int = DELAY,
           seed: int = 0) -> Scenario:
     """Nodes in a row. See `on` for the other words."""
@@ -548,7 +558,7 @@ def chain(nodes: int, members: Members = "all", source: int | str = "first", del
 
 
 @spelled
-@kept
+@_kept
 def star(nodes: int, members: Members = "all", source: int | str = "first", delay: int = DELAY,
          seed: int = 0) -> Scenario:
     """A hub, node 0, without a member, and a link from it to each other node. See `on` for the other words."""
@@ -556,7 +566,7 @@ def star(nodes: int, members: Members = "all", source: int | str = "first", dela
 
 
 @spelled
-@kept
+@_kept
 def regular_tree(nodes: int, degree: int = 4, members: Members = "all", source: int | str = "first",
                  delay: int = DELAY, seed: int = 0) -> Scenario:
     """A tree whose inner nodes have this degree, as far as the nodes last. See `on` for the other words."""
@@ -564,7 +574,7 @@ def regular_tree(nodes: int, degree: int = 4, members: Members = "all", source: 
 
 
 @spelled
-@kept
+@_kept
 def random_tree(nodes: int, members: Members = "all", source: int | str = "first", delay: int = DELAY,
                 seed: int = 0) -> Scenario:
     """A random labelled tree: each one of this size has the same chance. See `on` for the other words."""

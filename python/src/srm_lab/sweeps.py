@@ -79,8 +79,9 @@ class Grid:
         self.each = len(seeds) if self.is_seeded else 1
 
     def jobs(self) -> list[Job]:
-        """The runs of each scenario: its number, and their seeds."""
-        return [job for place in range(len(self.points)) for job in self._jobs_of(place)]
+        """The runs of each scenario: its number, and their seeds. Scenarios of one seed, often on one network, are together."""
+        jobs = [job for place in range(len(self.points)) for job in self._jobs_of(place)]
+        return sorted(jobs, key=lambda job: job[0] % self.each)
 
     def _jobs_of(self, place: int) -> list[Job]:
         """The runs of a point; its scenarios are made until one is another than the first."""

@@ -7,7 +7,9 @@ from typing import TYPE_CHECKING, Any
 
 from .errors import ScenarioError
 from .form import PARTS
+from .kept import kept_of
 from .limits import NEWEST
+from .link import Link
 from .parts import CONSTANTS, LIMITS, Member, RandomLoss
 from .repetition import APART, folded
 
@@ -16,9 +18,11 @@ if TYPE_CHECKING:
 
 NAMES = "names of nodes: "
 ROUTES = "routes of links: "
-# arrays of a network by parents, and how many of their numbers stand in a line
-ARRAYS = ("parent", "delays", "backs")
+# how many numbers of an array stand in a line
 IN_LINE = 20
+# the fields of a scenario that have the elements of a part
+FIELDS = {"member": "members", "draw": "draws", "session": "sessions", "drop": "drops", "outage": "outages",
+          "loss": "random_losses"}
 WORDS = ("topology", "role")  # keys of words, in which no quote ever stands
 
 
@@ -28,8 +32,12 @@ def table_of(given: "Scenario") -> dict[str, Any]:
     So does one with losses at random tell these.
     """
     table = keys_of(given)
-    parts = APART if given.is_large else ("loss",)
-    return table | {part: folded(part, table[part]) for part in parts if part in table}
+    return table | {part: folded(part, table[part]) for part in _folded(given) if part in table}
+
+
+def _folded(given: "Scenario") -> Collection[str]:
+    """The parts whose elements stand for several."""
+    return APART if given.is_large else ("loss",)
 
 
 def keys_of(given: "Scenario", wanted: Collection[str] = PARTS) -> dict[str, Any]:
@@ -40,18 +48,22 @@ def keys_of(given: "Scenario", wanted: Collection[str] = PARTS) -> dict[str, Any
     top |= {name: value for name in LIMITS if (value := getattr(given, name)) is not None}
     top |= {"backoff": given.backoff} if given.backoff != 2 else {}
     top |= given.tree.shorthand or {"nodes": given.tree.nodes}
-    parts: dict[str, Callable[[], list[dict[str, Any]]]] = {
-        "link": lambda: [] if given.tree.shorthand else [
-            {"a": a, "b": b, "delay": delay, **({} if back == delay else {"back": back})}
-            for a, b, delay, back in given.tree.links],
-        "member": lambda: [*map(_member, given.members)],
-        "draw": lambda: [dict(vars(draw)) for draw in given.draws],
-        "session": lambda: [dict(vars(session)) for session in given.sessions],
-        "drop": lambda: [dict(vars(drop)) for drop in given.drops],
-        "outage": lambda: [{"link": one.link, "from": one.first, "to": one.end} for one in given.outages],
-        "loss": lambda: [*map(_loss, given.random_losses)],
-    }
-    return top | {name: elements for name in PARTS if name in wanted and (elements := parts[name]())}
+    return top | {part: [*map(ELEMENTS[part], several)] for part in PARTS
+                  if part in wanted and (several := _several(given, part))}
+
+
+def _several(given: "Scenario", part: str) -> tuple[Any, ...]:
+    """What the file lists as the elements of a part."""
+    if part == "link":
+        return () if given.tree.shorthand else given.tree.links
+    found: tuple[Any, ...] = getattr(given, FIELDS[part])
+    return found
+
+
+def _link(one: Link) -> dict[str, Any]:
+    """A link's keys: its delay back, where that is another."""
+    keys = {"a": one.a, "b": one.b, "delay": one.delay}
+    return keys if one.is_even else keys | {"back": one.back}
 
 
 def _member(one: Member) -> dict[str, Any]:
@@ -74,6 +86,11 @@ def _loss(one: RandomLoss) -> dict[str, Any]:
     return keys
 
 
+ELEMENTS: dict[str, Callable[[Any], dict[str, Any]]] = {
+    "link": _link, "member": _member, **dict.fromkeys(("draw", "session", "drop"), lambda one: dict(vars(one))),
+    "outage": lambda one: {"link": one.link, "from": one.first, "to": one.end}, "loss": _loss}
+
+
 def text_of(given: "Scenario") -> str:
     """A scenario's file: its comments, the names of nodes and the routes of links as comments, and its table."""
     comments = list(given.comments)
@@ -82,7 +99,8 @@ def text_of(given: "Scenario") -> str:
     if given.tree.routes:
         comments.append(ROUTES + json.dumps(given.tree.routes))
     lines = "".join(f"# {line}".rstrip() + "\n" for comment in comments for line in comment.splitlines() or [""])
-    text = lines + _toml(table_of(given))
+    text = lines + _toml(keys_of(given, ())) + "".join(
+        _array(several, part, part in _folded(given)) for part in PARTS if (several := _several(given, part)))
     if len(text.encode()) > NEWEST.bytes:
         told = f", {len(lines.encode())} of them comments, names and routes" if lines else ""
         raise ScenarioError(f"the text has {len(text.encode())} bytes{told}, and the format has room for {NEWEST.bytes}")
@@ -90,10 +108,16 @@ def text_of(given: "Scenario") -> str:
 
 
 def _toml(table: dict[str, Any]) -> str:
-    """A table as TOML: plain values, then arrays of numbers, several in a line, and of elements, each in a line."""
+    """Plain values as TOML, and then arrays of numbers, several in a line."""
     plain = "".join(f"{_form(key)}\n" % value for key, value in table.items() if not isinstance(value, list))
-    return plain + "".join(f"{key} = [{_numbers(value) if key in ARRAYS else _elements(value)}]\n"
-                           for key, value in table.items() if isinstance(value, list))
+    return plain + "".join(f"{key} = [{_numbers(value)}]\n" for key, value in table.items() if isinstance(value, list))
+
+
+@kept_of
+def _array(several: tuple[Any, ...], part: str, is_folded: bool) -> str:
+    """The elements of a part as TOML."""
+    elements = [*map(ELEMENTS[part], several)]
+    return f"{part} = [{_elements(folded(part, elements) if is_folded else elements)}]\n"
 
 
 _KEYS: Callable[[dict[str, Any]], tuple[str, ...]] = tuple  # of an element
