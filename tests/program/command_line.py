@@ -207,6 +207,17 @@ def star(members: int, draws: int) -> bytes:
     return f"{top}member = [\n{roles}]\ndraw = [\n{drawn}]\n".encode()
 
 
+def unheard(members: int, pages: int) -> bytes:
+    """A star of listeners, but for a sender that fills so many pages, a draw a tick, and whose link drops all: nothing comes."""
+    until = 4096 * pages
+    top = f'version = 3\nuntil = {until}\nc1 = 0\nc2 = 0\nd1 = 0\nd2 = 0\n'
+    top += f'topology = "star"\nsize = {members + 1}\ndelay = 1000\n'
+    listeners = f'  {{ node = 2, role = "listener", stream = 0, times = {members - 1} }},\n'
+    drawn = (f"  {{ member = 0, page = {page}, ink = 7, at = {4096 * page}, times = 4096 }},\n" for page in range(pages))
+    out = f"outage = [{{ link = 0, from = 0, to = {until} }}]\n"
+    return f"{top}member = [\n{member(1, 'sender')}{listeners}]\ndraw = [\n{''.join(drawn)}]\n{out}".encode()
+
+
 # A loss that nobody can mend, by timers of one tick each: a short text, and a run that is long if it is made.
 UNMENDED = b"""\
 version = 1
@@ -510,6 +521,10 @@ class Crews(CommandLineCase):
         for table in (NO_WORDS, LINKS):
             with self.subTest(table=table):
                 self.assertTrue(self.are_busy([*WINDOW, *table, "--crew", "team", "--workers", "3"], star(1023, 625), 3))
+
+    def test_each_worker_of_a_team_hears(self) -> None:
+        """Of packets that come to no member, so that one thread does all else."""
+        self.assertTrue(self.are_busy([*WINDOW, *LINKS, "--crew", "team", "--workers", "3"], unheard(1000, 2), 3))
 
     def test_the_threads_that_there_are_do_the_work_of_those_that_are_refused(self) -> None:
         """By the bytes, which are those of one event after the other, whichever thread is the first that is refused."""
