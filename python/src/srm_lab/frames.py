@@ -84,9 +84,9 @@ def _read(name: str, rows: bytes) -> Columns:
 def _numbers(columns: Sequence[str], rows: bytes) -> Columns:
     """The columns of a table without words, in which no number is below 0: numpy reads it faster than pandas does."""
     text = rows.replace(b"-", b"-1").replace(b"\n", b",")
-    seed, *found = numpy.fromstring(text, "int64", sep=",").reshape(rows.count(b"\n"), 1 + len(columns)).T.copy()
-    return {"seed": seed, **{column: pandas.arrays.IntegerArray(numpy.maximum(values, 0), values < 0)
-                             for column, values in zip(columns, found)}}
+    seed, *found = numpy.fromstring(text, "int64", sep=",").reshape(rows.count(b"\n"), 1 + len(columns)).T
+    return {"seed": seed.copy(), **{column: pandas.arrays.IntegerArray(numpy.maximum(values, 0), values < 0)
+                                    for column, values in zip(columns, found)}}
 
 
 def _whole(column: pandas.Series) -> pandas.arrays.IntegerArray:
@@ -103,7 +103,7 @@ def _ends(losses: Columns, given: Sequence[Scenario], scenarios: numpy.ndarray) 
     is_open = losses["recovered"].isna()
     round_trip = cache(lambda place, member, source: given[place].round_trip(member, source))  # many rows have the same
     losses["round_trip"][is_open] = [*map(round_trip, *(
-        column[is_open].tolist() for column in (scenarios, losses["member"], losses["source"])))]
+        numpy.asarray(column, int)[is_open].tolist() for column in (scenarios, losses["member"], losses["source"])))]
     return {"ended": ENDS[numpy.where(is_open, numpy.where(left, 1, 2), 0)]}
 
 
