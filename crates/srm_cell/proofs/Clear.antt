@@ -19,8 +19,9 @@ use Rattle.srm_member.proofs.FewerTimers.{no_table}
 use Rattle.srm_member.proofs.LawProofs.{as_active}
 use Rattle.srm_net.specs.Roles.{is_listener}
 use Rattle.srm_member.specs.React.{Reaction, expire_repair, expire_repair_by_entry, expire_request, expire_request_by_entry, back_off}
-use Rattle.srm_member.specs.React.{react, request_length, with_request_delay, with_request_first, with_repair_first}
-use Rattle.srm_member.specs.React.{with_rest, without}
+use Rattle.srm_member.specs.React.{react, request_length, with_request_delay, with_request_first, with_answer_seen}
+use Rattle.srm_member.specs.React.{with_own_timer_ended, with_rest, without}
+use Rattle.srm_member.specs.LocalRecovery.{local_of, mark_after}
 use Rattle.srm_member.specs.declared.entries.Missing.{Missing}
 use Rattle.srm_member.specs.declared.entries.Repairing.{Repairing}
 use Rattle.srm_member.specs.Record.{MemberState, timers_of}
@@ -152,14 +153,16 @@ module _ (m t : ℕ) (state : MemberState) (sound : IsSound state) (n : Name) wh
       → ClearOf AnswerKey (expire_repair_by_entry t n state o).state
   answered_clear w h None e = absurd (found (λ (x : Repairing). true) n w state.repairs h e)
   answered_clear w h (Some x) e =
-      clear_of AnswerKey (with_rest t n state.fixed.member (with_repair_first t x state))
+      let mark = mark_after 0 (local_of state.fixed x) in
+      let rested = with_rest t n state.fixed.member mark (with_answer_seen t x state) in
+      clear_of AnswerKey (with_own_timer_ended t n x mark state)
       (AllIn-each (λ e. Differs AnswerKey (timer_key m (record { time = e.1.expiry; rank = Request; name = e.0 })))
       (λ e. differ_rank AnswerKey (timer_key m (record { time = e.1.expiry; rank = Request; name = e.0 }))
-      (λ q. cc)) state.missing)
+      (λ q. cc)) rested.missing)
       (AllIn-weaker (Clear (λ (y : Repairing). y.expiry ≢ t) n)
       (λ e. Differs AnswerKey (timer_key m (record { time = e.1.expiry; rank = Repair; name = e.0 })))
-      (λ e c. timer_differs m Repair t n e.0 e.1.expiry c) (without n state.repairs)
-      (without_clear (λ (y : Repairing). y.expiry ≢ t) n state.repairs))
+      (λ e c. timer_differs m Repair t n e.0 e.1.expiry c) (without n rested.repairs)
+      (without_clear (λ (y : Repairing). y.expiry ≢ t) n rested.repairs))
 
   pub asks_clear : (w : Missing) → In (n, w) state.missing → ClearOf AskKey (react state t (Ask n)).state
   unfolding expire_request

@@ -69,8 +69,9 @@ pub sound_step : (e : Event) → SoundHeld e.rest.holds → OnStep (λ d. SoundH
 sound_step e h = sound_handle e e.rest.holds e.cause refl h
 
 -- no reaction leaves more timers at its tick
-no_more_after : (t : ℕ) (holds : Option MemberState) (cause : Option Cause) → after_react t holds cause ≤ expiring_at t holds
-no_more_after t holds cause = grind (arith, no_more)
+no_more_after : (t : ℕ) (holds : Option MemberState) (cause : Option Cause) → SoundHeld holds
+    → after_react t holds cause ≤ expiring_at t holds
+no_more_after t holds cause h = grind (arith, no_more)
 
 fewer_after : (t : ℕ) (holds : Option MemberState) (cause : Option Cause) → SoundHeld holds → (d : Due) → In d (timers_in holds)
     → d.time ≡ t → cause
@@ -87,14 +88,14 @@ fewer_after t (Some m) cause s d h e q = subst (λ k. after_react t (Some m) k <
           (fewer_answers t m s r.0.0 r.0.1 r.1 (eq-eqb _ _ (ap (λ (d : Due). d.time) r.2 ∙ e)))
     ])
 
--- a step leaves fewer events at its tick
-pub fewer_pending : (c : PlainCell) (e : Event) (d : Stepped) → SoundHeld c.holds → Taken c e → step_at (Some e) ≡ Done d
-    → pending_at e.key.time d.cell < pending_at e.key.time c
-fewer_pending c e d s taken x = grind (arith, counted_handle, no_more_after, fewer_after)
-
 pub rest_sound : (c : PlainCell) (e : Event) → Taken c e → SoundHeld c.holds → SoundHeld e.rest.holds
 rest_sound c e (inl h) s = subst SoundHeld (sym h.0) s
 rest_sound c e (inr h) s = subst (λ (b : PlainCell). SoundHeld b.holds) (sym h.0) s
+
+-- a step leaves fewer events at its tick
+pub fewer_pending : (c : PlainCell) (e : Event) (d : Stepped) → SoundHeld c.holds → Taken c e → step_at (Some e) ≡ Done d
+    → pending_at e.key.time d.cell < pending_at e.key.time c
+fewer_pending c e d s taken x = grind (arith, counted_handle, no_more_after, fewer_after, rest_sound)
 
 pub above_weaker : (P Q : Key → Type 0) → ((k : Key) → P k → Q k) → (m : ℕ) (c : PlainCell) → Above P m c → Above Q m c
 above_weaker P Q f m c a = grind (arith, AllIn-weaker)

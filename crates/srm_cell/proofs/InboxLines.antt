@@ -1,6 +1,6 @@
 -- A line of flights, and others apart from it: what a flight more or less in either changes of them all in order.
 use Rattle.std.proofs.Common.{◌≡◌, ◌≢◌, ℕ, zero, suc, ◌<◌, ◌≤◌, ◌-◌, arith, length, insert, slice_index_or, Result, Ok, Err, OnOk, OnErr}
-use Rattle.std.proofs.Common.{IsSome, MatchOption}
+use Rattle.std.proofs.Common.{IsSome, MatchOption, None}
 use Rattle.std.proofs.Common.{true, false, cond, List, [], ◌∷◌, ◌++◌, Option, Some, slice_get, refl, sym, ap, ◌∙◌, subst}
 use Rattle.std.proofs.Common.{Ordering, Equal, is_lt, true≢false}
 use Rattle.std.specs.Ordering.{ordering_reverse}
@@ -134,7 +134,7 @@ Climbs fs = Rises flight_cmp fs
 abbrev pub flight_at : ℕ × PacketId → Flight
 flight_at k = record {
   arrival = k.0;
-  packet = record { id = k.1; sent = 0; body = body.Request (record { source = 0; page = 0; number = 0 }) };
+  packet = record { id = k.1; sent = 0; body = body.Request (record { source = 0; page = 0; number = 0 }) None };
 }
 
 all_before : (g : Flight) (fs : List Flight) → Climbs fs → follows (turn_of g) fs ≡ true → (j : ℕ) (d : Flight) → j < length fs

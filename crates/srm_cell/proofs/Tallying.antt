@@ -10,7 +10,7 @@ use Rattle.srm_net.specs.declared.packet.Body.TheVariants as body
 use Rattle.srm_net.specs.declared.packet.Packet.{Packet}
 use Rattle.srm_net.specs.Fates.{joins_members}
 use Rattle.srm_net.specs.Network.{Network, IsNetwork}
-use Rattle.srm_net.specs.Spreads.{PlainSpread, IsSpread, is_everywhere}
+use Rattle.srm_net.specs.Spreads.{PlainSpread, is_everywhere}
 use Rattle.srm_net.proofs.Joining.{everywhere_crosses_the_same, everywhere_is_nowhere_dropped}
 use Rattle.srm_scenario.specs.Plain.{PlainScenario}
 use Rattle.srm_ledger.specs.declared.kind.Kind.{Kind}
@@ -18,7 +18,7 @@ use Rattle.srm_ledger.specs.declared.kind.Kind.TheVariants as kind
 use Rattle.srm_ledger.specs.Counts.{counted_at, more_by, nothing_at, place_at, place_of}
 use Rattle.srm_cell.specs.declared.everywhere.Everywhere.{Everywhere}
 use Rattle.srm_cell.specs.declared.tally.Tally.{Tally}
-use Rattle.srm_cell.specs.Setting.{Traffic, traffic_of}
+use Rattle.srm_cell.specs.Setting.{Traffic, traffic_of, IsSpreadOf}
 use Rattle.srm_cell.specs.Crossings.{kind_of, crossed, dropped, crossings_at, added_each}
 use Rattle.srm_cell.specs.Totalled.{numbers_of, CountsBesides, MayCount}
 use Rattle.srm_cell.specs.Tallies.{number_of, none_everywhere, one_everywhere, with_everywhere, everywhere_at, tallied, Tallies}
@@ -58,10 +58,10 @@ fives_of b c d =
 one_more_of : (e : Everywhere) (b : Body) (j : Bool) → fives j (one_everywhere e (kind_of b)) ≡ added_each (fives j e) (fives_of b j false)
 one_more_of e (body.Drawop n ink) true = simp (add-zero, zero-add)
 one_more_of e (body.Drawop n ink) false = refl
-one_more_of e (body.Request n) true = simp (add-zero, zero-add)
-one_more_of e (body.Request n) false = refl
-one_more_of e (body.Repair n ink) true = simp (add-zero, zero-add)
-one_more_of e (body.Repair n ink) false = refl
+one_more_of e (body.Request n scope) true = simp (add-zero, zero-add)
+one_more_of e (body.Request n scope) false = refl
+one_more_of e (body.Repair n ink local) true = simp (add-zero, zero-add)
+one_more_of e (body.Repair n ink local) false = refl
 one_more_of e (body.Session hs) true = simp (add-zero, zero-add)
 one_more_of e (body.Session hs) false = refl
 
@@ -306,7 +306,7 @@ pub room_left : (s : PlainScenario) (net : Network) (ps : List Packet) (t : Tall
 room_left s net ps t is few l k = grind (arith, few_stopped)
 
 pub more_everywhere : (s : PlainScenario) (net : Network) (ps : List Packet) (t : Tally) (p : Packet) (b : PlainSpread) → IsNetwork net
-    → IsSpread net s.drops p.id p.sent b → is_everywhere b ≡ true → p.id.sender < length net.hosts
+    → IsSpreadOf net s.drops p b → is_everywhere b ≡ true → p.id.sender < length net.hosts
     → ((l : ℕ) (k : Kind) → counted_at t.stopped l k + (number_of t.everywhere k + 1) < 2 ^ 64) → Tallies s net ps t
     → Tallies s net (ps ++ p ∷ []) (record { everywhere = one_everywhere t.everywhere (kind_of p.body); stopped = t.stopped })
 more_everywhere s net ps t p b n spread all sender room is =

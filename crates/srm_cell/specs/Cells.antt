@@ -196,8 +196,8 @@ pub record Stepped : Type 0 where
 -- the kind of an arrival is that of its packet
 abbrev pub word_of_body : Body → Word
 word_of_body (Drawop n ink) = word.Data
-word_of_body (Request n) = word.Request
-word_of_body (Repair n ink) = word.Repair
+word_of_body (Request n scope) = word.Request
+word_of_body (Repair n ink local) = word.Repair
 word_of_body (Session hs) = word.Session
 
 -- the kind of an event

@@ -17,8 +17,8 @@ packets_of rows = filter_map (λ r. r.sent) rows
 -- as what a packet that crosses a link is counted
 abbrev pub kind_of : Body → Kind
 kind_of (body.Drawop n ink) = Drawop
-kind_of (body.Request n) = Request
-kind_of (body.Repair n ink) = Repair
+kind_of (body.Request n scope) = Request
+kind_of (body.Repair n ink local) = Repair
 kind_of (body.Session hs) = Session
 
 -- how many packets of a kind cross link l

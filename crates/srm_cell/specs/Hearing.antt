@@ -4,12 +4,11 @@ use Rattle.std.specs.List.{AllZip}
 use Rattle.srm_net.specs.declared.packet.Packet.{Packet}
 use Rattle.srm_net.specs.Limits.{end_of_time}
 use Rattle.srm_net.specs.Network.{Network}
-use Rattle.srm_net.specs.Spreads.{IsSpread}
 use Rattle.srm_scenario.specs.Plain.{PlainScenario}
 use Rattle.srm_member.specs.Record.{Record}
 use Rattle.srm_cell.specs.declared.cell.Cell.{Cell}
 use Rattle.srm_cell.specs.declared.sent.Sent.{Sent}
-use Rattle.srm_cell.specs.Setting.{Traffic}
+use Rattle.srm_cell.specs.Setting.{Traffic, IsSpreadOf}
 use Rattle.srm_cell.specs.Flights.{BringsNone}
 use Rattle.srm_cell.specs.Cells.{PlainCell, hear}
 use Rattle.srm_cell.specs.Views.{IsSoundCell, Becomes, plain_cell}
@@ -20,7 +19,7 @@ use Rattle.srm_cell.specs.Views.{IsSoundCell, Becomes, plain_cell}
 pub record IsSent (k : PlainScenario) (net : Network) (x : Sent) : Type 0 where
   pub sender : x.packet.id.sender < length k.members
   pub sent : x.packet.sent < end_of_time
-  pub spread : IsSpread net k.drops x.packet.id x.packet.sent x.spread
+  pub spread : IsSpreadOf net k.drops x.packet x.spread
 
 -- the packets that were sent
 abbrev pub packets_in : List Sent → List Packet

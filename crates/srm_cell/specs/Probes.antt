@@ -4,6 +4,7 @@ use Rattle.srm_net.specs.declared.role.Role.{Role}
 use Rattle.srm_net.specs.declared.role.Role.TheVariants.{Listener, Receiver}
 use Rattle.srm_member.specs.declared.fixed.Fixed.{Fixed}
 use Rattle.srm_member.specs.declared.backoff.BackoffFactor.TheVariants.{Two}
+use Rattle.srm_member.specs.declared.steps.Steps.TheVariants.{One}
 use Rattle.srm_member.specs.Intervals.{without_room}
 use Rattle.srm_member.specs.Record.{Record, Active, Gone, opening_state}
 
@@ -20,6 +21,11 @@ plain_fixed role m =
       d1 = none;
       d2 = none;
       dist = [];
+      hops = [];
+      scope = 0;
+      widen = 0;
+      tries = 1;
+      steps = One;
       pages = [];
       seed = 0;
       stream = 0;

@@ -8,8 +8,12 @@ use Rattle.srm_net.specs.declared.role.Role.TheVariants.{Receiver}
 use Rattle.srm_net.specs.Orders.{Ascends}
 use Rattle.srm_net.specs.Network.{Network}
 use Rattle.srm_net.specs.Paths as paths
+use Rattle.srm_net.specs.DropRules.{DropRules}
+use Rattle.srm_net.specs.Scopes.{scope_of}
+use Rattle.srm_net.specs.Spreads.{PlainSpread, IsSpread}
 -- the distances that a member goes by: half the round trip to each member in turn, rounded down
 pub use Rattle.srm_net.specs.Paths.{half_rounds_from}
+use Rattle.srm_net.specs.Paths.{hops_from}
 use Rattle.srm_scenario.specs.declared.mark.Mark.{Mark}
 use Rattle.srm_scenario.specs.declared.parts.MemberSpec.{MemberSpec}
 use Rattle.srm_scenario.specs.Plain.{PlainScenario, mark_cmp, script_of}
@@ -19,6 +23,8 @@ use Rattle.srm_member.specs.declared.cause.Cause.{Cause}
 use Rattle.srm_member.specs.declared.cause.Cause.TheVariants.{Join, Draw, Report}
 use Rattle.srm_member.specs.declared.fixed.Fixed.{Fixed}
 use Rattle.srm_member.specs.declared.backoff.BackoffFactor.TheVariants.{Two, Three}
+use Rattle.srm_member.specs.declared.steps.Steps.TheVariants.{One}
+use Rattle.srm_member.specs.declared.steps.Steps.TheVariants as steps
 use Rattle.srm_member.specs.Intervals.{Limits}
 
 -- what becomes of packets. Events before `until` are handled. Of each member: when it joins and when it leaves. Of each
@@ -45,7 +51,7 @@ pub record Setting : Type 0 where
 
 -- in place of a member that is not there
 abbrev pub no_member : MemberSpec
-no_member = record { node = 0; role = Receiver; stream = 0; join = 0; leave = None; pages = [] }
+no_member = record { node = 0; role = Receiver; stream = 0; join = 0; leave = None; pages = []; scope = 0 }
 
 -- member m of a scenario
 abbrev pub member_at : PlainScenario → ℕ → MemberSpec
@@ -66,6 +72,11 @@ fixed_of s net seed m = record {
   d1 = limits_of s.constants.d1 s.room.least.d1 s.room.most.d1;
   d2 = limits_of s.constants.d2 s.room.least.d2 s.room.most.d2;
   dist = half_rounds_from net m;
+  hops = hops_from net m;
+  scope = (member_at s m).scope;
+  widen = s.recovery.widen;
+  tries = s.recovery.tries;
+  steps = if s.recovery.steps == 1 then One else steps.Two;
   pages = (member_at s m).pages;
   seed = seed;
   stream = (member_at s m).stream;
@@ -79,15 +90,19 @@ traffic_of s net = record {
   join = λ m. (member_at s m).join;
   leave = λ m. (member_at s m).leave;
   distance = paths.distance net;
-  reaches = λ p. paths.reaches net s.drops p.id p.sent;
+  reaches = λ p. paths.reaches net s.drops p.id p.sent (scope_of p.body);
   links = length net.links;
-  crosses = λ p. paths.crosses net s.drops p.id p.sent;
-  drops_at = λ p. paths.drops_at net s.drops p.id p.sent;
+  crosses = λ p. paths.crosses net s.drops p.id p.sent (scope_of p.body);
+  drops_at = λ p. paths.drops_at net s.drops p.id p.sent (scope_of p.body);
 }
 
 -- the setting of a scenario, its network and a seed
 abbrev pub setting_of : PlainScenario → Network → ℕ → Setting
 setting_of s net seed = record { traffic = traffic_of s net; fixed = fixed_of s net seed; script = script_of s }
+
+-- what becomes of packet p where links drop packets by these rules
+abbrev pub IsSpreadOf : Network → DropRules → Packet → PlainSpread → Type 0
+IsSpreadOf net rules p b = IsSpread net rules p.id p.sent (scope_of p.body) b
 
 -- ---- flights
 

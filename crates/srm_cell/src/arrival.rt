@@ -1,9 +1,8 @@
 //! When a packet arrives.
 ghost use Rattle.std.specs.Prelude.{◌≡◌, ◌<◌, length};
 ghost use Rattle.srm_net.specs.Limits.{end_of_time};
-ghost use Rattle.srm_net.specs.Spreads.{IsSpread};
 ghost use Rattle.srm_scenario.specs.Plain.{network_of};
-ghost use Rattle.srm_cell.specs.Setting.{traffic_of, arrival_of};
+ghost use Rattle.srm_cell.specs.Setting.{traffic_of, arrival_of, IsSpreadOf};
 
 use srm_net::net::Net;
 use srm_net::packet::Packet;
@@ -21,7 +20,7 @@ pub fn arrival(
     member: u16,
 ) -> Option<u64>
     requires network { net.now ≡ network_of scenario.now }
-    requires spread { IsSpread net.now scenario.now.drops packet.now.id packet.now.sent spread.now }
+    requires spread { IsSpreadOf net.now scenario.now.drops packet.now spread.now }
     requires sent { packet.now.sent < end_of_time }
     requires sender { packet.now.id.sender < length scenario.now.members }
     requires member { member < length scenario.now.members }

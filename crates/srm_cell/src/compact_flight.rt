@@ -1,6 +1,6 @@
 //! Flights as a line keeps them.
 ghost use Rattle.std.specs.Prelude.{◌≡◌, ◌↔◌, IsTrue, IfOk, IfErr};
-ghost use Rattle.srm_cell.specs.CompactFlights.{IsShort, CarriesSession};
+ghost use Rattle.srm_cell.specs.CompactFlights.{IsShort, WantsBox};
 
 use crate::compact_body::CompactBody;
 use crate::flight::Flight;
@@ -45,14 +45,14 @@ impl CompactFlight {
         packet.sent <= arrival && arrival - packet.sent < LIMIT && packet.id.count < LIMIT
     }
 
-    /// The short flight of a copy of this packet. Only that of a session message allocates.
+    /// The short flight of a copy of this packet. Only those of session messages and of repairs with a scope allocate.
     ///
     /// # Errors
-    /// Memory was refused, of which only a session message's flight wants any.
+    /// Memory was refused, of which only these want any.
     pub(crate) fn new(alloc: Global, packet: &Packet, arrival: u64) -> Result<Self, AllocError>
         requires { IsShort packet.now arrival }
         ensures ok { IfOk result (λ f. f ≡ record { arrival = arrival; packet = packet.now }) }
-        ensures memory { IfErr result (λ _. CarriesSession packet.now.body) }
+        ensures memory { IfErr result (λ _. WantsBox packet.now.body) }
     {
         let PacketId { sender, count } = packet.id;
         Ok(CompactFlight {

@@ -1,9 +1,8 @@
 //! Counting a packet's crossings.
 ghost use Rattle.std.specs.Prelude.{◌≡◌, ◌<◌, ◌+◌, ◌*◌, ◌^◌, ◌∷◌, [], length};
 ghost use Rattle.srm_net.specs.Fates.{is_crossing, is_dropping};
-ghost use Rattle.srm_net.specs.Spreads.{IsSpread};
 ghost use Rattle.srm_scenario.specs.Plain.{PlainScenario};
-ghost use Rattle.srm_cell.specs.Setting.{traffic_of};
+ghost use Rattle.srm_cell.specs.Setting.{traffic_of, IsSpreadOf};
 ghost use Rattle.srm_cell.specs.Crossings.{kind_of};
 ghost use Rattle.srm_cell.specs.Totalled.{MayCount, CountsBesides, with_fate};
 ghost use Rattle.srm_ledger.specs.Counts.{counted_at};
@@ -18,9 +17,9 @@ use srm_net::spread::Spread;
 /// Counts a packet, of which this is the spread, at each link that it crosses, and at each that drops it.
 pub fn count(totals: &mut Totals, net: &Net, spread: &Spread, packet: &Packet)
     requires sender { packet.now.id.sender < length net.now.hosts }
-    requires room { (s : PlainScenario) × IsSpread net.now s.drops packet.now.id packet.now.sent spread.now
+    requires room { (s : PlainScenario) × IsSpreadOf net.now s.drops packet.now spread.now
         × MayCount (traffic_of s net.now) 1 totals.old }
-    ensures { (s : PlainScenario) → IsSpread net.now s.drops packet.now.id packet.now.sent spread.now
+    ensures { (s : PlainScenario) → IsSpreadOf net.now s.drops packet.now spread.now
         → CountsBesides (traffic_of s net.now) (packet.now ∷ []) totals.old totals.new }
 {
     let kind = kind_of(&packet.body);

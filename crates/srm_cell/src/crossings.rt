@@ -1,10 +1,9 @@
 //! Crossings of rows.
 ghost use Rattle.std.specs.Prelude.{◌≡◌, ◌<◌, ◌+◌, ◌^◌, ◌∷◌, [], ℕ, length, All, IfOk, IfErr, MatchOption};
 ghost use Rattle.srm_net.specs.Limits.{end_of_time};
-ghost use Rattle.srm_net.specs.Spreads.{IsSpread};
 ghost use Rattle.srm_scenario.specs.Plain.{PlainScenario};
 ghost use Rattle.srm_ledger.specs.Counts.{nothing_at};
-ghost use Rattle.srm_cell.specs.Setting.{traffic_of};
+ghost use Rattle.srm_cell.specs.Setting.{traffic_of, IsSpreadOf};
 ghost use Rattle.srm_cell.specs.Crossings.{packets_of};
 ghost use Rattle.srm_cell.specs.Hearing.{IsSent, packets_in};
 ghost use Rattle.srm_cell.specs.Totalled.{MayCount, Counts, IsSentBelow, numbers_of};
@@ -69,7 +68,13 @@ impl Crossings {
         requires room { MayCount (traffic_of scenario.now net.now) 1 self.old }
         ensures { IfOk result (λ _. Counts scenario.now net.now (packet.now ∷ []) self.old self.new) }
     {
-        let spread = net.spread(alloc, scenario.drops(), packet.id, packet.sent)?;
+        let spread = net.spread(
+            alloc,
+            scenario.drops(),
+            packet.id,
+            packet.sent,
+            packet.body.scope(),
+        )?;
         self.count_spread(alloc, net, &spread, packet)
     }
 
@@ -82,10 +87,10 @@ impl Crossings {
         packet: &Packet,
     ) -> Result<(), AllocError>
         requires sender { packet.now.id.sender < length net.now.hosts }
-        requires room { (s : PlainScenario) × IsSpread net.now s.drops packet.now.id packet.now.sent spread.now
+        requires room { (s : PlainScenario) × IsSpreadOf net.now s.drops packet.now spread.now
             × MayCount (traffic_of s net.now) 1 self.old }
         ensures { IfOk result (λ _. (s : PlainScenario)
-            → IsSpread net.now s.drops packet.now.id packet.now.sent spread.now
+            → IsSpreadOf net.now s.drops packet.now spread.now
             → Counts s net.now (packet.now ∷ []) self.old self.new) }
     {
         let mut totals = match self.counted.take() {

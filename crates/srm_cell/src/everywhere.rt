@@ -9,7 +9,7 @@ use srm_ledger::kind::Kind;
 use srm_ledger::totals::Totals;
 use srm_net::packet::Body;
 
-/// How many packets of each kind went everywhere: no drop stopped them on the way to any node.
+/// How many packets of each kind went everywhere: neither a scope nor a drop stopped them on the way to any node.
 #[derive(Clone, Copy, Debug)]
 pub struct Everywhere {
     /// Drawing operations, sent by their source.

@@ -16,6 +16,7 @@ pub mod hearing;
 pub mod inbox;
 pub mod job;
 pub mod laws;
+mod local_repair;
 mod pending;
 mod rows;
 pub mod script;

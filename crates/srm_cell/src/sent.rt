@@ -37,7 +37,13 @@ impl Sent {
         ensures packet { IfOk result (λ x. x.packet ≡ packet.now) }
         ensures sent { IfOk result (λ x. IsSent scenario.now net.now x) }
     {
-        let spread = net.spread(alloc, scenario.drops(), packet.id, packet.sent)?;
+        let spread = net.spread(
+            alloc,
+            scenario.drops(),
+            packet.id,
+            packet.sent,
+            packet.body.scope(),
+        )?;
         Ok(Sent {
             packet: packet.clone()?,
             spread,

@@ -2,8 +2,8 @@
 ghost use Rattle.std.specs.Prelude.{◌≡◌, ◌<◌, ◌+◌, ◌^◌, ◌∷◌, ◌++◌, [], List, length, IfOk};
 ghost use Rattle.srm_net.specs.declared.packet.Packet.{Packet};
 ghost use Rattle.srm_net.specs.Network.{Network};
-ghost use Rattle.srm_net.specs.Spreads.{IsSpread};
 ghost use Rattle.srm_scenario.specs.Plain.{PlainScenario};
+ghost use Rattle.srm_cell.specs.Setting.{IsSpreadOf};
 ghost use Rattle.srm_cell.specs.Tallies.{tallied, Tallies};
 
 use crate::count::count;
@@ -44,9 +44,9 @@ impl Tally {
     /// that drops it. It does not allocate.
     pub fn count(&mut self, net: &Net, spread: &Spread, packet: &Packet)
         requires sender { packet.now.id.sender < length net.now.hosts }
-        requires room { (s : PlainScenario) × (ps : List Packet) × IsSpread net.now s.drops packet.now.id packet.now.sent spread.now
+        requires room { (s : PlainScenario) × (ps : List Packet) × IsSpreadOf net.now s.drops packet.now spread.now
             × Tallies s net.now ps self.old × (length ps + 3 < 2 ^ 64) }
-        ensures { (s : PlainScenario) (ps : List Packet) → IsSpread net.now s.drops packet.now.id packet.now.sent spread.now
+        ensures { (s : PlainScenario) (ps : List Packet) → IsSpreadOf net.now s.drops packet.now spread.now
             → Tallies s net.now ps self.old → Tallies s net.now (ps ++ packet.now ∷ []) self.new }
     {
         let _links = net.links();

@@ -190,6 +190,7 @@ const REQUEST: Packet = Packet {
             page: 0,
             number: 0,
         },
+        scope: None,
     },
 };
 

@@ -166,9 +166,9 @@ const WIDTH_LINE: OptionLine = OptionLine {
 
 const SHOW_LINE: OptionLine = OptionLine {
     name: SHOW,
-    takes: "trace|members|losses|operations|links|timers",
+    takes: "trace|members|losses|operations|links|timers|scopes",
     default: Some("trace"),
-    about: "The table: a row for each event, member, loss, lost operation, link or adapted timer",
+    about: "The table: a row for each event, member, loss, lost operation, link, adapted timer, or request and repair",
     reader: Reader::Text,
     words: &[
         "trace",
@@ -177,6 +177,7 @@ const SHOW_LINE: OptionLine = OptionLine {
         "operations",
         "links",
         "timers",
+        "scopes",
     ],
 };
 
@@ -231,13 +232,14 @@ const CREWS: [(&str, CrewKind); 4] = [
 const WIDTHS: [(&str, Width); 2] = [("least", Width::Least), ("promise", Width::Promise)];
 
 /// The words of `--show`.
-const SHOWS: [(&str, Show); 6] = [
+const SHOWS: [(&str, Show); 7] = [
     ("trace", Show::Trace),
     ("members", Show::Members),
     ("losses", Show::Losses),
     ("operations", Show::Operations),
     ("links", Show::Links),
     ("timers", Show::Timers),
+    ("scopes", Show::Scopes),
 ];
 
 /// The seed and the options that the words of a command line ask for. The first word is the program's name.

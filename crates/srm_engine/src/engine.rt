@@ -1,5 +1,6 @@
 //! The sequential engine.
 ghost use Rattle.std.specs.Prelude.{◌≡◌, ◌<◌, ◌≤◌, ◌+◌, ◌-◌, ◌^◌, ℕ, IfOk, length, map};
+ghost use Rattle.srm_net.specs.Scopes.{scope_of};
 ghost use Rattle.srm_net.specs.Spreads.{IsSpread};
 ghost use Rattle.srm_cell.specs.PutRows.{PutsStep};
 ghost use Rattle.srm_engine.specs.Starts.{AreOpening, InRunsOn};
@@ -180,6 +181,7 @@ impl<'a, M: Participant> Engine<'a, M> {
             self.session.scenario.drops(),
             packet.id,
             packet.sent,
+            packet.body.scope(),
         )?;
         self.tally.count(self.session.net, &spread, packet);
         self.deliver(packet, &spread)?;
@@ -188,7 +190,7 @@ impl<'a, M: Participant> Engine<'a, M> {
 
     // Every member to which a packet, of which this is the spread, has a flight is handed it.
     fn deliver(&mut self, packet: &Packet, spread: &Spread) -> Result<(), AllocError>
-        requires spread { IsSpread self.old.session.net.now self.old.session.scenario.now.drops packet.now.id packet.now.sent
+        requires spread { IsSpread self.old.session.net.now self.old.session.scenario.now.drops packet.now.id packet.now.sent (scope_of packet.now.body)
             spread.now }
         requires may { MayDeliver M.plain packet.now self.old }
         ensures session { self.new.session ≡ self.old.session }

@@ -23,7 +23,7 @@ use Rattle.srm_scenario.specs.Rules.{drop_rules, outage_rules, loss_rules, times
 use Rattle.srm_scenario.specs.Described.{array_at, array_of, constants_of, every_of, form_of, names_parents, number}
 use Rattle.srm_scenario.specs.Described.{version_of}
 use Rattle.srm_scenario.specs.declared.version.Version.{Version}
-use Rattle.srm_scenario.specs.declared.version.Version.TheVariants.{Two, Three, Four}
+use Rattle.srm_scenario.specs.declared.version.Version.TheVariants.{Two, Three, Four, Five}
 use Rattle.srm_explain.specs.declared.finding.Finding.{Finding}
 use Rattle.srm_explain.specs.declared.finding.Finding.TheVariants as finding
 
@@ -222,21 +222,35 @@ is_for_parents key.Delays = true
 is_for_parents key.Backs = true
 is_for_parents key = false
 
--- why a key is not allowed, where these are the rules that versions 2, 3 and 4 have for its part
-abbrev pub IsReasonAmong : List Rule → List Rule → List Rule → Members → Key → List ℕ → Type 0
-IsReasonAmong second third fourth top key reason =
-    ((reason ≡ codes " in version 1; version 2 has it") × (allows second key ≡ true))
-    ⊎ ((reason ≡ codes " in this version; version 3 has it") × (allows second key ≡ false) × (allows third key ≡ true))
-    ⊎ ((reason ≡ codes " in this version; version 4 has it") × (allows third key ≡ false) × (allows fourth key ≡ true))
-    ⊎ ((reason ≡ codes " unless topology is \"parents\", which version 3 has") × (is_for_parents key ≡ true)
+-- why a key is not allowed that no version has beside such a topology
+abbrev pub IsReasonOfForm : Members → Key → List ℕ → Type 0
+IsReasonOfForm top key reason =
+    ((reason ≡ codes " unless topology is \"parents\", which version 3 has") × (is_for_parents key ≡ true)
     × (names_parents top ≡ false))
     ⊎ ((reason ≡ codes " without topology") × (is_shaped top ≡ false))
     ⊎ IsTopologyReason top key reason
 
+-- the first version after version 1 that has a key of this part, if one has it
+abbrev pub first_version_with : Part → Members → Key → Option Version
+first_version_with p top key =
+    if allows (rules_for Two p top) key
+    then Some Two
+    else if allows (rules_for Three p top) key
+    then Some Three
+    else if allows (rules_for Four p top) key
+    then Some Four else if allows (rules_for Five p top) key then Some Five else None
+
+-- why a key is not allowed, where this is the first version after version 1 that has it
+abbrev pub IsReasonSince : Option Version → Members → Key → List ℕ → Type 0
+IsReasonSince (Some Two) top key reason = reason ≡ codes " in version 1; version 2 has it"
+IsReasonSince (Some Three) top key reason = reason ≡ codes " in this version; version 3 has it"
+IsReasonSince (Some Four) top key reason = reason ≡ codes " in this version; version 4 has it"
+IsReasonSince (Some Five) top key reason = reason ≡ codes " in this version; version 5 has it"
+IsReasonSince since top key reason = IsReasonOfForm top key reason
+
 -- why a key of this part is not allowed
 abbrev pub IsReason : Part → Members → Key → List ℕ → Type 0
-IsReason p top key reason =
-    IsReasonAmong (rules_for Two p top) (rules_for Three p top) (rules_for Four p top) top key reason
+IsReason p top key reason = IsReasonSince (first_version_with p top key) top key reason
 
 -- what is said besides of a value that is not of this kind: of a topology that a later version has, that it has it
 abbrev pub IsReasonOfKind : Members → Kind → List ℕ → Type 0

@@ -30,6 +30,8 @@ BreaksMember until nodes star earlier e (misfit.JoinsAfterEnd end) = (end ≡ un
 BreaksMember until nodes star earlier e (misfit.LeavesBeforeJoin join) =
     (join ≡ e.spec.join) × (leave : ℕ) × (e.spec.leave ≡ Some leave) × (leave ≤ join)
 BreaksMember until nodes star earlier e misfit.NotLate = (e.has_pages ≡ true) × (is_late e.spec.role ≡ false)
+BreaksMember until nodes star earlier e misfit.NeverAsks =
+    (e.has_scope ≡ true) × (is_listener e.spec.role ≡ true)
 BreaksMember until nodes star earlier e m = ⊥
 
 -- a member is not there at this time, for this reason
@@ -130,6 +132,7 @@ misfit_sentence (misfit.JoinsAfterEnd until) =
 misfit_sentence (misfit.LeavesBeforeJoin join) =
     codes "a member leaves after it joins, which is at " ++ decimal join
 misfit_sentence misfit.NotLate = codes "pages are given for a member with role \"late\" alone"
+misfit_sentence misfit.NeverAsks = codes "this member is a listener, which sends no requests"
 misfit_sentence misfit.NotSender = codes "only a member with role \"sender\" draws"
 misfit_sentence misfit.IsListener = codes "this member is a listener, which sends no session messages"
 misfit_sentence (misfit.BeforeJoin join) = codes "its member is not there yet: it joins at " ++ decimal join

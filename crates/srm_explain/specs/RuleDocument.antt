@@ -6,7 +6,7 @@ use Rattle.srm_scenario.specs.declared.fault.Part.TheVariants as part
 use Rattle.srm_scenario.specs.declared.form.Form.{Form}
 use Rattle.srm_scenario.specs.declared.rule.Rule.{Rule}
 use Rattle.srm_scenario.specs.declared.version.Version.{Version}
-use Rattle.srm_scenario.specs.declared.version.Version.TheVariants.{One, Two, Three, Four}
+use Rattle.srm_scenario.specs.declared.version.Version.TheVariants.{One, Two, Three, Four, Five}
 use Rattle.srm_scenario.specs.Rules.{allows_losses, allows_outages, allows_parents}
 use Rattle.srm_explain.specs.declared.rule_document.Layout.{Layout}
 use Rattle.srm_explain.specs.declared.rule_document.Layout.TheVariants.{Links, Sized, Tree, Parents}
@@ -91,6 +91,7 @@ number_of One = 1
 number_of Two = 2
 number_of Three = 3
 number_of Four = 4
+number_of Five = 5
 
 -- the tables of a version
 abbrev pub version_text : Version → List ℕ
@@ -100,11 +101,15 @@ version_text v =
     ++ (codes ", \"tables\": [\n" ++ (top_table v Links
     ++ (top_tables v (layouts_in v) ++ (element_tables v (elements_in v) ++ codes "\n]}")))))
 
+-- those of several, each after a comma
+abbrev pub version_texts : List Version → List ℕ
+version_texts [] = []
+version_texts (v ∷ vs) = (codes ",\n" ++ version_text v) ++ version_texts vs
+
 -- the document: how many bytes a text has at most, and the tables of each version
 abbrev pub rule_document : List ℕ
 rule_document =
     codes "{\"bytes\": "
     ++ (decimal LONGEST_TEXT
     ++ (codes ", \"versions\": [\n" ++ (version_text One
-    ++ (codes ",\n" ++ (version_text Two
-    ++ (codes ",\n" ++ (version_text Three ++ (codes ",\n" ++ (version_text Four ++ codes "\n]}\n")))))))))
+    ++ (version_texts (Two ∷ Three ∷ Four ∷ Five ∷ []) ++ codes "\n]}\n"))))

@@ -2,7 +2,7 @@
 use srm_scenario::fault::Part;
 use srm_scenario::key::Key;
 
-/// Which rule a member, draw, session message, drop or outage breaks beside the rest of the scenario.
+/// Which rule a member, draw, session message, drop, outage or loss breaks beside the rest of the scenario.
 #[derive(Clone, Copy)]
 pub enum Misfit {
     /// Its node is none.
@@ -39,6 +39,8 @@ pub enum Misfit {
     },
     /// Pages are given for it, and it is not late.
     NotLate,
+    /// A scope is given for it, and it is a listener.
+    NeverAsks,
     /// Its member draws, and is no sender.
     NotSender,
     /// Its member is a listener, and is to send a session message.
@@ -81,6 +83,7 @@ impl Misfit {
             Misfit::JoinsAfterEnd { .. } => Key::Join,
             Misfit::LeavesBeforeJoin { .. } => Key::Leave,
             Misfit::NotLate => Key::Pages,
+            Misfit::NeverAsks => Key::Scope,
             Misfit::BeforeJoin { .. } | Misfit::AfterLeave { .. } | Misfit::AfterEnd { .. } =>
                 Key::At,
             Misfit::EndsEarly { .. } | Misfit::StopsEarly { .. } => Key::To,

@@ -43,6 +43,9 @@ pub(crate) fn misfit_sentence(alloc: Global, misfit: Misfit) -> Result<String, A
                 "pages are given for a member with role \"late\" alone",
             )
         }
+        Misfit::NeverAsks => {
+            String::from_str(alloc, "this member is a listener, which sends no requests")
+        }
         Misfit::NotSender => { String::from_str(alloc, "only a member with role \"sender\" draws") }
         Misfit::IsListener => {
             String::from_str(

@@ -125,6 +125,9 @@ fn of_entry(
     if entry.has_pages && !matches!(member.role, Role::Late) {
         return Some(Misfit::NotLate);
     }
+    if entry.has_scope && matches!(member.role, Role::Listener) {
+        return Some(Misfit::NeverAsks);
+    }
     None
 }
 

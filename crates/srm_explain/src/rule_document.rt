@@ -1,6 +1,6 @@
 //! The rules of scenario files as a JSON document.
 ghost use Rattle.std.specs.Prelude.{◌≡◌, IfOk, string_bytes};
-ghost use Rattle.srm_explain.specs.RuleDocument.{element_table, element_tables, elements_in, form_with, layout_text, layouts_in, number_of, rule_document, table_of, top_table, top_tables, version_text};
+ghost use Rattle.srm_explain.specs.RuleDocument.{element_table, element_tables, elements_in, form_with, layout_text, layouts_in, number_of, rule_document, table_of, top_table, top_tables, version_text, version_texts};
 
 use crate::rule_text::{FIRST, PARENTS, rule_lines};
 use crate::rules_in::rules_with;
@@ -40,12 +40,22 @@ pub fn rule_document(alloc: Global) -> Result<String, AllocError>
 {
     let bytes = LONGEST_TEXT;
     let one = version_text(alloc, Version::One)?;
-    let two = version_text(alloc, Version::Two)?;
-    let three = version_text(alloc, Version::Three)?;
-    let four = version_text(alloc, Version::Four)?;
-    let told = format!(in alloc;
-        "{{\"bytes\": {bytes}, \"versions\": [\n{one},\n{two},\n{three},\n{four}\n]}}\n"
-    )?;
+    let later = [Version::Two, Version::Three, Version::Four, Version::Five];
+    let others = version_texts(alloc, &later)?;
+    let told = format!(in alloc; "{{\"bytes\": {bytes}, \"versions\": [\n{one}{others}\n]}}\n")?;
+    Ok(told)
+}
+
+// The tables of several versions, each after a comma.
+fn version_texts(alloc: Global, versions: &[Version]) -> Result<String, AllocError>
+    ensures { IfOk result (λ s. string_bytes s ≡ version_texts versions.now) }
+{
+    let mut told = String::new(alloc);
+    for version in versions {
+        let text = version_text(alloc, *version)?;
+        told.push_str(",\n")?;
+        told.push_str(text.as_str())?;
+    }
     Ok(told)
 }
 
@@ -58,6 +68,7 @@ fn number_of(version: Version) -> u64
         Version::Two => 2,
         Version::Three => 3,
         Version::Four => 4,
+        Version::Five => 5,
     }
 }
 

@@ -3,7 +3,7 @@ ghost use Rattle.std.specs.Prelude.{◌≡◌, true, IfOk, is_some, codes};
 ghost use Rattle.std.specs.List.{list_any};
 ghost use Rattle.toml.specs.Data.{get_member};
 ghost use Rattle.toml.specs.View.{table_view};
-ghost use Rattle.srm_explain.specs.Findings.{allows, rules_for, rules_in, rules_with, FollowsSentence, IsReason, IsReasonAmong, IsReasonOfKind, IsReasonOfUnknown, IsTopologyReason, is_for_parents, is_shaped};
+ghost use Rattle.srm_explain.specs.Findings.{allows, rules_for, rules_in, rules_with, FollowsSentence, first_version_with, IsReason, IsReasonSince, IsReasonOfForm, IsReasonOfKind, IsReasonOfUnknown, IsTopologyReason, is_for_parents, is_shaped};
 
 use crate::finding::Finding;
 use srm_scenario::fault::Part;
@@ -142,23 +142,49 @@ fn topology_reason(top: &Table, key: Key) -> &'static str
     }
 }
 
-// Why a key is not allowed, where the rules of versions 2, 3 and 4 for its part are these.
-fn reason_among(
-    second: &[Rule],
-    third: &[Rule],
-    fourth: &[Rule],
+// Whether a version has a key of a part.
+fn has_in(
+    alloc: Global,
+    version: Version,
+    part: Part,
     top: &Table,
     key: Key,
-) -> &'static str
-    ensures { IsReasonAmong second.now third.now fourth.now (table_view top.now) key result.now }
+) -> Result<bool, AllocError>
+    ensures { IfOk result (λ has. has ≡ allows (rules_for version part (table_view top.now)) key) }
 {
-    if allows(second, key) {
-        " in version 1; version 2 has it"
-    } else if allows(third, key) {
-        " in this version; version 3 has it"
-    } else if allows(fourth, key) {
-        " in this version; version 4 has it"
-    } else if is_for_parents(key) && !says(top, Key::Topology, "parents") {
+    let rules = rules_for(alloc, version, part, top)?;
+    Ok(allows(&rules, key))
+}
+
+// The first version after version 1 that has a key of a part, if one has it.
+fn first_version_with(
+    alloc: Global,
+    part: Part,
+    top: &Table,
+    key: Key,
+) -> Result<Option<Version>, AllocError>
+    ensures { IfOk result (λ since. since ≡ first_version_with part (table_view top.now) key) }
+{
+    if has_in(alloc, Version::Two, part, top, key)? {
+        return Ok(Some(Version::Two));
+    }
+    if has_in(alloc, Version::Three, part, top, key)? {
+        return Ok(Some(Version::Three));
+    }
+    if has_in(alloc, Version::Four, part, top, key)? {
+        return Ok(Some(Version::Four));
+    }
+    if has_in(alloc, Version::Five, part, top, key)? {
+        return Ok(Some(Version::Five));
+    }
+    Ok(None)
+}
+
+// Why a key is not allowed that no version has beside such a topology.
+fn reason_of_form(top: &Table, key: Key) -> &'static str
+    ensures { IsReasonOfForm (table_view top.now) key result.now }
+{
+    if is_for_parents(key) && !says(top, Key::Topology, "parents") {
         " unless topology is \"parents\", which version 3 has"
     } else if !has_key(top, Key::Topology) {
         " without topology"
@@ -167,12 +193,23 @@ fn reason_among(
     }
 }
 
+// Why a key is not allowed, where this is the first version after version 1 that has it.
+fn reason_since(since: Option<Version>, top: &Table, key: Key) -> &'static str
+    ensures { IsReasonSince since (table_view top.now) key result.now }
+{
+    match since {
+        Some(Version::Two) => " in version 1; version 2 has it",
+        Some(Version::Three) => " in this version; version 3 has it",
+        Some(Version::Four) => " in this version; version 4 has it",
+        Some(Version::Five) => " in this version; version 5 has it",
+        Some(Version::One) | None => reason_of_form(top, key),
+    }
+}
+
 // Why a key of this part is not allowed, where its rule refuses it.
 fn reason_for(alloc: Global, part: Part, top: &Table, key: Key) -> Result<&'static str, AllocError>
     ensures { IfOk result (λ reason. IsReason part (table_view top.now) key reason.now) }
 {
-    let second = rules_for(alloc, Version::Two, part, top)?;
-    let third = rules_for(alloc, Version::Three, part, top)?;
-    let fourth = rules_for(alloc, Version::Four, part, top)?;
-    Ok(reason_among(&second, &third, &fourth, top, key))
+    let since = first_version_with(alloc, part, top, key)?;
+    Ok(reason_since(since, top, key))
 }

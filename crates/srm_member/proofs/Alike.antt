@@ -28,10 +28,16 @@ use Rattle.srm_member.specs.React.{after_entry}
 use Rattle.srm_member.specs.React.{lost_by_entry, hear_session, hear_body, expire_request_by_entry, expire_request, expire_repair_by_entry}
 use Rattle.srm_member.specs.React.{expire_repair, draw_operation, is_skip, react_active}
 use Rattle.srm_member.specs.React.{react_listener, react_telling, react, with_adapted, intervals_of, adapted_at}
-use Rattle.srm_member.specs.React.{telling_intervals}
+use Rattle.srm_member.specs.React.{telling_intervals, without, rest_of, begins_second_step, second_step_length, with_timer_set}
+use Rattle.srm_member.specs.React.{with_second_step, after_repair, with_timer_taken_over}
+use Rattle.srm_member.specs.React.{hear_request_by_timer, with_repair_first, with_answer_seen, with_own_timer_ended}
+use Rattle.srm_member.specs.LocalRecovery.{serves, mark_from, mark_after, local_of, is_second_step, takes_over}
+use Rattle.srm_member.specs.declared.mark.Mark.{Mark}
+use Rattle.srm_member.specs.declared.resting.Resting.{Resting}
+use Rattle.srm_net.specs.declared.packet.Local.{Local}
 use Rattle.srm_member.proofs.LawProofs.{as_listener}
 use Rattle.srm_member.proofs.IntervalChanges.{Adapts, adapts_delay, adapts_losses, adapts_mending, adapts_repair_seen, adapts_repairs_begun}
-use Rattle.srm_member.proofs.IntervalChanges.{adapts_duplicate, adapts_request_first, adapts_same, adapts_back_off}
+use Rattle.srm_member.proofs.IntervalChanges.{adapts_duplicate, adapts_request_first, adapts_same, adapts_back_off, adapts_repair_first}
 
 -- start and width are the first values
 abbrev AreFirst : Limits → Limits → Interval → Type 0
@@ -105,6 +111,13 @@ module _ (f : Fixed) (roomless : HasFixedTimers f) where
       → repair_length (swapped a b m) who ≡ repair_length m who
   repair_same a b m l r who = grind arith
 
+  second_same : (a b : Interval) (m : MemberState) → Fit m → Fit (swapped a b m) → second_step_length (swapped a b m) ≡ second_step_length m
+  second_same a b m l r = grind arith
+
+  alike_choice : (b : Bool) (x y z w : MemberState) → Alike x z → Alike y w → Alike (cond b x y) (cond b z w)
+  alike_choice true x y z w h g = h
+  alike_choice false x y z w h g = g
+
   -- ---- what sets timers
 
   alike_lose_one : (at : ℕ) (n : Name) (m k : MemberState) → Alike m k → Alike (lose_one at n m) (lose_one at n k)
@@ -128,23 +141,33 @@ module _ (f : Fixed) (roomless : HasFixedTimers f) where
             (request_same q.request_interval b (with_request_delay at n e m) l r (min (e.backoffs + 1) 10) n);
       })
 
-  abbrev planned_with : ℕ → Name → ℕ → MemberState → ℕ → MemberState
-  planned_with at n who m len = record (with_next_word m) {
-    repairs = put name_cmp n (record { set = at; expiry = at + len; requester = who }) m.repairs;
-  }
-
-  alike_planning : (at : ℕ) (n : Name) (who : ℕ) (m k : MemberState) → Alike m k
-      → Alike (with_repair_timer at n who m) (with_repair_timer at n who k)
-  alike_planning at n who m k h = by_swap (λ q. Alike (with_repair_timer at n who m) (with_repair_timer at n who q)) m k h (λ a b fit.
+  alike_planning : (at : ℕ) (n : Name) (who : ℕ) (width : Option ℕ) (m k : MemberState) → Alike m k
+      → Alike (with_repair_timer at n who width m) (with_repair_timer at n who width k)
+  alike_planning at n who width m k h =
+      by_swap (λ q. Alike (with_repair_timer at n who width m) (with_repair_timer at n who width q)) m k h (λ a b fit.
       let q = with_repairs_begun (swapped a b m) in
       let l = adapts_repairs_begun f Asks Answers asks answers m h.left in
       let r = adapts_repairs_begun f Asks Answers asks answers (swapped a b m) fit in
       record {
-        left = same_fit (with_repairs_begun m) (with_repair_timer at n who m) refl refl refl l;
-        right = same_fit q (with_repair_timer at n who (swapped a b m)) refl refl refl r;
-        same = ap (λ len. swapped a q.repair_interval (planned_with at n who m len))
+        left = same_fit (with_repairs_begun m) (with_repair_timer at n who width m) refl refl refl l;
+        right = same_fit q (with_repair_timer at n who width (swapped a b m)) refl refl refl r;
+        same = ap (λ len. swapped a q.repair_interval (with_timer_set at n len who width m))
             (repair_same a q.repair_interval (with_repairs_begun m) l r who);
       })
+
+  alike_second : (at : ℕ) (n : Name) (rest : Resting) (local : Option Local) (m k : MemberState) → Alike m k
+      → Alike (with_second_step at n rest local m) (with_second_step at n rest local k)
+  alike_second at n rest None m k h = h
+  alike_second at n rest (Some l) m k h =
+      by_swap (λ q. Alike (with_second_step at n rest (Some l) m) (with_second_step at n rest (Some l) q)) m k h (λ a b fit.
+      let set = λ (ticks : ℕ) (x : MemberState). with_timer_set at n ticks m.fixed.member (Some l.width) x in
+      alike_choice (begins_second_step at n rest l m) _ _ _ _
+      (record {
+        left = same_fit m (set (second_step_length m) m) refl refl refl h.left;
+        right = same_fit (swapped a b m) (set (second_step_length (swapped a b m)) (swapped a b m)) refl refl refl fit;
+        same = ap (λ len. swapped a b (set len m)) (second_same a b m h.left fit);
+      })
+      (swap a b m h.left fit))
 
   -- ---- what sets none
 
@@ -166,6 +189,25 @@ module _ (f : Fixed) (roomless : HasFixedTimers f) where
   alike_mended : (n : Name) (ink : ℕ) (m k : MemberState) → Alike m k → Alike (with_mended n ink m) (with_mended n ink k)
   alike_mended n ink = alike_plain (with_mended n ink) (λ a b m. refl) (λ m h. same_fit m (with_mended n ink m) refl refl refl h)
       (λ m. refl) (λ m. refl)
+
+  alike_resting : (at : ℕ) (n : Name) (who : ℕ) (mark : Option Mark) (m k : MemberState) → Alike m k
+      → Alike (with_rest at n who mark m) (with_rest at n who mark k)
+  alike_resting at n who None = alike_plain (with_rest at n who None) (λ a b m. refl)
+      (λ m h. same_fit m (with_rest at n who None m) refl refl refl h) (λ m. refl) (λ m. refl)
+  alike_resting at n who (Some x) = alike_plain (with_rest at n who (Some x)) (λ a b m. refl)
+      (λ m h. same_fit m (with_rest at n who (Some x) m) refl refl refl h) (λ m. refl) (λ m. refl)
+
+  abbrev handed : Name → Repairing → MemberState → MemberState
+  handed n r m = record m { repairs = put name_cmp n r m.repairs }
+
+  alike_handed : (n : Name) (r : Repairing) (m k : MemberState) → Alike m k → Alike (handed n r m) (handed n r k)
+  alike_handed n r = alike_plain (handed n r) (λ a b m. refl) (λ m h. same_fit m (handed n r m) refl refl refl h) (λ m. refl) (λ m. refl)
+
+  abbrev unplanned : Name → MemberState → MemberState
+  unplanned n m = record m { repairs = without n m.repairs }
+
+  alike_unplanned : (n : Name) (m k : MemberState) → Alike m k → Alike (unplanned n m) (unplanned n k)
+  alike_unplanned n = alike_plain (unplanned n) (λ a b m. refl) (λ m h. same_fit m (unplanned n m) refl refl refl h) (λ m. refl) (λ m. refl)
 
   alike_lose_from : (at : ℕ) (p : PageId) (count first : ℕ) (m k : MemberState) → Alike m k
       → Alike (lose_from at p count first m) (lose_from at p count first k)
@@ -191,8 +233,39 @@ module _ (f : Fixed) (roomless : HasFixedTimers f) where
   alike_mending at n repaired =
       alike_change (with_mending_seen at n repaired) (λ m. refl) (adapts_mending f Asks Answers asks answers at n repaired)
 
-  alike_repair_seen : (at : ℕ) (n : Name) (m k : MemberState) → Alike m k → Alike (with_repair_seen at n m) (with_repair_seen at n k)
-  alike_repair_seen at n = alike_change (with_repair_seen at n) (λ m. refl) (adapts_repair_seen f Asks Answers asks answers at n)
+  -- a repair that is seen: the state but for its intervals is one of two
+  alike_repair_seen : (at : ℕ) (n : Name) (who : ℕ) (local : Option Local) (rest : Resting) (o : Option Repairing) (m k : MemberState)
+      → Alike m k → Alike (with_repair_seen at n who local rest o m) (with_repair_seen at n who local rest o k)
+  alike_repair_seen at n who local rest None m k h =
+      alike_change (with_repair_seen at n who local rest None) (λ x. refl)
+      (adapts_repair_seen f Asks Answers asks answers at n who local rest None) m k h
+  alike_repair_seen at n who local rest (Some r) m k h =
+      by_swap (λ q. Alike (with_repair_seen at n who local rest (Some r) m) (with_repair_seen at n who local rest (Some r) q)) m k h
+      (λ a b fit.
+      let left = adapts_repair_seen f Asks Answers asks answers at n who local rest (Some r) m h.left in
+      let right = adapts_repair_seen f Asks Answers asks answers at n who local rest (Some r) (swapped a b m) fit in
+      ended_alike (serves m.fixed (mark_from m.fixed who local) r.requester r.width) _ _ (swapped a b m) m
+      left right refl refl)
+    where
+      ended_alike : (c : Bool) (x y z w : MemberState) → Fit (cond c x w) → Fit (cond c y z)
+          → y ≡ swapped y.request_interval y.repair_interval x → z ≡ swapped z.request_interval z.repair_interval w
+          → Alike (cond c x w) (cond c y z)
+      ended_alike true x y z w l r e g = record { left = l; right = r; same = e }
+      ended_alike false x y z w l r e g = record { left = l; right = r; same = g }
+
+  alike_answer_seen : (at : ℕ) (r : Repairing) (m k : MemberState) → Alike m k → Alike (with_answer_seen at r m) (with_answer_seen at r k)
+  alike_answer_seen at r m k h =
+      by_swap (λ q. Alike (with_answer_seen at r m) (with_answer_seen at r q)) m k h (λ a b fit.
+      let g = swap a b m h.left fit in
+      alike_choice (is_second_step m.fixed r) _ _ _ _ g
+      (alike_change (with_repair_first at r) (λ x. refl) (adapts_repair_first f Asks Answers asks answers at r) m (swapped a b m) g))
+
+  alike_own_ended : (at : ℕ) (n : Name) (r : Repairing) (mark : Option Mark) (m k : MemberState) → Alike m k
+      → Alike (with_own_timer_ended at n r mark m) (with_own_timer_ended at n r mark k)
+  alike_own_ended at n r mark m k h =
+      by_swap (λ q. Alike (with_own_timer_ended at n r mark m) (with_own_timer_ended at n r mark q)) m k h (λ a b fit.
+      alike_unplanned n _ _ (alike_resting at n m.fixed.member mark _ _
+      (alike_answer_seen at r m (swapped a b m) (swap a b m h.left fit))))
 
   alike_duplicate : (m k : MemberState) → Alike m k → Alike (with_duplicate_request m) (with_duplicate_request k)
   alike_duplicate = alike_change with_duplicate_request (λ m. refl) (adapts_duplicate f Asks Answers asks answers)
@@ -229,14 +302,26 @@ module _ (f : Fixed) (roomless : HasFixedTimers f) where
   alike_data at n ink repaired m k h = by_swap (λ q. AlikeReaction (hear_data at n ink repaired m) (hear_data at n ink repaired q)) m k h
       (λ a b fit. data_alike at n ink repaired a b m (swap a b m h.left fit))
 
-  repaired_alike : (at : ℕ) (n : Name) (who : ℕ) (r s : Reaction) → AlikeReaction r s
-      → AlikeReaction (cond (is_skip r.answer.told) r (record r { state = with_rest at n who (with_repair_seen at n r.state) }))
-      (cond (is_skip s.answer.told) s (record s { state = with_rest at n who (with_repair_seen at n s.state) }))
-  repaired_alike at n who r s h = grind (arith, alike_repair_seen)
+  alike_after_repair : (at : ℕ) (n : Name) (who : ℕ) (local : Option Local) (m k : MemberState) → Alike m k
+      → Alike (after_repair at n who local m) (after_repair at n who local k)
+  alike_after_repair at n who local m k h =
+      by_swap (λ q. Alike (after_repair at n who local m) (after_repair at n who local q)) m k h (λ a b fit.
+      alike_second at n (rest_of n m) local _ _
+      (alike_repair_seen at n who local (rest_of n m) (find name_cmp n m.repairs) _ _
+      (alike_resting at n who (mark_from m.fixed who local) m (swapped a b m) (swap a b m h.left fit))))
 
-  alike_repair : (at : ℕ) (n : Name) (ink who : ℕ) (m k : MemberState) → Alike m k
-      → AlikeReaction (hear_repair at n ink who m) (hear_repair at n ink who k)
-  alike_repair at n ink who m k h = repaired_alike at n who _ _ (alike_data at n ink true m k h)
+  repaired_alike : (at : ℕ) (n : Name) (who : ℕ) (local : Option Local) (r s : Reaction) → AlikeReaction r s
+      → AlikeReaction (cond (is_skip r.answer.told) r (record r { state = after_repair at n who local r.state }))
+      (cond (is_skip s.answer.told) s (record s { state = after_repair at n who local s.state }))
+  repaired_alike at n who local r s h =
+      subst (λ t. AlikeReaction (cond (is_skip r.answer.told) r (record r { state = after_repair at n who local r.state }))
+      (cond (is_skip t.told) s (record s { state = after_repair at n who local s.state }))) (sym h.answer)
+      (alike_if (is_skip r.answer.told) r _ s _ h
+      (record { answer = h.answer; state = alike_after_repair at n who local r.state s.state h.state }))
+
+  alike_repair : (at : ℕ) (n : Name) (ink who : ℕ) (local : Option Local) (m k : MemberState) → Alike m k
+      → AlikeReaction (hear_repair at n ink who local m) (hear_repair at n ink who local k)
+  alike_repair at n ink who local m k h = repaired_alike at n who local _ _ (alike_data at n ink true m k h)
 
   alike_asked : (at : ℕ) (n : Name) (lost : List Name) (m k : MemberState) (o : Option Missing) → Alike m k
       → AlikeReaction (hear_request_by_entry at n lost m o) (hear_request_by_entry at n lost k o)
@@ -250,25 +335,36 @@ module _ (f : Fixed) (roomless : HasFixedTimers f) where
       by_swap (λ q. AlikeReaction (hear_request_of_missing at n lost m) (hear_request_of_missing at n lost q)) m k h
       (λ a b fit. alike_asked at n lost m (swapped a b m) (find name_cmp n m.missing) (swap a b m h.left fit))
 
-  alike_held : (at : ℕ) (n : Name) (who : ℕ) (m k : MemberState) → Alike m k
-      → AlikeReaction (hear_request_of_held at n who m) (hear_request_of_held at n who k)
-  alike_held at n who m k h =
-      by_swap (λ q. AlikeReaction (hear_request_of_held at n who m) (hear_request_of_held at n who q)) m k h (λ a b fit.
+  alike_taken_over : (n : Name) (who : ℕ) (width : Option ℕ) (r : Repairing) (m k : MemberState) → Alike m k
+      → Alike (with_timer_taken_over n who width r m) (with_timer_taken_over n who width r k)
+  alike_taken_over n who width r m k h =
+      by_swap (λ q. Alike (with_timer_taken_over n who width r m) (with_timer_taken_over n who width r q)) m k h (λ a b fit.
       let g = swap a b m h.left fit in
-      alike_if (is_at_rest at n m) _ _ _ _ (record { answer = refl; state = g })
-      (alike_if (has_entry n m.repairs) _ _ _ _ (record { answer = refl; state = g })
-      (record { answer = refl; state = alike_planning at n who m (swapped a b m) g })))
+      alike_choice (takes_over m.fixed width r) _ _ _ _ (alike_handed n (record r { requester = who; width = width }) _ _ g) g)
 
-  request_alike : (at : ℕ) (n : Name) (who : ℕ) (a b : Interval) (m : MemberState) → Alike m (swapped a b m)
-      → AlikeReaction (hear_request at n who m) (hear_request at n who (swapped a b m))
+  alike_by_timer : (at : ℕ) (n : Name) (who : ℕ) (width : Option ℕ) (m k : MemberState) (o : Option Repairing) → Alike m k
+      → AlikeReaction (hear_request_by_timer at n who width m o) (hear_request_by_timer at n who width k o)
+  alike_by_timer at n who width m k None h = record { answer = refl; state = alike_planning at n who width m k h }
+  alike_by_timer at n who width m k (Some r) h = record { answer = refl; state = alike_taken_over n who width r m k h }
+
+  alike_held : (at : ℕ) (n : Name) (who : ℕ) (width : Option ℕ) (m k : MemberState) → Alike m k
+      → AlikeReaction (hear_request_of_held at n who width m) (hear_request_of_held at n who width k)
+  alike_held at n who width m k h =
+      by_swap (λ q. AlikeReaction (hear_request_of_held at n who width m) (hear_request_of_held at n who width q)) m k h (λ a b fit.
+      let g = swap a b m h.left fit in
+      alike_if (is_at_rest at n who width m) _ _ _ _ (record { answer = refl; state = g })
+      (alike_by_timer at n who width m (swapped a b m) (find name_cmp n m.repairs) g))
+
+  request_alike : (at : ℕ) (n : Name) (who : ℕ) (width : Option ℕ) (a b : Interval) (m : MemberState) → Alike m (swapped a b m)
+      → AlikeReaction (hear_request at n who width m) (hear_request at n who width (swapped a b m))
   unfolding hear_request
-  request_alike at n who a b m h =
+  request_alike at n who width a b m h =
       let p = page_of n in
       let s = meet m p (n.number + 1) in
       let k = with_progress p s m in
       let met = alike_progress p s m (swapped a b m) h in
       alike_if (nat_lt n.number s.floor) _ _ _ _ (record { answer = refl; state = met })
-      (alike_if (has_entry n k.held) _ _ _ _ (alike_held at n who _ _ met)
+      (alike_if (has_entry n k.held) _ _ _ _ (alike_held at n who width _ _ met)
       (alike_if (nat_le s.next n.number) _ _ _ _
       (alike_missing at n (lost_below p (n.number + 1) s) _ _ (alike_lose at p (n.number + 1) (n.number + 1) s [] _ _ met))
       (alike_missing at n [] _ _ met)))
@@ -290,18 +386,24 @@ module _ (f : Fixed) (roomless : HasFixedTimers f) where
   alike_hear : (at who : ℕ) (body : Body) (a b : Interval) (m : MemberState) → Alike m (swapped a b m)
       → AlikeReaction (hear_body at who body m) (hear_body at who body (swapped a b m))
   alike_hear at who (Drawop n ink) a b m h = data_alike at n ink false a b m h
-  alike_hear at who (Repair n ink) a b m h = alike_repair at n ink who m (swapped a b m) h
-  alike_hear at who (Request n) a b m h = request_alike at n who a b m h
+  alike_hear at who (Repair n ink local) a b m h = alike_repair at n ink who local m (swapped a b m) h
+  alike_hear at who (Request n scope) a b m h = request_alike at n who scope a b m h
   alike_hear at who (Session hs) a b m h = alike_session at hs m (swapped a b m) [] h
 
   alike_asking : (at : ℕ) (n : Name) (m k : MemberState) (o : Option Missing) → Alike m k
       → AlikeReaction (expire_request_by_entry at n m o) (expire_request_by_entry at n k o)
   alike_asking at n m k None h = record { answer = refl; state = h }
-  alike_asking at n m k (Some e) h = record { answer = refl; state = alike_back_off at n e _ _ (alike_request_first e m k h) }
+  alike_asking at n m k (Some e) h =
+      by_swap (λ q. AlikeReaction (expire_request_by_entry at n m (Some e)) (expire_request_by_entry at n q (Some e))) m k h (λ a b fit.
+      record { answer = refl; state = alike_back_off at n e _ _ (alike_request_first e m (swapped a b m) (swap a b m h.left fit)) })
 
   alike_answering : (at : ℕ) (n : Name) (a b : Interval) (m : MemberState) (o : Option Repairing) → Alike m (swapped a b m)
       → AlikeReaction (expire_repair_by_entry at n m o) (expire_repair_by_entry at n (swapped a b m) o)
-  alike_answering at n a b m o h = grind arith
+  alike_answering at n a b m None h = record { answer = refl; state = h }
+  alike_answering at n a b m (Some r) h = record {
+    answer = refl;
+    state = alike_own_ended at n r (mark_after 0 (local_of m.fixed r)) m (swapped a b m) h;
+  }
 
   alike_drawing : (page ink : ℕ) (a b : Interval) (m : MemberState) → Alike m (swapped a b m)
       → AlikeReaction (draw_operation page ink m) (draw_operation page ink (swapped a b m))

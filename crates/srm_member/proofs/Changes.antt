@@ -1,10 +1,11 @@
 -- What an event changes of the names that a member holds and lacks.
 use Rattle.std.proofs.Common.{◌≡◌, ℕ, zero, suc, ◌<◌, ◌≤◌, ◌+◌, ◌-◌, Bool, true, false, cond, ◌&&◌, T, List, [], ◌∷◌, ◌++◌, refl}
 use Rattle.std.proofs.Common.{sym, ap, ◌∙◌, subst, ◌≢◌, ◌⊎◌, inl, inr, arith, Option, Some, None, is_some, unwrap_or, nat_lt, nat_le}
-use Rattle.std.proofs.Common.{append-nil}
+use Rattle.std.proofs.Common.{append-nil, ◌==◌}
 use Rattle.std.specs.List.{Contains}
 use Rattle.std.proofs.lemmas.List.Elements.{Contains-append_left, Contains-append_right, Contains-append_cases}
 use Rattle.std.specs.FinMap.Entries.{put, find, is_sorted}
+use Rattle.std.proofs.lemmas.Bool.{and_parts}
 use Rattle.std.proofs.lemmas.Option.{same_Some}
 use Rattle.srm_net.specs.declared.packet.Name.{Name}
 use Rattle.srm_net.specs.declared.packet.PageId.{PageId}
@@ -21,8 +22,14 @@ use Rattle.srm_net.specs.Roles.{is_sender, is_listener}
 use Rattle.srm_member.specs.React.{Reaction, quietly, send_body, without, has_entry, back_off}
 use Rattle.srm_member.specs.React.{adapted_at, intervals_of, react_telling, with_adapted}
 use Rattle.srm_member.specs.declared.intervals.Intervals.{Intervals}
-use Rattle.srm_member.specs.React.{with_losses_begun, with_repair_seen, with_duplicate_request}
-use Rattle.srm_member.specs.React.{with_request_first, with_repair_first}
+use Rattle.srm_member.specs.React.{with_losses_begun, with_repair_seen, with_duplicate_request, rest_of}
+use Rattle.srm_member.specs.React.{with_request_first, with_answer_seen, with_own_timer_ended, is_at_rest, with_timer_taken_over}
+use Rattle.srm_member.specs.React.{hear_request_by_timer, begins_second_step, with_timer_set, second_step_length, with_second_step}
+use Rattle.srm_member.specs.React.{after_repair, interval_after_timer}
+use Rattle.srm_member.specs.LocalRecovery.{local_of, mark_after, mark_from, serves, takes_over, are_two}
+use Rattle.srm_member.specs.declared.mark.Mark.{Mark}
+use Rattle.srm_member.specs.declared.resting.Resting.{Resting}
+use Rattle.srm_net.specs.declared.packet.Local.{Local}
 use Rattle.srm_member.specs.React.{begins_at, with_progress, meet, lose_one, lose_from, names_from, lose_below, lost_below}
 use Rattle.srm_member.specs.React.{hear_data, with_rest, hear_repair, with_repair_timer, hear_request_by_entry}
 use Rattle.srm_member.specs.React.{hear_request_of_held, hear_request, page_heard}
@@ -223,11 +230,69 @@ grows_lose at p x end next lost m low high =
 grows_back_off : (at : ℕ) (n : Name) (e : Missing) (m : MemberState) → Has n m.missing → Grows [] m (back_off at n e m)
 grows_back_off at n e m h = grind (arith, has_cases, has_more, sorted_put)
 
-grows_planning : (at : ℕ) (n : Name) (who : ℕ) (m : MemberState) → Has n m.held → Grows [] m (with_repair_timer at n who m)
-grows_planning at n who m h = grind (arith, has_cases)
+-- a change of repair timers alone, which sets them for names that it holds
+grows_timers : (m k : MemberState) → k.fixed ≡ m.fixed → k.held ≡ m.held → k.progress ≡ m.progress → k.missing ≡ m.missing
+    → ((n : Name) → Has n k.repairs → Has n m.repairs ⊎ Has n m.held) → Grows [] m k
+grows_timers m k f h s l p = grind arith
 
-grows_resting : (at : ℕ) (n : Name) (who : ℕ) (m : MemberState) → Grows [] m (with_rest at n who m)
-grows_resting at n who m = grind (arith, without_less)
+grows_planning : (at : ℕ) (n : Name) (who : ℕ) (width : Option ℕ) (m : MemberState) → Has n m.held
+    → Grows [] m (with_repair_timer at n who width m)
+grows_planning at n who width m h = grows_timers m (with_repair_timer at n who width m) refl refl refl refl
+    (λ k g. elim (has_cases k n _ m.repairs g) [ inl e ↦ inr (subst (λ x. Has x m.held) (sym e) h) | inr x ↦ inl x ])
+
+grows_resting : (at : ℕ) (n : Name) (who : ℕ) (mark : Option Mark) (m : MemberState) → Grows [] m (with_rest at n who mark m)
+grows_resting at n who None m = grows_same m (with_rest at n who None m) refl refl refl refl refl
+grows_resting at n who (Some k) m = grows_same m (with_rest at n who (Some k) m) refl refl refl refl refl
+
+-- ---- tests
+
+if_either : {A : Type 0} (Q : A → Type 0) (b : Bool) (x y : A) → (b ≡ true → Q x) → (b ≡ false → Q y) → Q (cond b x y)
+if_either Q true x y h g = h refl
+if_either Q false x y h g = g refl
+
+grows_choice : (b : Bool) (m x y : MemberState) → Grows [] m x → Grows [] m y → Grows [] m (cond b x y)
+grows_choice true m x y h g = h
+grows_choice false m x y h g = g
+
+-- a timer that is taken over is set for a name that had one
+grows_taken_over : (n : Name) (who : ℕ) (width : Option ℕ) (r : Repairing) (m : MemberState) → find name_cmp n m.repairs ≡ Some r
+    → Grows [] m (with_timer_taken_over n who width r m)
+grows_taken_over n who width r m e =
+    grows_choice (takes_over m.fixed width r) m _ m
+    (grows_timers m (record m { repairs = put name_cmp n (record r { requester = who; width = width }) m.repairs }) refl refl refl refl
+    (λ k g. elim (has_cases k n _ m.repairs g) [ inl q ↦ inl (subst (λ x. Has x m.repairs) (sym q) (ap is_some e)) | inr x ↦ inl x ]))
+    (grows_same m m refl refl refl refl refl)
+
+grows_seen : (at : ℕ) (n : Name) (who : ℕ) (local : Option Local) (rest : Resting) (o : Option Repairing) (m : MemberState)
+    → Grows [] m (with_repair_seen at n who local rest o m)
+grows_seen at n who local rest None m = grows_same m (with_repair_seen at n who local rest None m) refl refl refl refl refl
+grows_seen at n who local rest (Some r) m =
+    grows_choice (serves m.fixed (mark_from m.fixed who local) r.requester r.width) m _ m
+    (grows_timers m (record m { repairs = without n m.repairs; repair_interval = interval_after_timer at r m }) refl refl refl refl
+    (λ k g. inl (without_less k n m.repairs g).1))
+    (grows_same m m refl refl refl refl refl)
+
+-- a second step is of a name that is held
+grows_second : (at : ℕ) (n : Name) (rest : Resting) (local : Option Local) (m : MemberState)
+    → Grows [] m (with_second_step at n rest local m)
+grows_second at n rest None m = grows_same m m refl refl refl refl refl
+grows_second at n rest (Some l) m =
+    if_either (Grows [] m) (begins_second_step at n rest l m)
+    (with_timer_set at n (second_step_length m) m.fixed.member (Some l.width) m) m
+    (λ begins.
+    let held : Has n m.held = (and_parts _ _ (and_parts _ _
+    (and_parts (are_two m.fixed.steps && (l.requester == m.fixed.member)) _ begins).1).0).0 in
+    grows_timers m (with_timer_set at n (second_step_length m) m.fixed.member (Some l.width) m) refl refl refl refl
+    (λ k g. elim (has_cases k n _ m.repairs g) [ inl e ↦ inr (subst (λ x. Has x m.held) (sym e) held) | inr x ↦ inl x ]))
+    (λ stays. grows_same m m refl refl refl refl refl)
+
+pub grows_after_repair : (at : ℕ) (n : Name) (who : ℕ) (local : Option Local) (m : MemberState) → Grows [] m (after_repair at n who local m)
+grows_after_repair at n who local m =
+    let rested = with_rest at n who (mark_from m.fixed who local) m in
+    let seen = with_repair_seen at n who local (rest_of n m) (find name_cmp n m.repairs) rested in
+    grows_then [] m rested _ (grows_resting at n who (mark_from m.fixed who local) m)
+    (grows_then [] rested seen _ (grows_seen at n who local (rest_of n m) (find name_cmp n m.repairs) rested)
+    (grows_second at n (rest_of n m) local seen))
 
 -- ---- what an event does
 
@@ -236,8 +301,8 @@ grows_resting at n who m = grind (arith, without_less)
 abbrev pub Allowed : MemberState → Option Body → Type 0
 Allowed m None = Unit {0}
 Allowed m (Some (Drawop n ink)) = ⊥
-Allowed m (Some (Request n)) = Has n m.missing
-Allowed m (Some (Repair n ink)) = Has n m.repairs × (ink ≡ unwrap_or (find name_cmp n m.held) 0)
+Allowed m (Some (Request n scope)) = Has n m.missing
+Allowed m (Some (Repair n ink local)) = Has n m.repairs × (ink ≡ unwrap_or (find name_cmp n m.held) 0)
 Allowed m (Some (Session hs)) = Unit {0}
 
 -- nothing new is held
@@ -249,7 +314,7 @@ pub record Quiet (m : MemberState) (r : Reaction) : Type 0 where
 
 -- data or a repair of this name
 abbrev pub Brings : Body → Name → ℕ → Type 0
-Brings b n ink = (b ≡ Drawop n ink) ⊎ (b ≡ Repair n ink)
+Brings b n ink = (b ≡ Drawop n ink) ⊎ ((local : Option Local) × (b ≡ Repair n ink local))
 
 -- a name is new, or was missing and is so no more
 abbrev pub Mends : MemberState → Reaction → Name → MemberState → Type 0
@@ -268,7 +333,7 @@ pub record Brought (m : MemberState) (b : Body) (r : Reaction) : Type 0 where
   pub held : r.state.held ≡ put name_cmp name ink mid.held
   pub mends : Mends m r name mid
   pub below : (k : Name) → Below k mid → Below k r.state
-  pub plans : (k : Name) → Has k r.state.repairs → Has k mid.repairs
+  pub plans : (k : Name) → Has k r.state.repairs → Has k mid.repairs ⊎ Has k r.state.held
   pub body : r.answer.body ≡ None
 
 -- a name is drawn, and held
@@ -299,12 +364,6 @@ DrawnBy m _ r = ⊥
 abbrev pub Effect : MemberState → Cause → Reaction → Type 0
 Effect m cause r = Quiet m r ⊎ (BroughtBy m cause r ⊎ DrawnBy m cause r)
 
--- ---- tests
-
-if_either : {A : Type 0} (Q : A → Type 0) (b : Bool) (x y : A) → (b ≡ true → Q x) → (b ≡ false → Q y) → Q (cond b x y)
-if_either Q true x y h g = h refl
-if_either Q false x y h g = g refl
-
 -- ---- packets with an operation
 
 abbrev Got : MemberState → Body → Reaction → Type 0
@@ -332,7 +391,7 @@ got_effect b at n ink repaired m brings =
       held = refl;
       mends = inl (refl, refl);
       below = λ k h. h;
-      plans = λ k h. h;
+      plans = λ k h. inl h;
       body = refl;
     }))
     (λ old. if_either (Got m b) (has_entry n m.missing) _ _
@@ -346,21 +405,72 @@ got_effect b at n ink repaired m brings =
       held = refl;
       mends = inr (refl, lacks, refl);
       below = λ k h. h;
-      plans = λ k h. h;
+      plans = λ k h. inl h;
       body = refl;
     }))
     (λ has. inl (record { grows = grows_meet m (page_of n) n.number; not_fresh = λ e. cc; not_fixed = λ e. cc; body = tt }))))
 
-rested : (m : MemberState) (b : Body) (at : ℕ) (n : Name) (who : ℕ) (r : Reaction) → Got m b r
-    → Got m b (record r { state = with_rest at n who (with_repair_seen at n r.state) })
-rested m b at n who r h6 = grind (arith, without_less)
+rested : (m : MemberState) (b : Body) (at : ℕ) (n : Name) (who : ℕ) (local : Option Local) (r : Reaction) → Got m b r
+    → Got m b (record r { state = after_repair at n who local r.state })
+rested m b at n who local r (inl q) = inl (record {
+  grows = grows_then r.answer.lost m r.state _ q.grows (grows_after_repair at n who local r.state);
+  not_fresh = q.not_fresh;
+  not_fixed = q.not_fixed;
+  body = q.body;
+})
+rested m b at n who local r (inr t) =
+    let g = grows_after_repair at n who local r.state in
+    inr (record {
+      name = t.name;
+      ink = t.ink;
+      brings = t.brings;
+      mid = t.mid;
+      grows = t.grows;
+      fixed = g.fixed ∙ t.fixed;
+      held = g.held ∙ t.held;
+      mends = subst (λ es. ((r.answer.told ≡ Fresh) × (es ≡ t.mid.missing))
+          ⊎ ((r.answer.told ≡ Fixed) × Has t.name m.missing × (es ≡ without t.name t.mid.missing)))
+          (sym (missing_stays at n who local r.state)) t.mends;
+      below = λ k h. g.below k (t.below k h);
+      plans = λ k h. elim (g.plans k h) [
+        | inl x ↦ elim (t.plans k x) [ inl y ↦ inl y | inr y ↦ inr (subst (Has k) (sym g.held) y) ]
+        | inr x ↦ inr (subst (Has k) (sym g.held) x)
+      ];
+      body = t.body;
+    })
+  where
+    rest_missing : (at : ℕ) (n : Name) (who : ℕ) (mark : Option Mark) (k : MemberState) → (with_rest at n who mark k).missing ≡ k.missing
+    rest_missing at n who None k = refl
+    rest_missing at n who (Some x) k = refl
 
-repair_effect : (b : Body) (at : ℕ) (n : Name) (ink who : ℕ) (m : MemberState) → Brings b n ink → Got m b (hear_repair at n ink who m)
-repair_effect b at n ink who m brings =
+    seen_missing : (at : ℕ) (n : Name) (who : ℕ) (local : Option Local) (rest : Resting) (o : Option Repairing) (k : MemberState)
+        → (with_repair_seen at n who local rest o k).missing ≡ k.missing
+    seen_missing at n who local rest None k = refl
+    seen_missing at n who local rest (Some x) k =
+        if_either (λ (y : MemberState). y.missing ≡ k.missing) (serves k.fixed (mark_from k.fixed who local) x.requester x.width) _ k
+        (λ h. refl) (λ h. refl)
+
+    second_missing : (at : ℕ) (n : Name) (rest : Resting) (local : Option Local) (k : MemberState)
+        → (with_second_step at n rest local k).missing ≡ k.missing
+    second_missing at n rest None k = refl
+    second_missing at n rest (Some l) k =
+        if_either (λ (y : MemberState). y.missing ≡ k.missing) (begins_second_step at n rest l k) _ k (λ h. refl) (λ h. refl)
+
+    missing_stays : (at : ℕ) (n : Name) (who : ℕ) (local : Option Local) (k : MemberState)
+        → (after_repair at n who local k).missing ≡ k.missing
+    missing_stays at n who local k =
+        let rested = with_rest at n who (mark_from k.fixed who local) k in
+        second_missing at n (rest_of n k) local (with_repair_seen at n who local (rest_of n k) (find name_cmp n k.repairs) rested)
+        ∙ seen_missing at n who local (rest_of n k) (find name_cmp n k.repairs) rested
+        ∙ rest_missing at n who (mark_from k.fixed who local) k
+
+repair_effect : (b : Body) (at : ℕ) (n : Name) (ink who : ℕ) (local : Option Local) (m : MemberState) → Brings b n ink
+    → Got m b (hear_repair at n ink who local m)
+repair_effect b at n ink who local m brings =
     let r = hear_data at n ink true m in
     let g = got_effect b at n ink true m brings in
-    if_either (Got m b) (is_skip r.answer.told) r (record r { state = with_rest at n who (with_repair_seen at n r.state) }) (λ skip. g)
-    (λ goes. rested m b at n who r g)
+    if_either (Got m b) (is_skip r.answer.told) r (record r { state = after_repair at n who local r.state }) (λ skip. g)
+    (λ goes. rested m b at n who local r g)
 
 -- ---- requests
 
@@ -383,27 +493,35 @@ asked_effect at n lost m k (Some x) e g = if_either (Quiet m) (nat_lt at x.ignor
       body = tt;
     })
 
-held_effect : (at : ℕ) (n : Name) (who : ℕ) (m k : MemberState) → Has n k.held → Grows [] m k → Quiet m (hear_request_of_held at n who k)
-held_effect at n who m k h g =
-    if_either (Quiet m) (nat_lt at (unwrap_or (find name_cmp n k.rests) 0)) _ _
+timer_effect : (at : ℕ) (n : Name) (who : ℕ) (width : Option ℕ) (m k : MemberState) (o : Option Repairing) → find name_cmp n k.repairs ≡ o
+    → Has n k.held → Grows [] m k → Quiet m (hear_request_by_timer at n who width k o)
+timer_effect at n who width m k None e h g = record {
+  grows = grows_then [] m k (with_repair_timer at n who width k) g (grows_planning at n who width k h);
+  not_fresh = λ e. cc;
+  not_fixed = λ e. cc;
+  body = tt;
+}
+timer_effect at n who width m k (Some r) e h g = record {
+  grows = grows_then [] m k (with_timer_taken_over n who width r k) g (grows_taken_over n who width r k e);
+  not_fresh = λ e. cc;
+  not_fixed = λ e. cc;
+  body = tt;
+}
+
+held_effect : (at : ℕ) (n : Name) (who : ℕ) (width : Option ℕ) (m k : MemberState) → Has n k.held → Grows [] m k
+    → Quiet m (hear_request_of_held at n who width k)
+held_effect at n who width m k h g =
+    if_either (Quiet m) (is_at_rest at n who width k) _ _
     (λ rests. record { grows = g; not_fresh = λ e. cc; not_fixed = λ e. cc; body = tt })
-    (λ goes. if_either (Quiet m) (has_entry n k.repairs) _ _
-    (λ busy. record { grows = g; not_fresh = λ e. cc; not_fixed = λ e. cc; body = tt })
-    (λ plans. record {
-      grows = grows_then [] m k (with_repair_timer at n who k) g (grows_planning at n who k h);
-      not_fresh = λ e. cc;
-      not_fixed =
-          λ e. cc;
-      body = tt;
-    }))
+    (λ goes. timer_effect at n who width m k (find name_cmp n k.repairs) refl h g)
 
 -- the entry of a page that was met is met again
 met_again : (m : MemberState) (p : PageId) (x : ℕ) → meet (with_progress p (meet m p x) m) p x ≡ meet m p x
 met_again m p x = ap (λ o. unwrap_or o (record { floor = begins_at m p x; next = begins_at m p x })) (page_here p (meet m p x) m.progress)
 
-request_effect : (at : ℕ) (n : Name) (who : ℕ) (m : MemberState) → Quiet m (hear_request at n who m)
+request_effect : (at : ℕ) (n : Name) (who : ℕ) (width : Option ℕ) (m : MemberState) → Quiet m (hear_request at n who width m)
 unfolding hear_request
-request_effect at n who m =
+request_effect at n who width m =
     let p = page_of n in
     let s = meet m p (n.number + 1) in
     let k = with_progress p s m in
@@ -412,7 +530,7 @@ request_effect at n who m =
     if_either (Quiet m) (nat_lt n.number s.floor) _ _
     (λ low. record { grows = g; not_fresh = λ e. cc; not_fixed = λ e. cc; body = tt })
     (λ high. if_either (Quiet m) (has_entry n k.held) _ _
-    (λ has. held_effect at n who m k has g)
+    (λ has. held_effect at n who width m k has g)
     (λ lacks. if_either (Quiet m) (nat_le s.next n.number) _ _
     (λ new.
     let le = le_of s.next n.number new in
@@ -457,14 +575,14 @@ nothing m = grows_same m m refl refl refl refl refl
 
 hear_effect : (at who : ℕ) (b : Body) (m : MemberState) → Got m b (hear_body at who b m)
 hear_effect at who (Drawop n ink) m = got_effect (Drawop n ink) at n ink false m (inl refl)
-hear_effect at who (Repair n ink) m = repair_effect (Repair n ink) at n ink who m (inr refl)
-hear_effect at who (Request n) m = inl (request_effect at n who m)
+hear_effect at who (Repair n ink local) m = repair_effect (Repair n ink local) at n ink who local m (inr (local, refl))
+hear_effect at who (Request n scope) m = inl (request_effect at n who scope m)
 hear_effect at who (Session hs) m = inl (informed_effect at hs m m [] (nothing m))
 
 -- ---- own timers and draws
 
 skips : (m : MemberState) (told : Told) → told ≢ Fresh → told ≢ Fixed → Quiet m (quietly m told [])
-skips m told a b = record { grows = nothing m; not_fresh = a; not_fixed = b; body = tt }
+skips m t a b = record { grows = nothing m; not_fresh = a; not_fixed = b; body = tt }
 
 asking_effect : (at : ℕ) (n : Name) (m : MemberState) (o : Option Missing) → find name_cmp n m.missing ≡ o
     → Quiet m (expire_request_by_entry at n m o)
@@ -478,12 +596,24 @@ asking_effect at n m (Some x) e = record {
       ap is_some e;
 }
 
+grows_own_ended : (at : ℕ) (n : Name) (r : Repairing) (mark : Option Mark) (m : MemberState)
+    → Grows [] m (with_own_timer_ended at n r mark m)
+grows_own_ended at n r mark m =
+    let seen = with_answer_seen at r m in
+    let rested = with_rest at n m.fixed.member mark seen in
+    let g : Grows [] m seen = seen_grows at r m in
+    grows_then [] m seen _ g
+    (grows_then [] seen rested _ (grows_resting at n m.fixed.member mark seen)
+    (grows_timers rested (with_own_timer_ended at n r mark m) refl refl refl refl (λ k h. inl (without_less k n rested.repairs h).1)))
+  where
+    seen_grows : (at : ℕ) (r : Repairing) (m : MemberState) → Grows [] m (with_answer_seen at r m)
+    seen_grows at r m = grind (arith, grows_same)
+
 answering_effect : (at : ℕ) (n : Name) (m : MemberState) (o : Option Repairing) → find name_cmp n m.repairs ≡ o
     → Quiet m (expire_repair_by_entry at n m o)
 answering_effect at n m None e = skips m Skip (λ e. cc) (λ e. cc)
 answering_effect at n m (Some x) e = record {
-  grows = grows_then [] m (with_repair_first at x m) _ (grows_same m (with_repair_first at x m) refl refl refl refl refl)
-      (grows_resting at n m.fixed.member (with_repair_first at x m));
+  grows = grows_own_ended at n x (mark_after 0 (local_of m.fixed x)) m;
   not_fresh = λ e. cc;
   not_fixed = λ e. cc;
   body =

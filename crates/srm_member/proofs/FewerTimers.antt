@@ -8,7 +8,10 @@ use Rattle.srm_member.proofs.Bounds.{request_length_pos, kept_state}
 use Rattle.srm_member.proofs.LawProofs.{as_active, as_listener}
 use Rattle.srm_net.specs.Roles.{is_listener}
 use Rattle.srm_member.specs.React.{Reaction, expire_repair, expire_repair_by_entry, expire_request, expire_request_by_entry, back_off}
-use Rattle.srm_member.specs.React.{react, with_request_delay, with_request_first, with_repair_first}
+use Rattle.srm_member.specs.React.{react, with_request_delay, with_request_first, with_answer_seen, with_own_timer_ended}
+use Rattle.srm_member.specs.LocalRecovery.{local_of, mark_after}
+use Rattle.srm_member.specs.declared.mark.Mark.{Mark}
+use Rattle.srm_member.proofs.TableChanges.{same_names}
 use Rattle.srm_member.specs.React.{react_listener, request_length, with_rest, without}
 use Rattle.srm_member.specs.Record.{Active, MemberState, Missing, Repairing, count_if, timers_at}
 use Rattle.srm_member.specs.declared.cause.Cause.{Cause}
@@ -90,6 +93,22 @@ module _ {V : Type 0} (p : V → Bool) where
       subst (λ r. count_if at_value (by_order r ((n, v) ∷ e ∷ es) ((e.0, v) ∷ es) (e ∷ put name_cmp n v es)) < count_if at_value (e ∷ es))
       (sym more) (omega arith)
 
+  -- to write over an entry that counts as much leaves as many
+  pub put_same : (n : Name) (v w : V) (es : List (Name × V)) → T (is_sorted name_cmp es) → In (n, w) es → p v ≡ p w
+      → count_if at_value (put name_cmp n v es) ≡ count_if at_value es
+  put_same n v w [] s h same = absurd h
+  put_same n v w (e ∷ es) s (inl g) same =
+      let tie : name_cmp n e.0 ≡ Equal = ap (λ (x : Name × V). name_cmp n x.0) g ∙ name_self n in
+      let a : one_if (p v) ≡ one_if (p e.1) = ap one_if (same ∙ sym (ap (λ (x : Name × V). p x.1) g)) in
+      subst (λ r. count_if at_value (by_order r ((n, v) ∷ e ∷ es) ((e.0, v) ∷ es) (e ∷ put name_cmp n v es)) ≡ count_if at_value (e ∷ es))
+      (sym tie) (omega arith)
+  put_same n v w (e ∷ es) s (inr h) same =
+      let less = below n w e.0 es (T_first _ _ s) h in
+      let more : name_cmp n e.0 ≡ Greater = name_total.antisymm n e.0 ∙ ap ordering_reverse less in
+      let g = put_same n v w es (T_second _ _ s) h same in
+      subst (λ r. count_if at_value (by_order r ((n, v) ∷ e ∷ es) ((e.0, v) ∷ es) (e ∷ put name_cmp n v es)) ≡ count_if at_value (e ∷ es))
+      (sym more) (omega arith)
+
   -- and so does to take it out
   pub without_less : (n : Name) (w : V) (es : List (Name × V)) → In (n, w) es → p w ≡ true
       → count_if at_value (without n es) < count_if at_value es
@@ -103,6 +122,17 @@ module _ {V : Type 0} (p : V → Bool) where
       let g = without_less n w es h some in
       let c = count-cond at_value (not (eq_by_cmp name_cmp n e.0)) (e ∷ without n es) (without n es)
       (one_if (p e.1) + count_if at_value (without n es)) (le_refl _) (omega arith) in omega arith
+
+  pub find_in : (n : Name) (w : V) (es : List (Name × V)) → find name_cmp n es ≡ Some w → In (n, w) es
+  find_in n w [] h = cc
+  find_in n w (x ∷ es) h = elim (eq_by_cmp name_cmp n x.0) as (λ b. eq_by_cmp name_cmp n x.0 ≡ b → In (n, w) (x ∷ es)) [
+    | true ↦ λ q.
+        let value : Some x.1 ≡ Some w = sym (ap (λ b. cond b (Some x.1) (find name_cmp n es)) q) ∙ h in
+        let name : x.0 ≡ n = sym (same_names n x.0 q) in
+        let same : x.1 ≡ w = cc in
+        inl (λ i. (name i, same i))
+    | false ↦ λ q. inr (find_in n w es (sym (ap (λ b. cond b (Some x.1) (find name_cmp n es)) q) ∙ h))
+  ] refl
 
   pub found : (n : Name) (w : V) (es : List (Name × V)) → In (n, w) es → find name_cmp n es ≢ None
   found n w [] h e = absurd h
@@ -134,6 +164,7 @@ sound_react m at cause s =
     (λ n es h. is_sorted-where_key name_cmp (λ x. not (eq_by_cmp name_cmp n x)) es h)
     (λ n v es lt h. is_sorted-put name_cmp name_total n v es h)
     (λ n es h. is_sorted-where_key name_cmp (λ x. not (eq_by_cmp name_cmp n x)) es h)
+    (λ n v w es e same h. is_sorted-put name_cmp name_total n w es h)
     m cause (record { same = refl; asks = s.asks; answers = s.answers }) in
     record {
       asks = k.asks;
@@ -164,19 +195,33 @@ not_now : (t x : ℕ) → t < x → (x == t) ≡ false
 not_now t x lt = elim (x == t) as (λ b. (x == t) ≡ b → (x == t) ≡ false)
     [ true ↦ λ e. absurd (let f = eqb-true _ _ e in omega arith) | false ↦ λ e. e ] refl
 
-pub no_more : (t : ℕ) (m : MemberState) (cause : Cause) → timers_at t (Active (react m t cause).state) ≤ timers_at t (Active m)
+pub no_more : (t : ℕ) (m : MemberState) (cause : Cause) → IsSound m → timers_at t (Active (react m t cause).state) ≤ timers_at t (Active m)
 unfolding asks_at answers_at
-no_more t m cause =
-    let k = kept_state m.fixed (λ es. asks_at t es ≤ asks_at t m.missing) (λ es. answers_at t es ≤ answers_at t m.repairs) t
+no_more t m cause sound =
+    let k = kept_state m.fixed (λ es. asks_at t es ≤ asks_at t m.missing)
+    (λ es. T (is_sorted name_cmp es) × (answers_at t es ≤ answers_at t m.repairs)) t
     (λ n v es lt h. let g = put_le (λ (w : Missing). w.expiry == t) n v es (not_now t v.expiry lt) in omega arith)
     (λ n es h. let g = count-filter (λ (e : Name × Missing). e.1.expiry == t) (λ e. not (eq_by_cmp name_cmp n e.0)) es in omega arith)
-    (λ n v es lt h. let g = put_le (λ (w : Repairing). w.expiry == t) n v es (not_now t v.expiry lt) in omega arith)
-    (λ n es h. let g = count-filter (λ (e : Name × Repairing). e.1.expiry == t) (λ e. not (eq_by_cmp name_cmp n e.0)) es in omega arith)
-    m cause (record { same = refl; asks = le_refl _; answers = le_refl _ }) in
+    (λ n v es lt h. (
+      is_sorted-put name_cmp name_total n v es h.0,
+      (let g = put_le (λ (w : Repairing). w.expiry == t) n v es (not_now t v.expiry lt) in let f = h.1 in omega arith),
+    ))
+    (λ n es h. (
+      is_sorted-where_key name_cmp (λ x. not (eq_by_cmp name_cmp n x)) es h.0,
+      (let g = count-filter (λ (e : Name × Repairing). e.1.expiry == t) (λ e. not (eq_by_cmp name_cmp n e.0)) es in
+          let f = h.1 in omega arith),
+    ))
+    (λ n v w es e same h. (
+      is_sorted-put name_cmp name_total n w es h.0,
+      (let g = put_same (λ (r : Repairing). r.expiry == t) n w v es h.0 (find_in (λ (r : Repairing). r.expiry == t) n v es e)
+          (ap (λ x. x == t) same) in
+          let f = h.1 in omega arith),
+    ))
+    m cause (record { same = refl; asks = le_refl _; answers = (sound.answers, le_refl _) }) in
     let before = timers_count t m in
     let after = timers_count t (react m t cause).state in
     let a = k.asks in
-    let b = k.answers in
+    let b = k.answers.1 in
     omega arith
 
 pub no_table : {A : Type 0} (x : A) (xs : List A) → xs ≡ [] → In x xs → ⊥
@@ -197,14 +242,27 @@ module _ (t : ℕ) (m : MemberState) (sound : IsSound m) (n : Name) where
       let after = timers_count t (back_off t n x (with_request_first x m)) in
       omega arith
 
+  seen_leaves : (at : ℕ) (r : Repairing) (k : MemberState) → SameTables k (with_answer_seen at r k)
+  seen_leaves at r k = grind arith
+
+  rest_leaves : (at : ℕ) (k : Name) (who : ℕ) (mark : Option Mark) (s : MemberState) → SameTables s (with_rest at k who mark s)
+  rest_leaves at k who None s = (refl, refl)
+  rest_leaves at k who (Some x) s = (refl, refl)
+
   fewer_answering : (w : Repairing) → In (n, w) m.repairs → (w.expiry == t) ≡ true → (o : Option Repairing) → find name_cmp n m.repairs ≡ o
       → timers_at t (Active (expire_repair_by_entry t n m o).state) < timers_at t (Active m)
   unfolding asks_at answers_at
   fewer_answering w h some None e = absurd (found (λ (x : Repairing). x.expiry == t) n w m.repairs h e)
   fewer_answering w h some (Some x) e =
       let less = without_less (λ (y : Repairing). y.expiry == t) n w m.repairs h some in
+      let mark = mark_after 0 (local_of m.fixed x) in
+      let rested = rest_leaves t n m.fixed.member mark (with_answer_seen t x m) in
+      let seen = seen_leaves t x m in
+      let asked : asks_at t (with_own_timer_ended t n x mark m).missing ≡ asks_at t m.missing = ap (asks_at t) (rested.0 ∙ seen.0) in
+      let answered : answers_at t (with_own_timer_ended t n x mark m).repairs ≡ answers_at t (without n m.repairs) =
+      ap (λ es. answers_at t (without n es)) (rested.1 ∙ seen.1) in
       let before = timers_count t m in
-      let after = timers_count t (with_rest t n m.fixed.member (with_repair_first t x m)) in
+      let after = timers_count t (with_own_timer_ended t n x mark m) in
       omega arith
 
   pub fewer_asks : (w : Missing) → In (n, w) m.missing → (w.expiry == t)

@@ -16,9 +16,16 @@ use Rattle.srm_member.specs.IntervalLaws.{Change, Begins, Delays, Sends, Hears, 
 use Rattle.srm_member.specs.Record.{MemberState, Missing, Repairing, Progress}
 use Rattle.srm_member.specs.React.{Reaction, has_entry, distance_to, back_off, with_progress, with_request_delay}
 use Rattle.srm_member.specs.React.{with_losses_begun, with_mending_seen, with_repair_seen, with_repairs_begun, with_duplicate_request}
-use Rattle.srm_member.specs.React.{with_request_first, with_repair_first, is_at_rest, interval_at_mending, interval_at_repair}
+use Rattle.srm_member.specs.React.{with_request_first, with_repair_first, is_at_rest, interval_at_mending, rest_of, with_mark}
+use Rattle.srm_member.specs.React.{with_rest, interval_after_timer, begins_second_step, second_step_length, with_timer_set}
+use Rattle.srm_member.specs.React.{with_second_step, after_repair, is_skip, with_repair_timer, with_timer_taken_over, repair_length}
+use Rattle.srm_member.specs.React.{hear_request_by_timer, with_answer_seen, with_own_timer_ended}
 use Rattle.srm_member.specs.React.{meet, lose_one, lose_from, lose_below, hear_data, hear_repair}
 use Rattle.srm_member.specs.React.{hear_request_by_entry, hear_request_of_held, hear_request, after_entry}
+use Rattle.srm_member.specs.LocalRecovery.{serves, mark_from, mark_after, local_of, is_duplicate, is_second_step, takes_over}
+use Rattle.srm_member.specs.declared.mark.Mark.{Mark}
+use Rattle.srm_member.specs.declared.resting.Resting.{Resting}
+use Rattle.srm_net.specs.declared.packet.Local.{Local}
 use Rattle.srm_member.specs.React.{hear_session, hear_body, expire_request_by_entry, expire_request, expire_repair_by_entry, expire_repair}
 use Rattle.srm_member.specs.React.{draw_operation, react_active}
 use Rattle.srm_member.specs.React.{react_listener, react}
@@ -73,13 +80,22 @@ module _ (f : Fixed) (P Q : Interval → Type 0)
   pub adapts_mending : (at : ℕ) (n : Name) (repaired : Bool) (m : MemberState) → Adapts m → Adapts (with_mending_seen at n repaired m)
   adapts_mending at n repaired m a = grind (arith, adapts_mending_by)
 
-  repaired_by : (at : ℕ) (n : Name) (m : MemberState) (o : Option Repairing) → Adapts m
-      → Q (interval_at_repair at n m o)
-  repaired_by at n m (Some r) a = answer (Delays (at - r.set) (distance_to m r.requester)) m.repair_interval a.repairs
-  repaired_by at n m None a = repair_if (is_at_rest at n m) _ _ (answer Hears m.repair_interval a.repairs) a.repairs
+  adapts_choice : (b : Bool) (x y : MemberState) → Adapts x → Adapts y → Adapts (cond b x y)
+  adapts_choice true x y h g = h
+  adapts_choice false x y h g = g
 
-  pub adapts_repair_seen : (at : ℕ) (n : Name) (m : MemberState) → Adapts m → Adapts (with_repair_seen at n m)
-  adapts_repair_seen at n m a = grind (arith, repaired_by)
+  pub adapts_repair_seen : (at : ℕ) (n : Name) (who : ℕ) (local : Option Local) (rest : Resting) (o : Option Repairing) (m : MemberState)
+      → Adapts m → Adapts (with_repair_seen at n who local rest o m)
+  adapts_repair_seen at n who local rest None m a = record {
+    same = a.same;
+    requests = a.requests;
+    repairs = repair_if (is_duplicate at m.fixed rest who local) _ _ (answer Hears m.repair_interval a.repairs) a.repairs;
+  }
+  adapts_repair_seen at n who local rest (Some r) m a =
+      let ended : Q (interval_after_timer at r m) = repair_if (is_second_step m.fixed r) _ _ a.repairs
+      (answer (Delays (at - r.set) (distance_to m r.requester)) m.repair_interval a.repairs) in
+      adapts_choice (serves m.fixed (mark_from m.fixed who local) r.requester r.width) _ m
+      (record { same = a.same; requests = a.requests; repairs = ended }) a
 
   pub adapts_repairs_begun : (m : MemberState) → Adapts m → Adapts (with_repairs_begun m)
   adapts_repairs_begun m a = record {
@@ -113,6 +129,43 @@ module _ (f : Fixed) (P Q : Interval → Type 0)
       → n.repair_interval ≡ m.repair_interval → Adapts m → Adapts n
   adapts_same m n e p q a = record { same = e ∙ a.same; requests = subst P (sym p) a.requests; repairs = subst Q (sym q) a.repairs }
 
+  pub adapts_mark : (n : Name) (mark : Option Mark) (m : MemberState) → Adapts m → Adapts (with_mark n mark m)
+  adapts_mark n None m a = record { same = a.same; requests = a.requests; repairs = a.repairs }
+  adapts_mark n (Some k) m a = record { same = a.same; requests = a.requests; repairs = a.repairs }
+
+  pub adapts_rest : (at : ℕ) (n : Name) (who : ℕ) (mark : Option Mark) (m : MemberState) → Adapts m → Adapts (with_rest at n who mark m)
+  adapts_rest at n who mark m a = adapts_mark n mark _ (record { same = a.same; requests = a.requests; repairs = a.repairs })
+
+  pub adapts_set : (at : ℕ) (n : Name) (ticks who : ℕ) (width : Option ℕ) (m : MemberState) → Adapts m
+      → Adapts (with_timer_set at n ticks who width m)
+  adapts_set at n ticks who width m a = record { same = a.same; requests = a.requests; repairs = a.repairs }
+
+  pub adapts_second : (at : ℕ) (n : Name) (rest : Resting) (local : Option Local) (m : MemberState) → Adapts m
+      → Adapts (with_second_step at n rest local m)
+  adapts_second at n rest None m a = a
+  adapts_second at n rest (Some l) m a = adapts_choice (begins_second_step at n rest l m) _ m
+      (adapts_set at n (second_step_length m) m.fixed.member (Some l.width) m a) a
+
+  pub adapts_taken_over : (n : Name) (who : ℕ) (width : Option ℕ) (r : Repairing) (m : MemberState) → Adapts m
+      → Adapts (with_timer_taken_over n who width r m)
+  adapts_taken_over n who width r m a = adapts_choice (takes_over m.fixed width r) _ m
+      (record { same = a.same; requests = a.requests; repairs = a.repairs }) a
+
+  pub adapts_planning : (at : ℕ) (n : Name) (who : ℕ) (width : Option ℕ) (m : MemberState) → Adapts m
+      → Adapts (with_repair_timer at n who width m)
+  adapts_planning at n who width m a =
+      let begun = adapts_repairs_begun m a in
+      adapts_set at n (repair_length (with_repairs_begun m) who) who width (with_repairs_begun m) begun
+
+  pub adapts_answer_seen : (at : ℕ) (r : Repairing) (m : MemberState) → Adapts m → Adapts (with_answer_seen at r m)
+  adapts_answer_seen at r m a = adapts_choice (is_second_step m.fixed r) m (with_repair_first at r m) a (adapts_repair_first at r m a)
+
+  pub adapts_own_ended : (at : ℕ) (n : Name) (r : Repairing) (mark : Option Mark) (m : MemberState) → Adapts m
+      → Adapts (with_own_timer_ended at n r mark m)
+  adapts_own_ended at n r mark m a =
+      let rested = adapts_rest at n m.fixed.member mark _ (adapts_answer_seen at r m a) in
+      record { same = rested.same; requests = rested.requests; repairs = rested.repairs }
+
   pub adapts_back_off : (at : ℕ) (n : Name) (e : Missing) (m : MemberState) → Adapts m → Adapts (back_off at n e m)
   adapts_back_off at n e m a =
       adapts_same (with_request_delay at n e m) (back_off at n e m) refl refl refl (adapts_delay at n e m a)
@@ -135,26 +188,45 @@ module _ (f : Fixed) (P Q : Interval → Type 0)
   unfolding hear_data
   adapts_data at n ink repaired m a = grind (arith, adapts_lose, adapts_mending)
 
-  pub adapts_repair : (at : ℕ) (n : Name) (ink who : ℕ) (m : MemberState) → Adapts m → Adapts (hear_repair at n ink who m).state
-  adapts_repair at n ink who m a = grind (arith, adapts_data, adapts_repair_seen)
+  pub adapts_after_repair : (at : ℕ) (n : Name) (who : ℕ) (local : Option Local) (m : MemberState) → Adapts m
+      → Adapts (after_repair at n who local m)
+  adapts_after_repair at n who local m a = adapts_second at n (rest_of n m) local _
+      (adapts_repair_seen at n who local (rest_of n m) (find name_cmp n m.repairs) _
+      (adapts_rest at n who (mark_from m.fixed who local) m a))
+
+  pub adapts_repair : (at : ℕ) (n : Name) (ink who : ℕ) (local : Option Local) (m : MemberState) → Adapts m
+      → Adapts (hear_repair at n ink who local m).state
+  adapts_repair at n ink who local m a =
+      let r = hear_data at n ink true m in
+      let g = adapts_data at n ink true m a in
+      adapts_if (is_skip r.answer.told) r (record r { state = after_repair at n who local r.state }) g
+      (adapts_after_repair at n who local r.state g)
 
   pub adapts_asked : (at : ℕ) (n : Name) (lost : List Name) (m : MemberState) (o : Option Missing) → Adapts m
       → Adapts (hear_request_by_entry at n lost m o).state
   adapts_asked at n lost m None a = a
   adapts_asked at n lost m (Some e) a = adapts_if (nat_lt at e.ignore) _ _ (adapts_duplicate m a) (adapts_back_off at n e m a)
 
-  pub adapts_held : (at : ℕ) (n : Name) (who : ℕ) (m : MemberState) → Adapts m → Adapts (hear_request_of_held at n who m).state
-  adapts_held at n who m a = grind (arith, adapts_repairs_begun)
+  pub adapts_by_timer : (at : ℕ) (n : Name) (who : ℕ) (width : Option ℕ) (m : MemberState) (o : Option Repairing) → Adapts m
+      → Adapts (hear_request_by_timer at n who width m o).state
+  adapts_by_timer at n who width m None a = adapts_planning at n who width m a
+  adapts_by_timer at n who width m (Some r) a = adapts_taken_over n who width r m a
 
-  pub adapts_request : (at : ℕ) (n : Name) (who : ℕ) (m : MemberState) → Adapts m → Adapts (hear_request at n who m).state
+  pub adapts_held : (at : ℕ) (n : Name) (who : ℕ) (width : Option ℕ) (m : MemberState) → Adapts m
+      → Adapts (hear_request_of_held at n who width m).state
+  adapts_held at n who width m a =
+      adapts_if (is_at_rest at n who width m) _ _ a (adapts_by_timer at n who width m (find name_cmp n m.repairs) a)
+
+  pub adapts_request : (at : ℕ) (n : Name) (who : ℕ) (width : Option ℕ) (m : MemberState) → Adapts m
+      → Adapts (hear_request at n who width m).state
   unfolding hear_request
-  adapts_request at n who m a =
+  adapts_request at n who width m a =
       let s = meet m (page_of n) (n.number + 1) in
       let k = with_progress (page_of n) s m in
       let met : Adapts k = adapts_same m k refl refl refl a in
       let l = lose_below at (page_of n) (n.number + 1) (n.number + 1) s [] k in
       adapts_if (nat_lt n.number s.floor) _ _ met
-      (adapts_if (has_entry n k.held) _ _ (adapts_held at n who k met)
+      (adapts_if (has_entry n k.held) _ _ (adapts_held at n who width k met)
       (adapts_if (nat_le s.next n.number) _ _
       (adapts_asked at n _ l (find name_cmp n l.missing) (adapts_lose at (page_of n) (n.number + 1) (n.number + 1) s [] k met))
       (adapts_asked at n [] k (find name_cmp n k.missing) met)))
@@ -179,7 +251,8 @@ module _ (f : Fixed) (P Q : Interval → Type 0)
 
   pub adapts_answering : (at : ℕ) (n : Name) (m : MemberState) (o : Option Repairing) → Adapts m
       → Adapts (expire_repair_by_entry at n m o).state
-  adapts_answering at n m o a = grind (arith, adapts_repair_first)
+  adapts_answering at n m None a = a
+  adapts_answering at n m (Some r) a = adapts_own_ended at n r (mark_after 0 (local_of m.fixed r)) m a
 
   adapts_drawing : (page ink : ℕ) (m : MemberState) → Adapts m → Adapts (draw_operation page ink m).state
   unfolding draw_operation

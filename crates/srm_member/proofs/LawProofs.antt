@@ -15,7 +15,7 @@ use Rattle.srm_member.proofs.Bounds.{kept_state, kept_react}
 
 pub same_fixed : FixedPartStays
 same_fixed m at cause = (kept_state m.fixed (λ es. Unit {0}) (λ es. Unit {0}) at (λ n v es lt h. tt) (λ n es h. tt) (λ n v es lt h. tt)
-    (λ n es h. tt) m cause (record { same = refl; asks = tt; answers = tt })).same
+    (λ n es h. tt) (λ n v w es e same h. tt) m cause (record { same = refl; asks = tt; answers = tt })).same
 
 -- ---- timers
 

@@ -12,6 +12,10 @@ mod Alike
 mod IntervalChanges
 pub mod IntervalProofs
 pub mod LawProofs
+mod LocalProofs
+mod TimerLaws
+mod Widening
+mod WideProofs
 mod Losses
 mod OtherEvents
 pub mod Maps

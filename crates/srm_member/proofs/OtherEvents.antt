@@ -15,7 +15,9 @@ use Rattle.srm_member.specs.Record.{MemberState, Missing, Repairing, Progress}
 use Rattle.srm_member.specs.React.{with_losses_begun, lose_one, lose_from, lose_below}
 use Rattle.srm_member.specs.React.{hear_data, hear_body, after_entry, hear_session, expire_request_by_entry, expire_request}
 use Rattle.srm_member.specs.React.{expire_repair_by_entry, expire_repair, own_page, own_progress, draw_operation, with_drawn}
-use Rattle.srm_member.specs.React.{react_active, react}
+use Rattle.srm_member.specs.React.{react_active, react, with_rest, with_answer_seen}
+use Rattle.srm_member.specs.LocalRecovery.{local_of, mark_after}
+use Rattle.srm_member.specs.declared.mark.Mark.{Mark}
 use Rattle.srm_member.specs.AdaptingLaws.{may_adapt_requests, is_of_recovery, may_adapt_repairs, OtherEventsLeaveIntervals}
 
 -- ---- what each of two ways leaves, either leaves
@@ -57,10 +59,18 @@ asking : (at : ℕ) (n : Name) (m : MemberState) (o : Option Missing)
 asking at n m None = refl
 asking at n m (Some e) = refl
 
+resting : (at : ℕ) (n : Name) (who : ℕ) (mark : Option Mark) (m : MemberState)
+    → (with_rest at n who mark m).request_interval ≡ m.request_interval
+resting at n who None m = refl
+resting at n who (Some k) m = refl
+
+seeing : (at : ℕ) (r : Repairing) (m : MemberState) → (with_answer_seen at r m).request_interval ≡ m.request_interval
+seeing at r m = grind arith
+
 answering : (at : ℕ) (n : Name) (m : MemberState) (o : Option Repairing)
     → (expire_repair_by_entry at n m o).state.request_interval ≡ m.request_interval
 answering at n m None = refl
-answering at n m (Some r) = refl
+answering at n m (Some r) = resting at n m.fixed.member (mark_after 0 (local_of m.fixed r)) (with_answer_seen at r m) ∙ seeing at r m
 
 drawing : (I : MemberState → Interval) (page ink : ℕ) (m : MemberState) (i : Interval)
     → I (with_drawn (own_page m page) ink (own_progress m (own_page m page)) m) ≡ i → I m ≡ i → I (draw_operation page ink m).state ≡ i

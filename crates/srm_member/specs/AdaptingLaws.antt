@@ -30,8 +30,8 @@ may_adapt_requests Report = false
 -- whether a packet may change the interval of repair timers: a request or a repair
 abbrev pub is_of_recovery : Body → Bool
 is_of_recovery (Drawop n ink) = false
-is_of_recovery (Request n) = true
-is_of_recovery (Repair n ink) = true
+is_of_recovery (Request n scope) = true
+is_of_recovery (Repair n ink local) = true
 is_of_recovery (Session hs) = false
 
 -- whether an event may change it: a request or a repair that arrives, or a repair timer that expires

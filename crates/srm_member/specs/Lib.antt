@@ -1,11 +1,13 @@
 pub mod Adapted
 pub mod Answers
 pub mod Timers
+pub mod LocalRecovery
 pub mod Record
 pub mod React
 pub mod Reacts
 pub mod Examples
 pub mod Laws
+pub mod LocalLaws
 pub mod Pending
 pub mod Listing
 pub mod Fit

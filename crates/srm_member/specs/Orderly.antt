@@ -15,8 +15,8 @@ use Rattle.srm_member.specs.declared.row.Row.{Row}
 -- the name of the operation that a packet carries, from its source or as a repair
 abbrev pub carried : Body → Option Name
 carried (Drawop n ink) = Some n
-carried (Repair n ink) = Some n
-carried (Request n) = None
+carried (Repair n ink local) = Some n
+carried (Request n scope) = None
 carried (Session hs) = None
 
 -- the name of the operation that an event's packet carries

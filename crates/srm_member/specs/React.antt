@@ -9,6 +9,7 @@ use Rattle.rand_pcg.specs.Pcg.{pcg32}
 use Rattle.srm_net.specs.declared.packet.Name.{Name}
 use Rattle.srm_net.specs.declared.packet.PageId.{PageId}
 use Rattle.srm_net.specs.declared.packet.Heard.{Heard}
+use Rattle.srm_net.specs.declared.packet.Local.{Local}
 use Rattle.srm_net.specs.declared.packet.Body.{Body}
 use Rattle.srm_net.specs.declared.packet.Body.TheVariants.{Drawop, Request, Repair, Session}
 use Rattle.srm_net.specs.Roles.{is_sender, is_late, is_listener}
@@ -25,7 +26,10 @@ use Rattle.srm_member.specs.Backoff.{span_by}
 use Rattle.srm_member.specs.declared.intervals.Intervals.{Intervals}
 use Rattle.srm_member.specs.Intervals.{Interval, has_constants_of, begin_period, take_in_delay, send_first}
 use Rattle.srm_member.specs.Intervals.{hear_duplicate}
-use Rattle.srm_member.specs.Record.{Progress, Missing, Repairing, MemberState}
+use Rattle.srm_member.specs.LocalRecovery.{scope_of_request, local_of, mark_after, mark_from, serves, rests_for}
+use Rattle.srm_member.specs.LocalRecovery.{is_duplicate, is_second_step, takes_over, are_two}
+use Rattle.srm_member.specs.Record.{Progress, Missing, Repairing, Mark, MemberState}
+use Rattle.srm_member.specs.declared.resting.Resting.{Resting}
 use Rattle.srm_net.specs.Limits.{most_drawn}
 
 -- what a member knows after an event, and what it answers
@@ -188,12 +192,22 @@ base m n who = distance_to m
     (if n.source == m.fixed.member then option_map_or (λ r. r.requester) (find name_cmp n m.repairs) who
     else n.source)
 
--- after a repair by this member, which ends a pending repair timer
-abbrev pub with_rest : ℕ → Name → ℕ → MemberState → MemberState
-with_rest at n who m = record m {
-  rests = put name_cmp n (at + 3 * base m n who) m.rests;
-  repairs = without n m.repairs;
-}
+-- the mark of a name's rest, if the repair that it comes from has one
+abbrev pub with_mark : Name → Option Mark → MemberState → MemberState
+with_mark n None m = record m { marks = without n m.marks }
+with_mark n (Some k) m = record m { marks = put name_cmp n k m.marks }
+
+-- after a repair by this member, with this mark
+abbrev pub with_rest : ℕ → Name → ℕ → Option Mark → MemberState → MemberState
+with_rest at n who mark m = with_mark n mark (record m { rests = put name_cmp n (at + 3 * base m n who) m.rests })
+
+-- a name's rest
+abbrev pub rest_of : Name → MemberState → Resting
+rest_of n m = record { until = unwrap_or (find name_cmp n m.rests) 0; mark = find name_cmp n m.marks }
+
+-- whether the member is at rest for a request of this width by that member
+abbrev pub is_at_rest : ℕ → Name → ℕ → Option ℕ → MemberState → Bool
+is_at_rest at n who width m = rests_for at m.fixed (rest_of n m) who width
 
 -- the event did not concern the member
 abbrev pub is_skip : Told → Bool
@@ -204,39 +218,86 @@ is_skip _ = false
 abbrev pub after_repair_delay : ℕ → Repairing → MemberState → Interval
 after_repair_delay at r m = take_in_delay (at - r.set) (distance_to m r.requester) m.repair_interval
 
--- whether a name's rest has not ended
-abbrev pub is_at_rest : ℕ → Name → MemberState → Bool
-is_at_rest at n m = nat_lt at (unwrap_or (find name_cmp n m.rests) 0)
+-- the same, but for a second step, which tells nothing of how long others take
+abbrev pub interval_after_timer : ℕ → Repairing → MemberState → Interval
+interval_after_timer at r m = if is_second_step m.fixed r then m.repair_interval else after_repair_delay at r m
 
--- the repair interval at a repair that is heard: it ends the delay of a pending repair timer, and at rest is a
--- duplicate
-abbrev pub interval_at_repair : ℕ → Name → MemberState → Option Repairing → Interval
-interval_at_repair at n m (Some r) = after_repair_delay at r m
-interval_at_repair at n m None =
-    if is_at_rest at n m then hear_duplicate m.repair_interval else m.repair_interval
+-- a repair of this mark ends a pending repair timer, if it serves the request
+abbrev pub with_timer_ended : ℕ → Name → Option Mark → Repairing → MemberState → MemberState
+with_timer_ended at n mark r m =
+    if serves m.fixed mark r.requester r.width
+    then record m { repairs = without n m.repairs; repair_interval = interval_after_timer at r m }
+    else m
 
--- before the rest after a repair that is heard
-abbrev pub with_repair_seen : ℕ → Name → MemberState → MemberState
-with_repair_seen at n m = record m { repair_interval = interval_at_repair at n m (find name_cmp n m.repairs) }
+-- a repair by this member is a duplicate after such a rest, or is not
+abbrev pub with_duplicate_repair : ℕ → Resting → ℕ → Option Local → MemberState → MemberState
+with_duplicate_repair at rest who local m = record m {
+  repair_interval =
+      if is_duplicate at m.fixed rest who local then hear_duplicate m.repair_interval else m.repair_interval;
+}
+
+-- a repair by this member ends a pending repair timer or, where there is none, may be a duplicate
+abbrev pub with_repair_seen :
+    ℕ → Name → ℕ → Option Local → Resting → Option Repairing → MemberState → MemberState
+with_repair_seen at n who local rest (Some r) m = with_timer_ended at n (mark_from m.fixed who local) r m
+with_repair_seen at n who local rest None m = with_duplicate_repair at rest who local m
+
+-- a repair timer of so many ticks is set, for a request of this width by that member
+abbrev pub with_timer_set : ℕ → Name → ℕ → ℕ → Option ℕ → MemberState → MemberState
+with_timer_set at n ticks who width m = record (with_next_word m) {
+  repairs = put name_cmp n (record { set = at; expiry = at + ticks; requester = who; width = width }) m.repairs;
+}
+
+-- the length of the timer of a second step, as of a repair timer over no distance: a tick
+abbrev pub second_step_length : MemberState → ℕ
+second_step_length m = length_in m (span_by m.fixed.backoff 0 m.repair_interval.start m.repair_interval.width 0)
+
+-- whether a repair with this for it begins a second step, after such a rest: the member asked, it holds the name, and
+-- neither plans a repair of it nor rests for such a request of its own
+abbrev pub begins_second_step : ℕ → Name → Resting → Local → MemberState → Bool
+begins_second_step at n rest l m =
+    (are_two m.fixed.steps && (l.requester == m.fixed.member))
+    && ((has_entry n m.held && not (has_entry n m.repairs))
+    && not (rests_for at m.fixed rest m.fixed.member (Some l.width)))
+
+-- the second step of a repair, sent on by the member that asked
+abbrev pub with_second_step : ℕ → Name → Resting → Option Local → MemberState → MemberState
+with_second_step at n rest None m = m
+with_second_step at n rest (Some l) m =
+    if begins_second_step at n rest l m
+    then with_timer_set at n (second_step_length m) m.fixed.member (Some l.width) m
+    else m
+
+-- after a repair of this name by that member was heard: the member rests; a pending repair timer that the repair serves
+-- ends, or the repair is a duplicate; the member sends it on, where it asked for it
+abbrev pub after_repair : ℕ → Name → ℕ → Option Local → MemberState → MemberState
+after_repair at n who local m =
+    let rest = rest_of n m in
+    with_second_step at n rest local
+    (with_repair_seen at n who local rest (find name_cmp n m.repairs)
+    (with_rest at n who (mark_from m.fixed who local) m))
 
 -- a repair of this name
-abbrev pub hear_repair : ℕ → Name → ℕ → ℕ → MemberState → Reaction
-hear_repair at n ink who m =
+abbrev pub hear_repair : ℕ → Name → ℕ → ℕ → Option Local → MemberState → Reaction
+hear_repair at n ink who local m =
     let r = hear_data at n ink true m in
-    if is_skip r.answer.told then r else record r { state = with_rest at n who (with_repair_seen at n r.state) }
+    if is_skip r.answer.told then r else record r { state = after_repair at n who local r.state }
 
 -- a period of repair timers begins
 abbrev pub with_repairs_begun : MemberState → MemberState
 with_repairs_begun m = record m { repair_interval = begin_period m.fixed.d1 m.fixed.d2 m.repair_interval }
 
--- plan a repair, for a request of this member
-abbrev pub with_repair_timer : ℕ → Name → ℕ → MemberState → MemberState
-with_repair_timer at n who m0 =
-    let m = with_repairs_begun m0 in
-    record (with_next_word m) {
-      repairs = put name_cmp n
-          (record { set = at; expiry = at + repair_length m who; requester = who }) m.repairs;
-    }
+-- plan a repair, for a request of this width by that member
+abbrev pub with_repair_timer : ℕ → Name → ℕ → Option ℕ → MemberState → MemberState
+with_repair_timer at n who width m0 =
+    let m = with_repairs_begun m0 in with_timer_set at n (repair_length m who) who width m
+
+-- a request of this width by that member takes a pending repair timer over, if it is wider
+abbrev pub with_timer_taken_over : Name → ℕ → Option ℕ → Repairing → MemberState → MemberState
+with_timer_taken_over n who width r m =
+    if takes_over m.fixed width r
+    then record m { repairs = put name_cmp n (record r { requester = who; width = width }) m.repairs }
+    else m
 
 -- a request that is held is a duplicate
 abbrev pub with_duplicate_request : MemberState → MemberState
@@ -252,20 +313,24 @@ hear_request_by_entry at n lost m (Some e) = if nat_lt at e.ignore then quietly 
 abbrev pub hear_request_of_missing : ℕ → Name → List Name → MemberState → Reaction
 hear_request_of_missing at n lost m = hear_request_by_entry at n lost m (find name_cmp n m.missing)
 
--- a request for a name that is held
-abbrev pub hear_request_of_held : ℕ → Name → ℕ → MemberState → Reaction
-hear_request_of_held at n who m =
-    if is_at_rest at n m then quietly m Rest []
-    else if has_entry n m.repairs then quietly m Busy []
-    else quietly (with_repair_timer at n who m) Plan []
+-- a request for a name that is held, and for which the member does not rest
+abbrev pub hear_request_by_timer : ℕ → Name → ℕ → Option ℕ → MemberState → Option Repairing → Reaction
+hear_request_by_timer at n who width m None = quietly (with_repair_timer at n who width m) Plan []
+hear_request_by_timer at n who width m (Some r) = quietly (with_timer_taken_over n who width r m) Busy []
 
--- a request for this name, by this member
-unfoldable pub hear_request : ℕ → Name → ℕ → MemberState → Reaction
-hear_request at n who m0 =
+-- a request for a name that is held
+abbrev pub hear_request_of_held : ℕ → Name → ℕ → Option ℕ → MemberState → Reaction
+hear_request_of_held at n who width m =
+    if is_at_rest at n who width m then quietly m Rest []
+    else hear_request_by_timer at n who width m (find name_cmp n m.repairs)
+
+-- a request for this name, of this width, by that member
+unfoldable pub hear_request : ℕ → Name → ℕ → Option ℕ → MemberState → Reaction
+hear_request at n who width m0 =
     let s = meet m0 (page_of n) (n.number + 1) in
     let m = with_progress (page_of n) s m0 in
     if nat_lt n.number s.floor then quietly m Skip []
-    else if has_entry n m.held then hear_request_of_held at n who m
+    else if has_entry n m.held then hear_request_of_held at n who width m
     else if nat_le s.next n.number then hear_request_of_missing at n (lost_below (page_of n) (n.number + 1) s)
     (lose_below at (page_of n) (n.number + 1) (n.number + 1) s [] m)
     else hear_request_of_missing at n [] m
@@ -293,8 +358,8 @@ hear_session at (h ∷ hs) m lost = hear_session at hs (after_entry at h lost m)
 -- a packet from this member
 abbrev pub hear_body : ℕ → ℕ → Body → MemberState → Reaction
 hear_body at who (Drawop n ink) m = hear_data at n ink false m
-hear_body at who (Repair n ink) m = hear_repair at n ink who m
-hear_body at who (Request n) m = hear_request at n who m
+hear_body at who (Repair n ink local) m = hear_repair at n ink who local m
+hear_body at who (Request n scope) m = hear_request at n who scope m
 hear_body at who (Session hs) m = hear_session at hs m []
 
 -- before a member asks for a name: it asks first, if it had not backed off for it
@@ -306,7 +371,8 @@ with_request_first e m = record m {
 -- the request timer of a name expires
 abbrev pub expire_request_by_entry : ℕ → Name → MemberState → Option Missing → Reaction
 expire_request_by_entry at n m None = quietly m Skip []
-expire_request_by_entry at n m (Some e) = send_body (back_off at n e (with_request_first e m)) (Request n)
+expire_request_by_entry at n m (Some e) =
+    send_body (back_off at n e (with_request_first e m)) (Request n (scope_of_request m.fixed e.backoffs))
 
 -- what a member answers to it: it asks, and backs off
 unfoldable pub expire_request : ℕ → Name → MemberState → Reaction
@@ -319,11 +385,23 @@ with_repair_first at r m0 =
       repair_interval = after_repair_delay at r m;
     }
 
+-- before a member sends a repair: a second step says nothing of who answers first
+abbrev pub with_answer_seen : ℕ → Repairing → MemberState → MemberState
+with_answer_seen at r m = if is_second_step m.fixed r then m else with_repair_first at r m
+
+-- after a member sent the repair of this timer, with this mark: it rests, and the timer ended
+abbrev pub with_own_timer_ended : ℕ → Name → Repairing → Option Mark → MemberState → MemberState
+with_own_timer_ended at n r mark m =
+    let rested = with_rest at n m.fixed.member mark (with_answer_seen at r m) in
+    record rested { repairs = without n rested.repairs }
+
 -- the repair timer of a name expires
 abbrev pub expire_repair_by_entry : ℕ → Name → MemberState → Option Repairing → Reaction
 expire_repair_by_entry at n m None = quietly m Skip []
-expire_repair_by_entry at n m (Some e) = send_body (with_rest at n m.fixed.member (with_repair_first at e m))
-    (Repair n (unwrap_or (find name_cmp n m.held) 0))
+expire_repair_by_entry at n m (Some r) =
+    let local = local_of m.fixed r in
+    send_body (with_own_timer_ended at n r (mark_after 0 local) m)
+    (Repair n (unwrap_or (find name_cmp n m.held) 0) local)
 
 -- what a member answers to it: it sends a repair, and rests
 unfoldable pub expire_repair : ℕ → Name → MemberState → Reaction
@@ -373,8 +451,8 @@ listen_data n ink m = if has_entry n m.held then quietly m Again [] else quietly
 -- a packet
 abbrev pub listen : Body → MemberState → Reaction
 listen (Drawop n ink) m = listen_data n ink m
-listen (Repair n ink) m = listen_data n ink m
-listen (Request n) m = quietly m Skip []
+listen (Repair n ink local) m = listen_data n ink m
+listen (Request n scope) m = quietly m Skip []
 listen (Session hs) m = quietly m Skip []
 
 -- the table, by causes

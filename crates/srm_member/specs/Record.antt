@@ -14,6 +14,7 @@ use Rattle.srm_member.specs.declared.due.Due.{Due}
 use Rattle.srm_member.specs.declared.exit.Exit.{Exit}
 pub use Rattle.srm_member.specs.declared.entries.Missing.{Missing}
 pub use Rattle.srm_member.specs.declared.entries.Repairing.{Repairing}
+pub use Rattle.srm_member.specs.declared.mark.Mark.{Mark}
 use Rattle.srm_member.specs.Intervals.{Interval, opening_interval}
 
 -- of one page: numbers below floor do not concern the member, and next is the first number not heard of
@@ -23,8 +24,8 @@ pub record Progress : Type 0 where
 
 -- what an active member knows: its fixed part; its generator; the intervals of its request timers and of its repair
 -- timers; its progress on each page; the inks of the names that it holds; the names that it lacks; its repair timers;
--- and, of names that it answered or heard repaired, the time before which it does not answer again. Finite maps are
--- lists of entries whose keys rise
+-- and, of names that it answered or heard repaired, the time before which it does not answer again, with the mark of
+-- the repair where that had a scope. Finite maps are lists of entries whose keys rise
 pub record MemberState : Type 0 where
   pub fixed : Fixed
   pub words : Lcg
@@ -35,6 +36,7 @@ pub record MemberState : Type 0 where
   pub missing : List (Name × Missing)
   pub repairs : List (Name × Repairing)
   pub rests : List (Name × ℕ)
+  pub marks : List (Name × Mark)
 
 -- a member's record: active, or gone, which keeps the fixed part alone
 pub data Record : Type 0 where
@@ -53,6 +55,7 @@ opening_state f = record {
   missing = [];
   repairs = [];
   rests = [];
+  marks = [];
 }
 
 -- the record of a member at first

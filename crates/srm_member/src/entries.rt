@@ -21,6 +21,8 @@ pub struct Repairing {
     pub set: u64,
     /// When it expires, in ticks.
     pub expiry: u64,
-    /// The member whose request set it.
+    /// The member whose request is answered: the one that set it, or a wider one that came later. A second step's is the member itself.
     pub requester: u16,
+    /// The width: the scope of that request, in hops, or none where it went to all.
+    pub width: Option<u16>,
 }

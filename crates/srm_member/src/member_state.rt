@@ -1,15 +1,12 @@
 //! What an active member knows, and how it answers.
-ghost use Rattle.std.specs.Prelude.{◌≡◌, ◌⊎◌, ◌+◌, ◌-◌, ◌<◌, ◌≤◌, ◌^◌, [], ◌∷◌, ◌++◌, IsTrue, IfOk, OnOk, Some, None};
+ghost use Rattle.std.specs.Prelude.{◌≡◌, ◌⊎◌, ◌+◌, ◌-◌, ◌<◌, ◌≤◌, ◌^◌, [], ◌++◌, IfOk, OnOk, Some, None};
 ghost use Rattle.srm_net.specs.Limits.{end_of_time, greatest_distance};
-ghost use Rattle.std.specs.FinMap.Entries.{find};
 ghost use Rattle.srm_net.specs.Names;
-ghost use Rattle.srm_net.specs.Names.{name_cmp};
 ghost use Rattle.srm_member.specs.Backoff.{span_by};
 ghost use Rattle.srm_member.specs.Intervals.{greatest_adapted};
 ghost use Rattle.srm_member.specs.Record.{opening_state, exit_of, earliest, timers_of};
 ghost use Rattle.srm_net.specs.Paths.{is_in};
-ghost use Rattle.srm_net.specs.Roles.{is_late};
-ghost use Rattle.srm_member.specs.React.{distance_to, length_in, with_next_word, request_length, repair_length, with_request_delay, back_off, begins_at, meet, with_progress, lose_one, lose_from, with_losses_begun, lose_below, names_from, lost_below, with_mending_seen, hear_data, base, with_rest, is_at_rest, after_repair_delay, with_repair_seen, hear_repair, with_repairs_begun, with_repair_timer, hear_request_of_missing, hear_request_of_held, hear_request, after_entry, lost_by_entry, hear_session, hear_body, with_request_first, expire_request, with_repair_first, expire_repair, own_progress, draw_operation, session_of, send_body, intervals_of, adapted_since, with_adapted};
+ghost use Rattle.srm_member.specs.React.{distance_to, length_in, with_next_word, request_length, repair_length, with_request_delay, back_off, begins_at, meet, with_progress, lose_one, lose_from, with_losses_begun, lose_below, names_from, lost_below, hear_data, base, after_repair_delay, with_repairs_begun, with_repair_timer, hear_request_of_missing, hear_request_of_held, hear_request, after_entry, lost_by_entry, hear_session, hear_body, with_request_first, expire_request, with_repair_first, expire_repair, own_progress, draw_operation, session_of, send_body, intervals_of, adapted_since, with_adapted};
 ghost use Rattle.srm_member.specs.Fit.{IsBounded, Acts, Gives};
 
 use crate::adapted::Adapted;
@@ -20,6 +17,8 @@ use crate::fixed::Fixed;
 use crate::held::Held;
 use crate::interval::Interval;
 use crate::intervals::Intervals;
+use crate::mark::Mark;
+use crate::named::Named;
 use crate::pages::Pages;
 use crate::pending::Pending;
 use crate::progress::Progress;
@@ -42,13 +41,15 @@ const MOST_DRAWN: u64 = 4096;
 #[derive(Drop)]
 pub struct MemberState {
     progress: Pages,
-    held: Held,
-    pending: Pending,
-    rests: Rising<u64>,
+    pub(crate) held: Held,
+    pub(crate) pending: Pending,
+    pub(crate) rests: Rising<u64>,
+    // of rests that come from a repair with a scope
+    pub(crate) marks: Named<Mark>,
     words: Lcg64Xsh32,
     request_interval: Interval,
-    repair_interval: Interval,
-    fixed: Fixed,
+    pub(crate) repair_interval: Interval,
+    pub(crate) fixed: Fixed,
 }
 
 impl Model for MemberState {
@@ -67,6 +68,7 @@ impl Model for MemberState {
       missing = t.pending.0;
       repairs = t.pending.1;
       rests = t.rests;
+      marks = t.marks;
     } };
 
     ghost invariant = { λ t. IsBounded t.fixed };
@@ -90,6 +92,7 @@ impl MemberState {
             held: Held::new(alloc),
             pending: Pending::new(alloc),
             rests: Rising::new(alloc),
+            marks: Named::new(alloc),
         }
     }
 
@@ -109,7 +112,7 @@ impl MemberState {
     }
 
     // The length of a new timer, in ticks, which takes one word of the generator.
-    fn length(&mut self, i: u32, x: u32, y: u32, d: u64) -> u64
+    pub(crate) fn length(&mut self, i: u32, x: u32, y: u32, d: u64) -> u64
         requires least { x ≤ greatest_adapted }
         requires more { y ≤ greatest_adapted }
         requires distance { d ≤ greatest_distance }
@@ -157,7 +160,7 @@ impl MemberState {
     }
 
     // The repair interval takes in the delay since a repair timer was set.
-    fn take_in_repair_delay(&mut self, at: u64, repair: Repairing)
+    pub(crate) fn take_in_repair_delay(&mut self, at: u64, repair: Repairing)
         requires { at < end_of_time }
         ensures { self.new ≡ record self.old { repair_interval = after_repair_delay at repair self.old } }
     {
@@ -360,7 +363,7 @@ impl MemberState {
 
     // The distance on which a name's rest is based, in ticks: that to its source; at the source itself that to whoever set the
     // pending repair timer, or without one to the member that sent the repair.
-    fn base(&self, name: Name, who: u16) -> u64
+    pub(crate) fn base(&self, name: Name, who: u16) -> u64
         ensures value { result ≡ base self.now name who }
         ensures bound { result ≤ greatest_distance }
     {
@@ -373,69 +376,6 @@ impl MemberState {
         }
     }
 
-    // A repair was sent: the member does not answer for the name for a while, and a pending repair timer ends. Gives the end of the
-    // name's rest before.
-    fn rest(&mut self, at: u64, name: Name, who: u16) -> Result<Option<u64>, AllocError>
-        requires { at < end_of_time }
-        ensures before { IfOk result (λ t. t ≡ find name_cmp name self.old.rests) }
-        ensures ok { OnOk result (self.new ≡ with_rest at name who self.old) }
-        ensures fixed { self.new.fixed ≡ self.old.fixed }
-    {
-        let base = self.base(name, who);
-        let before = self.rests.replace(name, at + 3 * base)?;
-        self.pending.forget_repair(name);
-        Ok(before)
-    }
-
-    // Whether a name's rest has not ended.
-    fn is_at_rest(&self, at: u64, name: Name) -> bool
-        ensures { result ≡ is_at_rest at name self.now }
-    {
-        at < self.rests.get(name).unwrap_or(0)
-    }
-
-    // A repair of a name by this member is heard: it ends the delay of a pending repair timer, and at rest is a duplicate. Then the
-    // member rests.
-    fn see_repair(&mut self, at: u64, name: Name, who: u16) -> Result<(), AllocError>
-        requires { at < end_of_time }
-        ensures ok { OnOk result (self.new ≡ with_rest at name who (with_repair_seen at name self.old)) }
-        ensures fixed { self.new.fixed ≡ self.old.fixed }
-    {
-        match self.pending.repair(name) {
-            Some(repair) => {
-                self.take_in_repair_delay(at, repair);
-                self.rest(at, name, who)?;
-            }
-            None => {
-                let before = self.rest(at, name, who)?;
-                if at < before.unwrap_or(0) {
-                    self.repair_interval.hear_duplicate();
-                }
-            }
-        }
-        Ok(())
-    }
-
-    // Takes in a repair of a name, by this member.
-    fn hear_repair(
-        &mut self,
-        alloc: Global,
-        at: u64,
-        name: Name,
-        ink: u32,
-        who: u16,
-    ) -> Result<React, AllocError>
-        requires { at < end_of_time }
-        ensures { Acts self.old (hear_repair at name ink who self.old) result self.new }
-    {
-        let outcome = self.hear_data(alloc, at, name, ink, true)?;
-        if matches!(outcome.told(), Told::Skip) {
-            return Ok(outcome);
-        }
-        self.see_repair(at, name, who)?;
-        Ok(outcome)
-    }
-
     // A period of repair timers begins.
     fn begin_repairs(&mut self)
         ensures { self.new ≡ with_repairs_begun self.old }
@@ -444,10 +384,10 @@ impl MemberState {
             .begin_period(self.fixed.d1, self.fixed.d2);
     }
 
-    // Plans a repair, for a request of this member (Floyd et al. 1997).
-    fn plan(&mut self, at: u64, name: Name, who: u16) -> Result<(), AllocError>
+    // Plans a repair, for a request of this width by that member (Floyd et al. 1997).
+    fn plan(&mut self, at: u64, name: Name, who: u16, width: Option<u16>) -> Result<(), AllocError>
         requires { at < end_of_time }
-        ensures ok { OnOk result (self.new ≡ with_repair_timer at name who self.old) }
+        ensures ok { OnOk result (self.new ≡ with_repair_timer at name who width self.old) }
         ensures fixed { self.new.fixed ≡ self.old.fixed }
     {
         self.begin_repairs();
@@ -456,6 +396,7 @@ impl MemberState {
             set: at,
             expiry: at + length,
             requester: who,
+            width,
         };
         self.pending.plan(name, repair)?;
         Ok(())
@@ -485,22 +426,33 @@ impl MemberState {
         }
     }
 
-    // A request for a name that is held, by this member.
-    fn hear_request_of_held(&mut self, at: u64, name: Name, who: u16) -> Result<React, AllocError>
+    // A request of this width for a name that is held, by that member.
+    fn hear_request_of_held(
+        &mut self,
+        at: u64,
+        name: Name,
+        who: u16,
+        width: Option<u16>,
+    ) -> Result<React, AllocError>
         requires { at < end_of_time }
-        ensures { Acts self.old (hear_request_of_held at name who self.old) result self.new }
+        ensures { Acts self.old (hear_request_of_held at name who width self.old) result self.new }
     {
-        if self.is_at_rest(at, name) {
+        if self.fixed.rests_for(at, self.rest_of(name), who, width) {
             return Ok(React::quiet(Told::Rest));
         }
-        if self.pending.repair(name).is_some() {
-            return Ok(React::quiet(Told::Busy));
+        match self.pending.repair(name) {
+            None => {
+                self.plan(at, name, who, width)?;
+                Ok(React::quiet(Told::Plan))
+            }
+            Some(repair) => {
+                self.take_over(name, who, width, repair)?;
+                Ok(React::quiet(Told::Busy))
+            }
         }
-        self.plan(at, name, who)?;
-        Ok(React::quiet(Told::Plan))
     }
 
-    // A request for a name, by this member.
+    // A request of this width for a name, by that member.
     #[tactic(auto, unfolding(crate::specs::React::hear_request))]
     fn hear_request(
         &mut self,
@@ -508,9 +460,10 @@ impl MemberState {
         at: u64,
         name: Name,
         who: u16,
+        width: Option<u16>,
     ) -> Result<React, AllocError>
         requires { at < end_of_time }
-        ensures { Acts self.old (hear_request at name who self.old) result self.new }
+        ensures { Acts self.old (hear_request at name who width self.old) result self.new }
     {
         let page = page_of(name);
         let number = u64::from(name.number);
@@ -519,7 +472,7 @@ impl MemberState {
             return Ok(React::quiet(Told::Skip));
         }
         if self.held.get(name).is_some() {
-            return self.hear_request_of_held(at, name, who);
+            return self.hear_request_of_held(at, name, who, width);
         }
         let mut lost = Sequence::new(alloc);
         if number >= progress.next() {
@@ -575,8 +528,14 @@ impl MemberState {
         let who = packet.id.sender;
         match &packet.body {
             Body::Drawop { name, ink } => self.hear_data(alloc, at, *name, *ink, false),
-            Body::Repair { name, ink } => self.hear_repair(alloc, at, *name, *ink, who),
-            Body::Request { name } => self.hear_request(alloc, at, *name, who),
+            Body::Repair { name, ink, local } => {
+                let react = self.hear_data(alloc, at, *name, *ink, true)?;
+                if !matches!(react.told(), Told::Skip) {
+                    self.see_repair(at, *name, who, *local)?;
+                }
+                Ok(react)
+            }
+            Body::Request { name, scope } => self.hear_request(alloc, at, *name, who, *scope),
             Body::Session { heard } => self.hear_session(alloc, at, heard.as_slice()),
         }
     }
@@ -599,15 +558,16 @@ impl MemberState {
         match self.pending.missing(name) {
             None => Ok(React::quiet(Told::Skip)),
             Some(missing) => {
+                let scope = self.fixed.scope_of_request(missing.backoffs);
                 self.ask_first(missing);
                 self.back_off(at, name, missing)?;
-                React::sent(alloc, Body::Request { name })
+                React::sent(alloc, Body::Request { name, scope })
             }
         }
     }
 
     // The member answers first, and the delay since it set the timer is taken in.
-    fn answer_first(&mut self, at: u64, repair: Repairing)
+    pub(crate) fn answer_first(&mut self, at: u64, repair: Repairing)
         requires { at < end_of_time }
         ensures { self.new ≡ with_repair_first at repair self.old }
     {
@@ -624,11 +584,10 @@ impl MemberState {
         match self.pending.repair(name) {
             None => Ok(React::quiet(Told::Skip)),
             Some(repair) => {
-                self.answer_first(at, repair);
+                let local = self.fixed.local_of(repair);
                 let ink = self.held.get(name).unwrap_or(0);
-                let own = self.fixed.member;
-                self.rest(at, name, own)?;
-                React::sent(alloc, Body::Repair { name, ink })
+                self.end_own_timer(at, name, repair, Mark::after(local, 0))?;
+                React::sent(alloc, Body::Repair { name, ink, local })
             }
         }
     }

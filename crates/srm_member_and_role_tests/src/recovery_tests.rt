@@ -14,9 +14,11 @@ use crate::stories::story::Story;
 use srm_member::backoff::BackoffFactor;
 use srm_member::distances::Distances;
 use srm_member::fixed::Fixed;
+use srm_member::hops::Hops;
 use srm_member::limits::Limits;
 use srm_member::member::Member;
 use srm_member::recovery::Recovery;
+use srm_member::steps::Steps;
 use srm_net::role::Role;
 use srm_net::sequence::Sequence;
 use std::alloc::{AllocError, Global};
@@ -47,6 +49,11 @@ fn fixed_part(
         d1: Limits::without_room(1000),
         d2: Limits::without_room(0),
         dist,
+        hops: Hops::from(Sequence::new(alloc)),
+        scope: 0,
+        widen: 0,
+        tries: 1,
+        steps: Steps::Two,
         pages,
         seed: 42,
         stream: 54,

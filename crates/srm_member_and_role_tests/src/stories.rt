@@ -6,6 +6,7 @@ pub mod event;
 pub mod following;
 pub mod late;
 pub mod listener;
+pub mod local;
 pub mod losses;
 pub mod receiver;
 pub mod sender;

@@ -8,13 +8,14 @@ use Rattle.srm_net.specs.declared.packet.Name.{Name}
 use Rattle.srm_net.specs.declared.packet.PageId.{PageId}
 use Rattle.srm_net.specs.declared.packet.Heard.{Heard}
 use Rattle.srm_net.specs.declared.packet.Body.{Body}
+use Rattle.srm_net.specs.declared.packet.Local.{Local}
 use Rattle.srm_net.specs.declared.packet.Body.TheVariants.{Drawop, Request, Repair, Session}
 use Rattle.srm_net.specs.Names.{page_of, name_in, name_cmp, page_cmp}
 use Rattle.srm_member.specs.declared.fixed.Fixed.{Fixed as FixedPart}
 use Rattle.srm_member.specs.declared.cause.Cause.{Cause}
 use Rattle.srm_member.specs.declared.cause.Cause.TheVariants.{Join, Arrival, Ask, Answer, Draw, Report}
 use Rattle.srm_member.specs.declared.told.Told.{Told}
-use Rattle.srm_member.specs.declared.told.Told.TheVariants.{Entered, Fresh, Fixed, Again, Skip, Hold, Heard as Informed}
+use Rattle.srm_member.specs.declared.told.Told.TheVariants.{Entered, Fresh, Fixed, Again, Skip, Hold, Busy, Plan, Rest, Heard as Informed}
 use Rattle.srm_member.specs.declared.entries.Missing.{Missing}
 use Rattle.srm_member.specs.declared.entries.Repairing.{Repairing}
 use Rattle.srm_member.specs.Fit.{heard_of}
@@ -23,7 +24,12 @@ use Rattle.srm_net.specs.Roles.{is_listener}
 use Rattle.srm_member.specs.React.{Reaction, quietly, has_entry, with_progress, meet, lose_one, lose_from, names_from, lose_below}
 use Rattle.srm_member.specs.React.{lost_below, with_mending_seen}
 use Rattle.srm_member.specs.React.{with_held, with_mended, hear_data, hear_request_by_entry}
-use Rattle.srm_member.specs.React.{hear_request_of_held, hear_request}
+use Rattle.srm_member.specs.React.{hear_request_by_timer, hear_request_of_held, hear_request, is_at_rest, with_repair_timer}
+use Rattle.srm_member.specs.React.{after_repair, begins_second_step, hear_repair, is_skip, rest_of, with_own_timer_ended}
+use Rattle.srm_member.specs.React.{with_repair_seen, with_rest, with_second_step, with_timer_taken_over}
+use Rattle.srm_member.specs.LocalRecovery.{is_second_step, local_of, mark_after, mark_from, serves, takes_over}
+use Rattle.srm_member.specs.declared.mark.Mark.{Mark}
+use Rattle.srm_member.specs.declared.resting.Resting.{Resting}
 use Rattle.srm_member.specs.React.{page_heard, after_entry, lost_by_entry, hear_session, hear_body, expire_request_by_entry, expire_request}
 use Rattle.srm_member.specs.React.{expire_repair_by_entry, expire_repair}
 use Rattle.srm_member.specs.React.{draw_operation, react_active, react_listener}
@@ -75,8 +81,8 @@ module _ (members : ℕ) where
   -- the sources in a packet are members
   abbrev pub BodyOf : Body → Type 0
   BodyOf (Drawop n ink) = n.source < members
-  BodyOf (Request n) = n.source < members
-  BodyOf (Repair n ink) = n.source < members
+  BodyOf (Request n scope) = n.source < members
+  BodyOf (Repair n ink local) = n.source < members
   BodyOf (Session hs) = HeardOf hs
 
   abbrev pub CauseOf : Cause → Type 0
@@ -146,17 +152,71 @@ module _ (members : ℕ) where
       (either_way Known (has_entry n m.missing) _ _
       (plain (with_mended n ink (with_progress p s (with_mending_seen at n repaired m))) Fixed met) (plain k Again met)))
 
+  -- what a repair brings besides leaves pages as they are
+  rest_pages : (at : ℕ) (n : Name) (who : ℕ) (mark : Option Mark) (m : MemberState) → PagesOf m.progress
+      → PagesOf (with_rest at n who mark m).progress
+  rest_pages at n who None m g = g
+  rest_pages at n who (Some k) m g = g
+
+  seen_pages : (at : ℕ) (n : Name) (who : ℕ) (local : Option Local) (rest : Resting) (o : Option Repairing) (m : MemberState)
+      → PagesOf m.progress → PagesOf (with_repair_seen at n who local rest o m).progress
+  seen_pages at n who local rest None m g = g
+  seen_pages at n who local rest (Some r) m g = either_way (λ (k : MemberState). PagesOf k.progress)
+      (serves m.fixed (mark_from m.fixed who local) r.requester r.width) _ m g g
+
+  second_pages : (at : ℕ) (n : Name) (rest : Resting) (local : Option Local) (m : MemberState) → PagesOf m.progress
+      → PagesOf (with_second_step at n rest local m).progress
+  second_pages at n rest None m g = g
+  second_pages at n rest (Some l) m g =
+      either_way (λ (k : MemberState). PagesOf k.progress) (begins_second_step at n rest l m) _ m g g
+
+  after_pages : (at : ℕ) (n : Name) (who : ℕ) (local : Option Local) (m : MemberState) → PagesOf m.progress
+      → PagesOf (after_repair at n who local m).progress
+  after_pages at n who local m g =
+      let rested = with_rest at n who (mark_from m.fixed who local) m in
+      let seen = with_repair_seen at n who local (rest_of n m) (find name_cmp n m.repairs) rested in
+      second_pages at n (rest_of n m) local seen
+      (seen_pages at n who local (rest_of n m) (find name_cmp n m.repairs) rested
+      (rest_pages at n who (mark_from m.fixed who local) m g))
+
+  rested_known : (at : ℕ) (n : Name) (who : ℕ) (local : Option Local) (r : Reaction) → Known r
+      → Known (record r { state = after_repair at n who local r.state })
+  rested_known at n who local r k = record {
+    pages = after_pages at n who local r.state k.pages;
+    lost = k.lost;
+    apart = k.apart;
+    session = k.session;
+  }
+
+  repair_known : (at : ℕ) (n : Name) (ink who : ℕ) (local : Option Local) (m : MemberState) → n.source < members
+      → PagesOf m.progress → Known (hear_repair at n ink who local m)
+  repair_known at n ink who local m h g =
+      let r = hear_data at n ink true m in
+      let k = got_known at n ink true m h g in
+      either_way Known (is_skip r.answer.told) r _ k (rested_known at n who local r k)
+
   asked_known : (at : ℕ) (n : Name) (lost : List Name) (m : MemberState) (o : Option Missing) → Known (quietly m Hold lost)
       → Known (hear_request_by_entry at n lost m o)
   asked_known at n lost m o k = grind arith
 
-  held_known : (at : ℕ) (n : Name) (who : ℕ) (m : MemberState) → PagesOf m.progress → Known (hear_request_of_held at n who m)
-  held_known at n who m g = grind arith
+  taken_over_pages : (n : Name) (who : ℕ) (width : Option ℕ) (r : Repairing) (m : MemberState) → PagesOf m.progress
+      → PagesOf (with_timer_taken_over n who width r m).progress
+  taken_over_pages n who width r m g = either_way (λ (k : MemberState). PagesOf k.progress) (takes_over m.fixed width r) _ m g g
 
-  request_known : (at : ℕ) (n : Name) (who : ℕ) (m : MemberState) → n.source < members → PagesOf m.progress
-      → Known (hear_request at n who m)
+  timer_known : (at : ℕ) (n : Name) (who : ℕ) (width : Option ℕ) (m : MemberState) (o : Option Repairing) → PagesOf m.progress
+      → Known (hear_request_by_timer at n who width m o)
+  timer_known at n who width m None g = plain (with_repair_timer at n who width m) Plan g
+  timer_known at n who width m (Some r) g = plain (with_timer_taken_over n who width r m) Busy (taken_over_pages n who width r m g)
+
+  held_known : (at : ℕ) (n : Name) (who : ℕ) (width : Option ℕ) (m : MemberState) → PagesOf m.progress
+      → Known (hear_request_of_held at n who width m)
+  held_known at n who width m g = either_way Known (is_at_rest at n who width m) _ _ (plain m Rest g)
+      (timer_known at n who width m (find name_cmp n m.repairs) g)
+
+  request_known : (at : ℕ) (n : Name) (who : ℕ) (width : Option ℕ) (m : MemberState) → n.source < members → PagesOf m.progress
+      → Known (hear_request at n who width m)
   unfolding hear_request
-  request_known at n who m h g =
+  request_known at n who width m h g =
       let p = page_of n in
       let s = meet m p (n.number + 1) in
       let k = with_progress p s m in
@@ -164,7 +224,7 @@ module _ (members : ℕ) where
       let lose = lose_below at p (n.number + 1) (n.number + 1) s [] k in
       let lost : PagesOf lose.progress = pages_below at p (n.number + 1) (n.number + 1) s [] k h met in
       either_way Known (nat_lt n.number s.floor) _ _ (plain k Skip met)
-      (either_way Known (has_entry n k.held) _ _ (held_known at n who k met)
+      (either_way Known (has_entry n k.held) _ _ (held_known at n who width k met)
       (either_way Known (nat_le s.next n.number) _ _
       (asked_known at n (lost_below p (n.number + 1) s) lose (find name_cmp n lose.missing) (losing lose Hold p (n.number + 1) s h lost))
       (asked_known at n [] k (find name_cmp n k.missing) (plain k Hold met))))
@@ -196,7 +256,11 @@ module _ (members : ℕ) where
 
   hear_known : (at who : ℕ) (b : Body) (m : MemberState) → is_listener m.fixed.role ≡ false → BodyOf b → PagesOf m.progress
       → Known (hear_body at who b m)
-  hear_known at who b m no_listener h g = grind (arith, got_known, request_known, informed_known)
+  hear_known at who (Drawop n ink) m no_listener h g = got_known at n ink false m h g
+  hear_known at who (Repair n ink local) m no_listener h g = repair_known at n ink who local m h g
+  hear_known at who (Request n scope) m no_listener h g = request_known at n who scope m h g
+  hear_known at who (Session hs) m no_listener h g =
+      informed_known at hs m [] no_listener h (λ n c. absurd (contains_none n c)) (plain m Informed g)
 
   -- ---- timers, draws and reports
 
@@ -204,10 +268,20 @@ module _ (members : ℕ) where
   asking_known at n m None g = plain m Skip g
   asking_known at n m (Some e) g = record { pages = g; lost = tt; apart = tt; session = tt }
 
+  ended_pages : (at : ℕ) (n : Name) (r : Repairing) (mark : Option Mark) (m : MemberState) → PagesOf m.progress
+      → PagesOf (with_own_timer_ended at n r mark m).progress
+  ended_pages at n r None m g = either_way (λ (k : MemberState). PagesOf k.progress) (is_second_step m.fixed r) m _ g g
+  ended_pages at n r (Some x) m g = either_way (λ (k : MemberState). PagesOf k.progress) (is_second_step m.fixed r) m _ g g
+
   answering_known : (at : ℕ) (n : Name) (m : MemberState) (o : Option Repairing) → PagesOf m.progress
       → Known (expire_repair_by_entry at n m o)
   answering_known at n m None g = plain m Skip g
-  answering_known at n m (Some e) g = record { pages = g; lost = tt; apart = tt; session = tt }
+  answering_known at n m (Some r) g = record {
+    pages = ended_pages at n r (mark_after 0 (local_of m.fixed r)) m g;
+    lost = tt;
+    apart = tt;
+    session = tt;
+  }
 
   drawing_known : (page ink : ℕ) (m : MemberState) → m.fixed.member < members → PagesOf m.progress → Known (draw_operation page ink m)
   unfolding draw_operation

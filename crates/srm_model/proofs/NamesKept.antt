@@ -8,6 +8,7 @@ use Rattle.std.proofs.lemmas.Option.{same_Some}
 use Rattle.srm_net.specs.declared.packet.Name.{Name}
 use Rattle.srm_net.specs.declared.packet.Body.{Body}
 use Rattle.srm_net.specs.declared.packet.Body.TheVariants.{Drawop, Request, Repair}
+use Rattle.srm_net.specs.declared.packet.Local.{Local}
 use Rattle.srm_net.specs.declared.packet.Packet.{Packet}
 use Rattle.srm_net.specs.Names.{name_cmp}
 use Rattle.srm_member.specs.declared.cause.Cause.{Cause}
@@ -73,18 +74,18 @@ same_ops n k a b e = (cc, cc)
 -- a body carries the name that it brings
 carries_it : (b : Body) (n : Name) (ink : ℕ) → Brings b n ink → Carries n b
 carries_it b n ink (inl e) = subst (Carries n) (sym e) refl
-carries_it b n ink (inr e) = subst (Carries n) (sym e) refl
+carries_it b n ink (inr e) = subst (Carries n) (sym e.1) refl
 
 -- and no other
 carries_one : (b : Body) (k n : Name) (ink : ℕ) → Brings b k ink → Carries n b → k ≡ n
 carries_one b k n ink (inl e) c = subst (Carries n) e c
-carries_one b k n ink (inr e) c = subst (Carries n) e c
+carries_one b k n ink (inr e) c = subst (Carries n) e.1 c
 
-sent_body : (e : Event) (body : Option Body) (d : Stepped) (p : Packet) → Sends e body d → d.row.sent ≡ Some p → (body ≡ Some p.body)
+pub sent_body : (e : Event) (body : Option Body) (d : Stepped) (p : Packet) → Sends e body d → d.row.sent ≡ Some p → (body ≡ Some p.body)
     × (p.id.sender ≡ e.key.member)
 sent_body e body d p h q = grind arith
 
-sends_none : (e : Event) (d : Stepped) (body : Option Body) → body ≡ None → Sends e body d → (p : Packet) → d.row.sent ≡ Some p → ⊥
+pub sends_none : (e : Event) (d : Stepped) (body : Option Body) → body ≡ None → Sends e body d → (p : Packet) → d.row.sent ≡ Some p → ⊥
 sends_none e d body none h p q = let x : None ≡ Some p.body = sym none ∙ (sent_body e body d p h q).0 in cc
 
 module _ (s : Setting) (fit : IsFit s) where
@@ -94,10 +95,11 @@ module _ (s : Setting) (fit : IsFit s) where
     pub source : (j : ℕ) (n : Name) (ink : ℕ) → Drew j n ink trace → n.source ≡ j
     pub one : (n : Name) (a b : ℕ) → Drew n.source n a trace → Drew n.source n b trace → a ≡ b
     pub inks : (p : Packet) (n : Name) (ink : ℕ) → SentIn p trace → Brings p.body n ink → Drew n.source n ink trace
-    pub asks : (before after : List Row) (r : Row) (p : Packet) (n : Name) → IsSplit trace before r after → r.sent ≡ Some p → p.body
-        ≡ Request n → Lacks p.id.sender n before
-    pub answers : (before after : List Row) (r : Row) (p : Packet) (n : Name) (ink : ℕ) → IsSplit trace before r after → r.sent ≡ Some p
-        → p.body ≡ Repair n ink → Got p.id.sender n before × Drew n.source n ink before
+    pub asks : (before after : List Row) (r : Row) (p : Packet) (n : Name) (scope : Option ℕ) → IsSplit trace before r after
+        → r.sent ≡ Some p → p.body ≡ Request n scope → Lacks p.id.sender n before
+    pub answers : (before after : List Row) (r : Row) (p : Packet) (n : Name) (ink : ℕ) (local : Option Local)
+        → IsSplit trace before r after → r.sent ≡ Some p
+        → p.body ≡ Repair n ink local → Got p.id.sender n before × Drew n.source n ink before
 
   -- ---- after a step
 
@@ -262,9 +264,9 @@ module _ (s : Setting) (fit : IsFit s) where
         source : (j : ℕ) (n : Name) (ink : ℕ) → Draws j n ink d.row → n.source ≡ j
         one : (n : Name) (a b : ℕ) → Drew n.source n a rows → Drew n.source n b rows → a ≡ b
         inks : (p : Packet) (n : Name) (ink : ℕ) → d.row.sent ≡ Some p → Brings p.body n ink → Drew n.source n ink rows
-        asks : (p : Packet) (n : Name) → d.row.sent ≡ Some p → p.body ≡ Request n → Lacks p.id.sender n trace
-        answers : (p : Packet) (n : Name) (ink : ℕ) → d.row.sent ≡ Some p → p.body ≡ Repair n ink → Got p.id.sender n trace
-            × Drew n.source n ink trace
+        asks : (p : Packet) (n : Name) (scope : Option ℕ) → d.row.sent ≡ Some p → p.body ≡ Request n scope → Lacks p.id.sender n trace
+        answers : (p : Packet) (n : Name) (ink : ℕ) (local : Option Local) → d.row.sent ≡ Some p → p.body ≡ Repair n ink local
+            → Got p.id.sender n trace × Drew n.source n ink trace
 
       cell_knew : CellKnows trace m facts.cell.holds facts.cell.exit
       cell_knew = was.knows m facts.cell facts.here
@@ -309,8 +311,8 @@ module _ (s : Setting) (fit : IsFit s) where
             source = λ j n ink h. absurd (no_draw j n ink h);
             one = one_still no_draw;
             inks = λ p n ink q b. absurd (silent p q);
-            asks = λ p n q b. absurd (silent p q);
-            answers = λ p n ink q b. absurd (silent p q);
+            asks = λ p n scope q b. absurd (silent p q);
+            answers = λ p n ink local q b. absurd (silent p q);
           }
 
       -- ---- its answer
@@ -399,17 +401,18 @@ module _ (s : Setting) (fit : IsFit s) where
               one = one_still no_draw;
               inks = λ p n ink h b. elim b [
                 | inl x ↦ absurd (subst (Allowed state) ((sent_is p h).0 ∙ ap Some x) q.body)
-                | inr x ↦ (let l = repaired p n ink h x in drew_more n.source n ink l.1)
+                | inr x ↦ (let l = repaired p n ink x.0 h x.1 in drew_more n.source n ink l.1)
               ];
-              asks = λ p n h b.
+              asks = λ p n scope h b.
                   (let has : Has n state.missing = subst (Allowed state) ((sent_is p h).0 ∙ ap Some b) q.body in
                   subst (λ j. Lacks j n trace) (sym (sent_is p h).1) (k.keeps.lacks n has));
-              answers = λ p n ink h b. (let l = repaired p n ink h b in (subst (λ j. Got j n trace) (sym (sent_is p h).1) l.0, l.1));
+              answers = λ p n ink local h b.
+                  (let l = repaired p n ink local h b in (subst (λ j. Got j n trace) (sym (sent_is p h).1) l.0, l.1));
             }
           where
-            repaired : (p : Packet) (n : Name) (ink : ℕ) → d.row.sent ≡ Some p → p.body ≡ Repair n ink → Got m n trace
-                × Drew n.source n ink trace
-            repaired p n ink h b =
+            repaired : (p : Packet) (n : Name) (ink : ℕ) (local : Option Local) → d.row.sent ≡ Some p → p.body ≡ Repair n ink local
+                → Got m n trace × Drew n.source n ink trace
+            repaired p n ink local h b =
                 let allowed : Has n state.repairs × (ink ≡ unwrap_or (find name_cmp n state.held) 0) =
                 subst (Allowed state) ((sent_is p h).0 ∙ ap Some b) q.body in
                 let has = has_some n state.held (k.plans n allowed.0) in
@@ -495,13 +498,16 @@ module _ (s : Setting) (fit : IsFit s) where
                     | inr y ↦ g.below n (subst (λ z. Below z state) (only Fixed n x) (k.lost n0 (k.keeps.lacks n0 y.1).0))
                   ]
                 ]);
-                plans = λ n h. still n (elim (g.plans n (b.plans n h)) [ inl x ↦ k.plans n x | inr x ↦ x ]);
+                plans = λ n h. elim (b.plans n h) [
+                  | inl y ↦ still n (elim (g.plans n y) [ inl x ↦ k.plans n x | inr x ↦ x ])
+                  | inr y ↦ y
+                ];
               });
               source = λ j n ink h. absurd (no_draw j n ink h);
               one = one_still no_draw;
               inks = λ x n ink q h. absurd (silent x q);
-              asks = λ x n q h. absurd (silent x q);
-              answers = λ x n ink q h. absurd (silent x q);
+              asks = λ x n scope q h. absurd (silent x q);
+              answers = λ x n ink local q h. absurd (silent x q);
             }
           where
             same_packet : (x y : Packet) → Some (Arrival x) ≡ Some (Arrival y) → x ≡ y
@@ -613,10 +619,12 @@ module _ (s : Setting) (fit : IsFit s) where
                 | inl x ↦
                     let same = same_ops n0 n b.ink i (same_Some _ _ (body ∙ ap Some x)) in
                     subst (λ y. Drew y.source y i rows) same.0 (subst (λ y. Drew n0.source n0 y rows) same.1 drawn)
-                | inr x ↦ (let y : Some (Drawop n0 b.ink) ≡ Some (Repair n i) = body ∙ ap Some x in cc)
+                | inr x ↦ (let y : Some (Drawop n0 b.ink) ≡ Some (Repair n i x.0) = body ∙ ap Some x.1 in cc)
               ]);
-              asks = λ p n q h. (let y : Some (Drawop n0 b.ink) ≡ Some (Request n) = sym b.body ∙ (sent_is p q).0 ∙ ap Some h in cc);
-              answers = λ p n i q h. (let y : Some (Drawop n0 b.ink) ≡ Some (Repair n i) = sym b.body ∙ (sent_is p q).0 ∙ ap Some h in cc);
+              asks = λ p n scope q h.
+                  (let y : Some (Drawop n0 b.ink) ≡ Some (Request n scope) = sym b.body ∙ (sent_is p q).0 ∙ ap Some h in cc);
+              answers = λ p n i local q h.
+                  (let y : Some (Drawop n0 b.ink) ≡ Some (Repair n i local) = sym b.body ∙ (sent_is p q).0 ∙ ap Some h in cc);
             }
 
         answer_by : (cause : Cause) → a.cause ≡ cause → Rattle.srm_member.proofs.Changes.Effect state cause r → Next
@@ -646,14 +654,14 @@ module _ (s : Setting) (fit : IsFit s) where
         one = next.one;
         inks = λ p n ink h b. elim (sent_cases p trace d.row h)
             [ inl x ↦ drew_more n.source n ink (was.inks p n ink x b) | inr x ↦ next.inks p n ink x b ];
-        asks = λ first last r p n split q h. elim (split_cases trace d.row first r last split) [
-          | inl x ↦ subst (λ l. Lacks p.id.sender n l) (sym x.1) (next.asks p n (ap (λ (y : Row). y.sent) x.0 ∙ q) h)
-          | inr x ↦ was.asks first x.0 r p n x.1 q h
+        asks = λ first last r p n scope split q h. elim (split_cases trace d.row first r last split) [
+          | inl x ↦ subst (λ l. Lacks p.id.sender n l) (sym x.1) (next.asks p n scope (ap (λ (y : Row). y.sent) x.0 ∙ q) h)
+          | inr x ↦ was.asks first x.0 r p n scope x.1 q h
         ];
-        answers = λ first last r p n ink split q h. elim (split_cases trace d.row first r last split) [
+        answers = λ first last r p n ink local split q h. elim (split_cases trace d.row first r last split) [
           | inl x ↦ subst (λ l. Got p.id.sender n l × Drew n.source n ink l)
-              (sym x.1) (next.answers p n ink (ap (λ (y : Row). y.sent) x.0 ∙ q) h)
-          | inr x ↦ was.answers first x.0 r p n ink x.1 q h
+              (sym x.1) (next.answers p n ink local (ap (λ (y : Row). y.sent) x.0 ∙ q) h)
+          | inr x ↦ was.answers first x.0 r p n ink local x.1 q h
         ];
       }
 
@@ -686,8 +694,8 @@ module _ (s : Setting) (fit : IsFit s) where
     source = λ j n ink h. absurd (none_drew j n ink h);
     one = λ n a b h g. absurd (none_drew n.source n a h);
     inks = λ p n ink h b. absurd (contains_none h.0 h.1);
-    asks = λ before after r p n split q h. absurd (no_split before after r split);
-    answers = λ before after r p n ink split q h. absurd (no_split before after r split);
+    asks = λ before after r p n scope split q h. absurd (no_split before after r split);
+    answers = λ before after r p n ink local split q h. absurd (no_split before after r split);
   }
 
   pub names_reached : (w : World) → IsReached s w → Names w.cells w.trace
@@ -740,8 +748,9 @@ exits_are_what_rows_say s w fit reached =
     )
 
 pub requests_are_for_losses : RequestsAreForLosses
-requests_are_for_losses s w fit reached before after r p n split q h = (names_reached s fit w reached).asks before after r p n split q h
+requests_are_for_losses s w fit reached before after r p n scope split q h =
+    (names_reached s fit w reached).asks before after r p n scope split q h
 
 pub repairs_are_of_held : RepairsAreOfHeld
-repairs_are_of_held s w fit reached before after r p n ink split q h =
-    (names_reached s fit w reached).answers before after r p n ink split q h
+repairs_are_of_held s w fit reached before after r p n ink local split q h =
+    (names_reached s fit w reached).answers before after r p n ink local split q h

@@ -53,8 +53,8 @@ use Rattle.srm_model.proofs.Settled.{EachCell}
 
 carries_carried : (b : Body) (n : Name) → carried b ≡ Some n → Carries n b
 carries_carried (Drawop k ink) n h = same_Some k n h
-carries_carried (Repair k ink) n h = same_Some k n h
-carries_carried (Request k) n h = let x : None ≡ Some n = h in cc
+carries_carried (Repair k ink local) n h = same_Some k n h
+carries_carried (Request k scope) n h = let x : None ≡ Some n = h in cc
 carries_carried (Session hs) n h = let x : None ≡ Some n = h in cc
 
 brought_of : (a : About) (n : Name) → brought a ≡ Some n → (p : Packet) × (a ≡ Of p) × Carries n p.body
@@ -248,9 +248,9 @@ module _ (s : Setting) (fit : IsFit s) (own : (j : ℕ) → j < s.traffic.member
 
     body_now : (p : Packet) → d.row.sent ≡ Some p → (b : Body) → p.body ≡ b → BodyOf members b
     body_now p q (Drawop n ink) is = drew_below n ink (now_names.inks p n ink (sent_now p trace d.row q) (inl is))
-    body_now p q (Repair n ink) is = drew_below n ink (now_names.inks p n ink (sent_now p trace d.row q) (inr is))
-    body_now p q (Request n) is =
-        let lost = (now_names.asks trace [] d.row p n refl q is).0 in
+    body_now p q (Repair n ink local) is = drew_below n ink (now_names.inks p n ink (sent_now p trace d.row q) (inr (local, is)))
+    body_now p q (Request n scope) is =
+        let lost = (now_names.asks trace [] d.row p n scope refl q is).0 in
         (was.among lost.0 lost.1).sources n lost.3
     body_now p q (Session hs) is = subst (λ b. SessionOf members (Some b)) is (now.session p q)
 

@@ -7,6 +7,7 @@ use Rattle.std.proofs.lemmas.Option.{same_Some}
 use Rattle.srm_net.specs.declared.packet.Name.{Name}
 use Rattle.srm_net.specs.declared.packet.Body.{Body}
 use Rattle.srm_net.specs.declared.packet.Body.TheVariants.{Drawop, Request, Repair, Session}
+use Rattle.srm_net.specs.declared.packet.Local.{Local}
 use Rattle.srm_net.specs.declared.packet.Packet.{Packet}
 use Rattle.srm_member.specs.declared.cause.Cause.{Cause}
 use Rattle.srm_member.specs.declared.cause.Cause.TheVariants.{Join, Arrival, Ask, Answer, Draw, Report}
@@ -28,9 +29,10 @@ use Rattle.srm_model.proofs.Departed.{told_holds}
 use Rattle.srm_model.proofs.HandedOnce as handing
 use Rattle.srm_model.proofs.NamesKept.{CellKnows, Names, names_step, names_reached}
 use Rattle.srm_model.proofs.OneStep.{Takes, Answers, Steps, StepFacts, each_after, run_keeps}
-use Rattle.srm_model.proofs.RepairTimers.{answers_for, asks_for, timers_caused}
+use Rattle.srm_model.proofs.NamesKept.{sent_body, sends_none}
+use Rattle.srm_model.proofs.RepairTimers.{answers_for, asks_for, repairs_for, timers_caused}
 use Rattle.srm_model.proofs.Settled.{EachCell}
-use Rattle.srm_model.proofs.TraceRows.{contains_none, contains_cases, contained_split}
+use Rattle.srm_model.proofs.TraceRows.{contains_none, contains_cases, contained_split, sent_cases}
 
 -- some member lost the name
 abbrev Lost : Name → List Row → Type 0
@@ -49,8 +51,8 @@ neither v w e (inr h) a b = absurd (b (sym e ∙ h))
 
 no_arrival : {A : Type 0} (b : Body) (w : Word) → w ≡ word_of_body b → (w ≡ word.Ask) ⊎ (w ≡ word.Answer) → A
 no_arrival (Drawop n ink) w e h = neither word.Data w e h (λ x. cc) (λ x. cc)
-no_arrival (Request n) w e h = neither word.Request w e h (λ x. cc) (λ x. cc)
-no_arrival (Repair n ink) w e h = neither word.Repair w e h (λ x. cc) (λ x. cc)
+no_arrival (Request n scope) w e h = neither word.Request w e h (λ x. cc) (λ x. cc)
+no_arrival (Repair n ink local) w e h = neither word.Repair w e h (λ x. cc) (λ x. cc)
 no_arrival (Session hs) w e h = neither word.Session w e h (λ x. cc) (λ x. cc)
 
 timer_of : (c : Cause) (w : Word) → w ≡ word_of (Some c) → (w ≡ word.Ask) ⊎ (w ≡ word.Answer)
@@ -67,6 +69,7 @@ module _ (s : Setting) (fit : IsFit s) where
     names : Names s fit cs trace
     plans : EachCell (λ j c. Plans trace c.holds) cs
     rows : (r : Row) → Contains trace r → IsForLost trace r
+    repairs : (p : Packet) (n : Name) (ink : ℕ) (local : Option Local) → SentIn p trace → p.body ≡ Repair n ink local → Lost n trace
 
   -- ---- after a step
 
@@ -105,10 +108,10 @@ module _ (s : Setting) (fit : IsFit s) where
               (handing.taken s cs trace e d was.names.handed steps t).0
           by (inr t) = absurd (t.1 p arrives)
 
-      requested : (p : Packet) (n : Name) → SentIn p trace → p.body ≡ Request n → Lost n trace
-      requested p n (r, there, sent) body =
+      requested : (p : Packet) (n : Name) (scope : Option ℕ) → SentIn p trace → p.body ≡ Request n scope → Lost n trace
+      requested p n scope (r, there, sent) body =
           let parts = contained_split trace r there in
-          let lost : LostIn p.id.sender n parts.0 = (was.names.asks parts.0 parts.1 r p n parts.2 sent body).0 in (
+          let lost : LostIn p.id.sender n parts.0 = (was.names.asks parts.0 parts.1 r p n scope parts.2 sent body).0 in (
             p.id.sender,
             (
               lost.0,
@@ -132,7 +135,10 @@ module _ (s : Setting) (fit : IsFit s) where
       answer_plans : (a : Answers e d) → Plans after (Some (react a.state e.key.time a.cause).state)
       answer_plans a n has = still n (elim (timers_caused a.state e.key.time a.cause n has) [
         | inl g ↦ state_plans a.state a.holds n g
-        | inr g ↦ requested g.0 n (arrived g.0 (a.is ∙ ap Some g.1)) g.2
+        | inr g ↦ elim g.2 [
+          | inl x ↦ requested g.0 n x.0 (arrived g.0 (a.is ∙ ap Some g.1)) x.1
+          | inr x ↦ was.repairs g.0 n x.0 x.1 (arrived g.0 (a.is ∙ ap Some g.1)) x.2
+        ]
       ])
 
       now_plans : Plans after d.cell.holds
@@ -161,6 +167,21 @@ module _ (s : Setting) (fit : IsFit s) where
         | inr l ↦ λ cause told. (let x : Parted ≡ Sent = sym l.told ∙ told in cc)
       ]
 
+      -- ---- repairs that are sent
+
+      sends_planned : (a : Answers e d) (p : Packet) (n : Name) (ink : ℕ) (local : Option Local) → d.row.sent ≡ Some p
+          → p.body ≡ Repair n ink local → Lost n trace
+      sends_planned a p n ink local sent body =
+          let one = (sent_body e (react a.state e.key.time a.cause).answer.body d p a.sends sent).0 ∙ ap Some body in
+          state_plans a.state a.holds n (repairs_for a.state e.key.time a.cause n ink local one)
+
+      now_repair : (p : Packet) (n : Name) (ink : ℕ) (local : Option Local) → d.row.sent ≡ Some p → p.body ≡ Repair n ink local
+          → Lost n trace
+      now_repair p n ink local sent body = elim facts.does.how [
+        | inl a ↦ sends_planned a p n ink local sent body
+        | inr l ↦ absurd (sends_none e d None refl l.sends p sent)
+      ]
+
       kept_step : Kept (cells_after s m d 0 cs) after
       kept_step = record {
         names = names_step s fit cs trace e d was.names steps;
@@ -168,6 +189,8 @@ module _ (s : Setting) (fit : IsFit s) where
             (λ j c g ne. subst (Plans after) (sym (told_holds s fit d.row.sent j c)) (plans_still c.holds (was.plans j c g)));
         rows = λ r c. elim (contains_cases trace d.row r c)
             [ inl g ↦ row_still r (was.rows r g) | inr g ↦ subst (IsForLost after) g now_row ];
+        repairs = λ p n ink local h body. still n (elim (sent_cases p trace d.row h)
+            [ inl g ↦ was.repairs p n ink local g body | inr g ↦ now_repair p n ink local g body ]);
       }
 
   -- ---- the sequential run
@@ -189,6 +212,7 @@ module _ (s : Setting) (fit : IsFit s) where
     names = names_reached s fit (opening s) reached_first;
     plans = λ j c h. opening_plans s.traffic.members 0 j c h;
     rows = λ r c. absurd (contains_none r c);
+    repairs = λ p n ink local h body. absurd (contains_none h.0 h.1);
   }
 
   kept_reached : (w : World) → IsReached s w → Kept w.cells w.trace

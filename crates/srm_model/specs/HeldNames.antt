@@ -1,9 +1,10 @@
 -- What members hold and lack is what their rows say, and requests and repairs are for names that their senders lack or
 -- have.
-use Rattle.std.specs.Prelude.{◌≡◌, ◌⊎◌, ℕ, List, ◌∷◌, ◌++◌, map, length, Some, slice_get, Contains}
+use Rattle.std.specs.Prelude.{◌≡◌, ◌⊎◌, ℕ, List, ◌∷◌, ◌++◌, map, length, Option, Some, slice_get, Contains}
 use Rattle.srm_net.specs.declared.packet.Name.{Name}
 use Rattle.srm_net.specs.declared.packet.Body.{Body}
 use Rattle.srm_net.specs.declared.packet.Body.TheVariants.{Drawop, Request, Repair}
+use Rattle.srm_net.specs.declared.packet.Local.{Local}
 use Rattle.srm_net.specs.declared.packet.Packet.{Packet}
 use Rattle.srm_net.specs.Names.{name_cmp}
 use Rattle.srm_net.specs.Orders.{Ascends}
@@ -35,7 +36,7 @@ Drew m n ink rows = (r : Row) × Contains rows r × Draws m n ink r
 -- the packet carries n, from its source or as a repair
 abbrev pub Carries : Name → Body → Type 0
 Carries n (Drawop k ink) = k ≡ n
-Carries n (Repair k ink) = k ≡ n
+Carries n (Repair k ink local) = k ≡ n
 Carries n _ = ⊥
 
 -- a row in which member m tells this of a packet of n, which one of the rows sent
@@ -85,13 +86,14 @@ ExitsAreWhatRowsSay =
 -- a request is sent only for a name that its sender lost, and has not fixed
 abbrev pub RequestsAreForLosses : Type 0
 RequestsAreForLosses =
-    (s : Setting) (w : World) → IsFit s → IsReached s w → (before after : List Row) (r : Row) (p : Packet) (n : Name)
-    → w.trace ≡ before ++ r ∷ after → r.sent ≡ Some p → p.body ≡ Request n → Lacks p.id.sender n before
+    (s : Setting) (w : World) → IsFit s → IsReached s w
+    → (before after : List Row) (r : Row) (p : Packet) (n : Name) (scope : Option ℕ)
+    → w.trace ≡ before ++ r ∷ after → r.sent ≡ Some p → p.body ≡ Request n scope → Lacks p.id.sender n before
 
 -- a repair is sent only for a name that its sender drew or took in earlier, with the ink with which its source drew it
 abbrev pub RepairsAreOfHeld : Type 0
 RepairsAreOfHeld =
     (s : Setting) (w : World) → IsFit s → IsReached s w
-    → (before after : List Row) (r : Row) (p : Packet) (n : Name) (ink : ℕ)
-    → w.trace ≡ before ++ r ∷ after → r.sent ≡ Some p → p.body ≡ Repair n ink
+    → (before after : List Row) (r : Row) (p : Packet) (n : Name) (ink : ℕ) (local : Option Local)
+    → w.trace ≡ before ++ r ∷ after → r.sent ≡ Some p → p.body ≡ Repair n ink local
     → Got p.id.sender n before × Drew n.source n ink before

@@ -6,6 +6,7 @@ use Rattle.srm_net.specs.declared.rank.Rank.TheVariants.{Join, Draw}
 use Rattle.srm_net.specs.declared.role.Role.TheVariants.{Sender, Receiver}
 use Rattle.srm_scenario.specs.declared.mark.Mark.{Mark}
 use Rattle.srm_member.specs.declared.backoff.BackoffFactor.TheVariants.{Two}
+use Rattle.srm_member.specs.declared.steps.Steps.TheVariants.{One}
 use Rattle.srm_member.specs.declared.exit.Exit.{Exit}
 use Rattle.srm_member.specs.Intervals.{without_room}
 use Rattle.srm_cell.specs.Setting.{Setting}
@@ -40,6 +41,11 @@ one_loss until = record {
     d1 = without_room 1000;
     d2 = without_room 0;
     dist = if m == 0 then 0 ∷ 1 ∷ [] else 1 ∷ 0 ∷ [];
+    hops = if m == 0 then 0 ∷ 1 ∷ [] else 1 ∷ 0 ∷ [];
+    scope = 0;
+    widen = 0;
+    tries = 1;
+    steps = One;
     pages = [];
     seed = 42;
     stream = m + 1;

@@ -190,7 +190,7 @@ module _ (w : Network) (ps : List Position) (r : IsRooted w ps) where
     pub told : (x : ℕ) → x < w.nodes → IsHeld (at ps x) (at ps u) → (at ps n).place ≤ (at ps x).place
         → slice_get arrivals x ≡ Some (arrival w out u t x)
 
-  same_place : (x y : ℕ) → x < w.nodes → y < w.nodes → (at ps x).place ≡ (at ps y).place → x ≡ y
+  pub same_place : (x y : ℕ) → x < w.nodes → y < w.nodes → (at ps x).place ≡ (at ps y).place → x ≡ y
   same_place x y hx hy e = r.apart x y hx hy (sym (r.each x hx).place_is ∙ e ∙ (r.each y hy).place_is)
 
   pub climbed_none : (out : Stop → Bool) (u t : ℕ) (arrivals : List (Option ℕ)) → u < w.nodes → length arrivals ≡ w.nodes

@@ -1,6 +1,6 @@
 -- What the positions of a built tree give, and what comes to a link.
 use Rattle.std.proofs.Common.{arith}
-use Rattle.std.proofs.Common.{◌≡◌, ℕ, ◌+◌, ◌<◌, Bool, true, false, not, ◌&&◌, length, Some, sym, ap, ◌∙◌, subst}
+use Rattle.std.proofs.Common.{◌≡◌, ℕ, ◌+◌, ◌<◌, Bool, true, false, not, ◌&&◌, length, Some, None, sym, ap, ◌∙◌, subst}
 use Rattle.std.proofs.Common.{slice_get}
 use Rattle.std.specs.List.{list_any}
 use Rattle.srm_net.specs.declared.link.LinkSpec.{LinkSpec}
@@ -61,7 +61,7 @@ module _ (w : Network) (n : IsNetwork w) (l u near sent : ℕ) (any : Bool) (rul
   abbrev pub comes : Bool
   comes = any && not (list_any (takes_out rules p) (stops w.links u sent (route w u near)))
 
-  pub told_crossed : crosses w rules p sent l ≡ (not (takes_out rules p stop_there) && comes)
+  pub told_crossed : crosses w rules p sent None l ≡ (not (takes_out rules p stop_there) && comes)
   told_crossed =
       let k = below_get w.links l ht in
       let f = takes_out rules p in
@@ -71,7 +71,7 @@ module _ (w : Network) (n : IsNetwork w) (l u near sent : ℕ) (any : Bool) (rul
       ∙ ap (λ t. not (f (stop l (sent + delay_along w.links u (route w u t)))) &&
       (any && not (list_any f (stops w.links u sent (route w u t))))) (sym (nears k.0 k.1))
 
-  pub told_dropped : drops_at w rules p sent l ≡ (takes_out rules p stop_there && comes)
+  pub told_dropped : drops_at w rules p sent None l ≡ (takes_out rules p stop_there && comes)
   told_dropped =
       let k = below_get w.links l ht in
       let f = takes_out rules p in
@@ -82,10 +82,10 @@ module _ (w : Network) (n : IsNetwork w) (l u near sent : ℕ) (any : Bool) (rul
       (sym (nears k.0 k.1))
 
   -- at a link to which it comes
-  pub comes_there : comes ≡ true → (crosses w rules p sent l ≡ not (takes_out rules p stop_there))
-      × (drops_at w rules p sent l ≡ takes_out rules p stop_there)
+  pub comes_there : comes ≡ true → (crosses w rules p sent None l ≡ not (takes_out rules p stop_there))
+      × (drops_at w rules p sent None l ≡ takes_out rules p stop_there)
   comes_there h = grind (arith, told_crossed, told_dropped)
 
   -- and at one to which it does not
-  pub comes_not : comes ≡ false → (crosses w rules p sent l ≡ false) × (drops_at w rules p sent l ≡ false)
+  pub comes_not : comes ≡ false → (crosses w rules p sent None l ≡ false) × (drops_at w rules p sent None l ≡ false)
   comes_not h = grind (arith, told_crossed, told_dropped)

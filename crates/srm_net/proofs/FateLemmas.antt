@@ -1,6 +1,6 @@
 -- What becomes of packets that are not dropped, and which links are on members' ways.
 use Rattle.std.proofs.Common.{◌≡◌, ℕ, ◌+◌, ◌==◌, ◌<◌, ◌≤◌, Bool, true, false, cond, not, ◌&&◌, ◌||◌, List, [], ◌∷◌, length, Option, Some}
-use Rattle.std.proofs.Common.{None, refl, sym}
+use Rattle.std.proofs.Common.{None, refl, sym, zero, suc, take}
 use Rattle.std.proofs.Common.{ap, ◌∙◌, arith, slice_get, nat_lt, nat_le}
 use Rattle.std.specs.List.{list_any}
 use Rattle.std.proofs.lemmas.Bool.{or_parts, or_from}
@@ -11,7 +11,7 @@ use Rattle.srm_net.specs.declared.link.LossSpec.{LossSpec}
 use Rattle.srm_net.specs.declared.packet.PacketId.{PacketId}
 use Rattle.srm_net.specs.Network.{Network, IsNetwork}
 use Rattle.srm_net.specs.Paths.{is_in, host, delay_of, end_of, member_route, is_listed, Stop, stop, stops, takes_out}
-use Rattle.srm_net.specs.Paths.{crossed_on, dropped_on, reaches, crosses, drops_at}
+use Rattle.srm_net.specs.Paths.{crossed_on, dropped_on, hops, is_within, first, reaches, crosses, drops_at}
 use Rattle.srm_net.specs.DropRules.{DropRules, is_out, some_ends_after, may_drop}
 use Rattle.srm_net.specs.Listed.{is_listed_somewhere}
 use Rattle.srm_net.specs.Losses.{is_before_end, takes, is_lost, some_goes_on_after, deciding, loss_word, words_taking}
@@ -89,9 +89,28 @@ module _ (f : Stop → Bool) (sent : ℕ) (h : (s : Stop) → sent ≤ s.at → 
   dropped_never u t (m ∷ ls) l k =
       rw (h (stop m t) k) (dropped_never (end_of u (slice_get links m)) (t + delay_of u (slice_get links m)) ls l (omega arith))
 
+-- the first stops of a way are those of its first links
+take_stops : (links : List LinkSpec) (g u t : ℕ) (ls : List ℕ) → take g (stops links u t ls) ≡ stops links u t (take g ls)
+take_stops links zero u t ls = refl
+take_stops links (suc g) u t [] = refl
+take_stops links (suc g) u t (l ∷ ls) =
+    ap (λ ss. stop l t ∷ ss) (take_stops links g (end_of u (slice_get links l)) (t + delay_of u (slice_get links l)) ls)
+
+first_stops : (links : List LinkSpec) (scope : Option ℕ) (u t : ℕ) (ls : List ℕ)
+    → first scope (stops links u t ls) ≡ stops links u t (first scope ls)
+first_stops links None u t ls = refl
+first_stops links (Some g) u t ls = take_stops links g u t ls
+
 pub unlisted_reaches_all : UnlistedReachesAll
 unfolding reaches
-unlisted_reaches_all w rules p sent h m = grind (arith, none_stops, spared)
+unlisted_reaches_all w rules p sent h scope m =
+    ap (λ b. is_within scope (hops w p.sender m) && not b)
+    (none_stops (takes_out rules p) sent (spared rules p sent h) w.links (host w p.sender) sent (member_route w p.sender m) (omega arith))
+    ∙ and_true (is_within scope (hops w p.sender m))
+  where
+    and_true : (b : Bool) → (b && true) ≡ b
+    and_true true = refl
+    and_true false = refl
 
 pub unlisted_crosses_its_ways : UnlistedCrossesItsWays
 unfolding crosses is_on_way
@@ -99,7 +118,11 @@ unlisted_crosses_its_ways w rules p sent h l = grind (arith, crossed_all, spared
 
 pub unlisted_is_nowhere_dropped : UnlistedIsNowhereDropped
 unfolding drops_at
-unlisted_is_nowhere_dropped w rules p sent h l = grind (arith, none_below, dropped_never, spared)
+unlisted_is_nowhere_dropped w rules p sent h scope l =
+    none_below _ (length w.hosts) (λ m.
+    ap (λ ss. dropped_on (takes_out rules p) ss l) (first_stops w.links scope (host w p.sender) sent (member_route w p.sender m))
+    ∙ dropped_never (takes_out rules p) sent (spared rules p sent h) w.links (host w p.sender) sent
+    (first scope (member_route w p.sender m)) l (omega arith))
 
 -- ---- without outages and losses
 
@@ -128,11 +151,26 @@ module _ (drops : List DropSpec) (seed : ℕ) (p : PacketId) (links : List LinkS
 
 pub listed_alone_reaches : ListedAloneReaches
 unfolding reaches
-listed_alone_reaches w drops seed p sent m = ap not (any_listed drops seed p w.links (host w p.sender) sent (member_route w p.sender m))
+listed_alone_reaches w drops seed p sent scope m =
+    ap (λ b. is_within scope (hops w p.sender m) && not b)
+    (any_listed drops seed p w.links (host w p.sender) sent (member_route w p.sender m))
 
 pub listed_alone_at_any_time : ListedAloneAtAnyTime
 unfolding crosses drops_at
-listed_alone_at_any_time w drops seed p sent later l = grind (arith, crossed_any_time, dropped_any_time)
+listed_alone_at_any_time w drops seed p sent later scope l =
+    let out = takes_out (listed_alone drops seed) p in
+    let u = host w p.sender in
+    let way = λ (t m : ℕ). first scope (stops w.links u t (member_route w p.sender m)) in
+    let cut = λ (t m : ℕ). first_stops w.links scope u t (member_route w p.sender m) in (
+      some_same (λ m. crossed_on out (way sent m) l) (λ m. crossed_on out (way later m) l) (length w.hosts) (λ m _.
+          ap (λ ss. crossed_on out ss l) (cut sent m)
+          ∙ crossed_any_time drops seed p w.links u sent later (first scope (member_route w p.sender m)) l
+          ∙ sym (ap (λ ss. crossed_on out ss l) (cut later m))),
+      some_same (λ m. dropped_on out (way sent m) l) (λ m. dropped_on out (way later m) l) (length w.hosts) (λ m _.
+          ap (λ ss. dropped_on out ss l) (cut sent m)
+          ∙ dropped_any_time drops seed p w.links u sent later (first scope (member_route w p.sender m)) l
+          ∙ sym (ap (λ ss. dropped_on out ss l) (cut later m))),
+    )
 
 -- ---- a link on members' ways
 

@@ -1,7 +1,9 @@
 -- Links on the ways between members, which are the same for every member.
 use Rattle.std.proofs.Common.{◌≡◌, ℕ, zero, suc, ◌<◌, Bool, true, false, not, ◌&&◌, List, [], ◌∷◌, length, Some, refl, sym, ap, ◌∙◌, subst}
-use Rattle.std.proofs.Common.{inl, inr, arith, eq-eqb, cond, if◌then◌else◌, slice_get, slice_index_or, replicate}
+use Rattle.std.proofs.Common.{Option, None, IfSome, is_some, inl, inr, arith, eq-eqb, cond, if◌then◌else◌, slice_get, slice_index_or}
+use Rattle.std.proofs.Common.{replicate}
 use Rattle.std.specs.List.{list_all}
+use Rattle.std.specs.Option.{is_none}
 use Rattle.std.proofs.lemmas.Bool.{cases_Bool, and_parts, ne_eqb, false≢true}
 use Rattle.srm_net.specs.declared.link.LinkSpec.{LinkSpec}
 use Rattle.srm_net.specs.declared.net.Net.TheInside.{Inside}
@@ -12,7 +14,7 @@ use Rattle.srm_net.specs.Fates.{is_on_way, joins_members}
 use Rattle.srm_net.specs.Laws.{WaysTakeTheSameLinks, EverywhereCrossesTheSame, EverywhereIsNowhereDropped}
 use Rattle.srm_net.specs.Network.{Network, IsNetwork}
 use Rattle.srm_net.specs.Paths.{host, crosses, drops_at, some_below}
-use Rattle.srm_net.specs.Spreads.{PlainSpread, IsSpread, FitsIn, is_everywhere}
+use Rattle.srm_net.specs.Spreads.{PlainSpread, IsSpread, FitsIn, is_everywhere, TellsHops}
 use Rattle.srm_net.specs.Tables.{is_beyond, near_end, far_from, some_beyond}
 use Rattle.srm_net.specs.Told.{IsTold}
 use Rattle.srm_net.proofs.FateLemmas.{on_way_is}
@@ -98,14 +100,29 @@ all_there [] x h lt = absurd (omega arith)
 all_there (b ∷ bs) zero h lt = ap Some (and_parts b (list_all (λ b. b) bs) h).0
 all_there (b ∷ bs) (suc x) h lt = all_there bs x (and_parts b (list_all (λ b. b) bs) h).1 (omega arith)
 
+pub none_left : (o : Option ℕ) (b : Bool) → is_some o ≡ false → b ≡ (is_none o && b)
+none_left None b h = refl
+none_left (Some g) b h = absurd (false≢true (sym h))
+
 pub all_replicated : (n : ℕ) → true ≡ list_all (λ b. b) (replicate n true)
 all_replicated zero = refl
 all_replicated (suc n) = all_replicated n
 
-everywhere_there : (w : Network) → IsNetwork w → (rules : DropRules) (p : PacketId) (sent : ℕ) (s : PlainSpread) → IsSpread w rules p sent s
-    → is_everywhere s ≡ true → p.sender < length w.hosts → (l : ℕ) → l < length w.links
-    → (crosses w rules p sent l ≡ joins_members w l) × (drops_at w rules p sent l ≡ false)
-everywhere_there w n rules p sent s is all hs l lt =
+no_scope : (scope : Option ℕ) → is_none scope ≡ true → scope ≡ None
+no_scope None h = refl
+no_scope (Some g) h = absurd (false≢true h)
+
+-- where hops are told, they are of each node
+pub hops_long : (w : Network) (u : ℕ) (o : Option (List ℕ)) → IfSome o (TellsHops w u) → IfSome o (λ hs. length hs ≡ w.nodes)
+hops_long w u None h = tt
+hops_long w u (Some hs) h = h.nodes
+
+everywhere_there : (w : Network) → IsNetwork w → (rules : DropRules) (p : PacketId) (sent : ℕ) (scope : Option ℕ) (s : PlainSpread)
+    → IsSpread w rules p sent scope s → is_everywhere s ≡ true → p.sender < length w.hosts → (l : ℕ) → l < length w.links
+    → (crosses w rules p sent scope l ≡ joins_members w l) × (drops_at w rules p sent scope l ≡ false)
+everywhere_there w n rules p sent scope s is all hs l lt =
+    let both = and_parts (is_none s.scope) (list_all (λ b. b) s.comes) all in
+    let none : scope ≡ None = sym is.scope_is ∙ no_scope s.scope both.0 in
     let k = below_get w.links l lt in
     let own : s.sender < length w.hosts = subst (λ m. m < length w.hosts) (sym is.sender) hs in
     let u = host w s.sender in
@@ -113,17 +130,18 @@ everywhere_there w n rules p sent s is all hs l lt =
     let far = far_from k.0 near in
     let any = some_beyond w l k.0 u in
     let seen = seen_of w l k.0 k.1 u in
-    let fits : FitsIn w s = record { sender = own; nodes = is.nodes } in
+    let fits : FitsIn w s = record { sender = own; nodes = is.nodes; hops = hops_long w (host w p.sender) s.hops is.hops } in
     let ends : EndsOf w l u near far = seen_ends w n l u near far any (host_below w n s.sender own) seen in
     let there : (x : ℕ) → x < w.nodes → slice_get s.comes x ≡ Some true = λ x h.
-    all_there s.comes x all (subst (λ m. x < m) (sym is.nodes) h) in
+    all_there s.comes x both.1 (subst (λ m. x < m) (sym is.nodes) h) in
     let joins : any ≡ joins_members w l = beyond_joins w n l k.0 k.1 s.sender own in
-    elim (cases_Bool any) [
-      | inl h ↦ (let c = by_ends w n l u near far any seen s fits refl rules p sent is true true h (there near ends.near_in)
+    subst (λ g. (crosses w rules p sent g l ≡ joins_members w l) × (drops_at w rules p sent g l ≡ false)) (sym none)
+    (elim (cases_Bool any) [
+      | inl h ↦ (let c = by_ends w n l u near far any seen s fits refl rules p sent scope is true true h (there near ends.near_in)
           (there far ends.far_in) in
           (c.0 ∙ sym h ∙ joins, c.1))
-      | inr h ↦ (let c = not_beyond w n l u near far any seen s fits refl rules p sent is h in (c.0 ∙ sym h ∙ joins, c.1))
-    ]
+      | inr h ↦ (let c = not_beyond w n l u near far any seen s fits refl rules p sent scope is h in (c.0 ∙ sym h ∙ joins, c.1))
+    ])
 
 -- ---- a link between members
 
@@ -146,15 +164,15 @@ turned false false = refl
 
 -- a packet that comes to both ends crosses the link, and one that comes to one of them is dropped there
 pub by_both_ends : (w : Network) → IsNetwork w → (l : ℕ) (k : LinkSpec) → slice_get w.links l ≡ Some k → joins_members w l ≡ true
-    → (s : PlainSpread) → FitsIn w s → (rules : DropRules) (p : PacketId) (sent : ℕ) → IsSpread w rules p sent s
-    → (a b : Bool) → slice_get s.comes k.a ≡ Some a → slice_get s.comes k.b ≡ Some b
-    → (crosses w rules p sent l ≡ (a && b)) × (drops_at w rules p sent l ≡ cond a (not b) b)
-by_both_ends w n l k g joined s fits rules p sent is a b ha hb =
+    → (s : PlainSpread) → FitsIn w s → (rules : DropRules) (p : PacketId) (sent : ℕ) (scope : Option ℕ)
+    → IsSpread w rules p sent scope s → (a b : Bool) → slice_get s.comes k.a ≡ Some a → slice_get s.comes k.b ≡ Some b
+    → (crosses w rules p sent None l ≡ (a && b)) × (drops_at w rules p sent None l ≡ cond a (not b) b)
+by_both_ends w n l k g joined s fits rules p sent scope is a b ha hb =
     let u = host w s.sender in
     let near = near_end w l k u in
     let far = far_from k near in
     let any : some_beyond w l k u ≡ true = beyond_joins w n l k g s.sender fits.sender ∙ joined in
-    let ends = by_ends w n l u near far (some_beyond w l k u) (seen_of w l k g u) s fits refl rules p sent is in
+    let ends = by_ends w n l u near far (some_beyond w l k u) (seen_of w l k g u) s fits refl rules p sent scope is in
     elim (cases_Bool (is_beyond w l k u)) [
       | inl e ↦
           let near_is : near ≡ k.b = ap (λ t. if t then k.b else k.a) e in
@@ -170,7 +188,7 @@ by_both_ends w n l k g joined s fits rules p sent is a b ha hb =
     ]
 
 pub everywhere_crosses_the_same : EverywhereCrossesTheSame
-everywhere_crosses_the_same w n rules p sent s is all hs l lt = (everywhere_there w n rules p sent s is all hs l lt).0
+everywhere_crosses_the_same w n rules p sent scope s is all hs l lt = (everywhere_there w n rules p sent scope s is all hs l lt).0
 
 pub everywhere_is_nowhere_dropped : EverywhereIsNowhereDropped
-everywhere_is_nowhere_dropped w n rules p sent s is all hs l lt = (everywhere_there w n rules p sent s is all hs l lt).1
+everywhere_is_nowhere_dropped w n rules p sent scope s is all hs l lt = (everywhere_there w n rules p sent scope s is all hs l lt).1

@@ -1,8 +1,8 @@
 -- The laws of distances, of the least of them, and of drops.
 use Rattle.std.proofs.lemmas.Grind.{common_steps}
-use Rattle.std.proofs.Common.{◌≡◌, ◌≢◌, ◌⊎◌, ◌↔◌, ℕ, zero, suc, ◌+◌, ◌<◌, ◌≤◌, min, true, false, not, cond, ◌==◌, List, [], ◌∷◌}
-use Rattle.std.proofs.Common.{length, map, filter, fold, Some, None, refl, sym, ap, ◌∙◌, subst, inl, inr, arith, eqb, slice_get, All}
-use Rattle.std.proofs.Common.{Contains, Less, Equal, Greater}
+use Rattle.std.proofs.Common.{◌≡◌, ◌≢◌, ◌⊎◌, ◌↔◌, ℕ, zero, suc, ◌+◌, ◌<◌, ◌≤◌, min, true, false, not, cond, ◌==◌, ◌&&◌, List, [], ◌∷◌}
+use Rattle.std.proofs.Common.{length, map, filter, fold, Option, Some, None, refl, sym, ap, ◌∙◌, subst, inl, inr, arith, eqb, slice_get}
+use Rattle.std.proofs.Common.{All, Contains, Less, Equal, Greater}
 use Rattle.std.specs.List.{range_with_len, list_any}
 use Rattle.std.specs.Ordering.{ordering_reverse}
 use Rattle.std.specs.Cmp.{on_total}
@@ -17,7 +17,7 @@ use Rattle.srm_net.specs.Keys.{key_cmp}
 use Rattle.srm_net.specs.Names.{name_cmp, page_cmp, id_cmp, heard_cmp}
 use Rattle.srm_net.specs.Network.{Network, IsTree, IsWalk, IsAlike, HasDelays, IsNetwork}
 use Rattle.srm_net.specs.Paths.{is_in, route, host, member_route, delay_from, delay_along, distance, drop_cmp, is_listed, stops, takes_out}
-use Rattle.srm_net.specs.Paths.{reaches}
+use Rattle.srm_net.specs.Paths.{hops, is_within, reaches}
 use Rattle.srm_net.specs.Least.{least, lesser_delay, least_delay, others, out}
 use Rattle.srm_net.specs.Growth.{attached}
 use Rattle.srm_net.specs.Laws.{DistancesFit, AlikeBothWays, RoundsTurn, LeastDelayFits, NoLinkNoTwo, OutFits, OutOfTheOnlyOne}
@@ -245,9 +245,15 @@ out_of_the_only_one w m e b h =
 -- ---- reaching
 
 pub reaches_its_sender : ReachesItsSender
-unfolding reaches
-reaches_its_sender w rules p sent = ap (λ ls. not (list_any (takes_out rules p) (stops w.links (host w p.sender) sent ls)))
+unfolding reaches hops
+reaches_its_sender w rules p sent scope =
+    ap (λ ls. is_within scope (length ls) && not (list_any (takes_out rules p) (stops w.links (host w p.sender) sent ls)))
     (route_nowhere w (host w p.sender))
+    ∙ ap (λ b. b && true) (none_within scope)
+  where
+    none_within : (scope : Option ℕ) → is_within scope 0 ≡ true
+    none_within None = refl
+    none_within (Some g) = grind arith
 
 -- ---- sets of drops
 

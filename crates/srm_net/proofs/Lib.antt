@@ -24,6 +24,7 @@ pub mod LossLemmas
 pub mod OnePaths
 pub mod SpreadLemmas
 pub mod HopLemmas
+pub mod Scopes
 pub mod Rootings
 pub mod Subtrees
 pub mod Beyond
@@ -33,5 +34,7 @@ pub mod Firsts
 pub mod Meetings
 pub mod NodeOrder
 pub mod Arrivals
+pub mod HopTables
 pub mod HalfRoundLemmas
+pub mod HopListLemmas
 pub mod Joining

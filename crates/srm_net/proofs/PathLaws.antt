@@ -1,7 +1,7 @@
 -- Members' ways: their delays, and what crosses and is dropped on them.
 use Rattle.std.proofs.Common.{◌≡◌, ◌≢◌, ℕ, zero, suc, ◌+◌, ◌*◌, ◌<◌, ◌≤◌, Bool, true, false, not, cond, ◌&&◌, ◌||◌, List, [], ◌∷◌, ◌++◌}
 use Rattle.std.proofs.Common.{length, Some, refl, sym, ap, ◌∙◌, subst, inl, inr, arith, eqb, ◌==◌, eq-eqb, eqb-true, slice_get, slice_index}
-use Rattle.std.proofs.Common.{All, unwrap_or}
+use Rattle.std.proofs.Common.{All, unwrap_or, None}
 use Rattle.std.specs.List.{list_any}
 use Rattle.std.proofs.lemmas.Bool.{eqb-false, cases_Bool, both_ways, false≢true, or_parts}
 use Rattle.srm_net.specs.declared.link.LinkSpec.{LinkSpec}
@@ -291,12 +291,12 @@ stops_in links u t (k ∷ ks) l = ap (λ b. (k == l) || b)
     (stops_in links (end_of u (slice_get links k)) (t + delay_of u (slice_get links k)) ks l)
 
 -- a packet comes to a link of its way after the delays of the earlier ones
-record SplitsAt (links : List LinkSpec) (u t : ℕ) (xs ys : List ℕ) (l : ℕ) : Type 0 where
-  after : List Stop
-  in_after : (k : ℕ) → stops_at after k ≡ is_in ys k
-  is : stops links u t (xs ++ l ∷ ys) ≡ stops links u t xs ++ stop l (t + delay_along links u xs) ∷ after
+pub record SplitsAt (links : List LinkSpec) (u t : ℕ) (xs ys : List ℕ) (l : ℕ) : Type 0 where
+  pub after : List Stop
+  pub in_after : (k : ℕ) → stops_at after k ≡ is_in ys k
+  pub is : stops links u t (xs ++ l ∷ ys) ≡ stops links u t xs ++ stop l (t + delay_along links u xs) ∷ after
 
-split_at : (links : List LinkSpec) (u t : ℕ) (xs ys : List ℕ) (l : ℕ) → SplitsAt links u t xs ys l
+pub split_at : (links : List LinkSpec) (u t : ℕ) (xs ys : List ℕ) (l : ℕ) → SplitsAt links u t xs ys l
 split_at links u t [] ys l =
     let v = end_of u (slice_get links l) in
     let d = t + delay_of u (slice_get links l) in
@@ -316,13 +316,13 @@ split_at links u t (x ∷ xs) ys l =
 
 -- ---- crossed and dropped on a way
 
-crossed_absent : (f : Stop → Bool) (ss : List Stop) (l : ℕ) → stops_at ss l ≡ false → crossed_on f ss l ≡ false
+pub crossed_absent : (f : Stop → Bool) (ss : List Stop) (l : ℕ) → stops_at ss l ≡ false → crossed_on f ss l ≡ false
 crossed_absent f [] l n = refl
 crossed_absent f (s ∷ ss) l n =
     let p = or_parts (s.link == l) (stops_at ss l) n in
     rw (p.0, crossed_absent f ss l p.1) (elim (f s) as (λ b. (not b && false) ≡ false) [ true ↦ refl | false ↦ refl ])
 
-dropped_absent : (f : Stop → Bool) (ss : List Stop) (l : ℕ) → stops_at ss l ≡ false → dropped_on f ss l ≡ false
+pub dropped_absent : (f : Stop → Bool) (ss : List Stop) (l : ℕ) → stops_at ss l ≡ false → dropped_on f ss l ≡ false
 dropped_absent f [] l n = refl
 dropped_absent f (s ∷ ss) l n =
     let p = or_parts (s.link == l) (stops_at ss l) n in
@@ -457,7 +457,7 @@ module _ (w : Network) (n : IsNetwork w) (l : ℕ) (k : LinkSpec) (g : slice_get
   abbrev is_over : ℕ → Bool
   is_over m = cond (is_beyond w l k u) (not (is_beyond w l k (host w m))) (is_beyond w l k (host w m))
 
-  pub crosses_is : crosses w rules p sent l ≡ (not (out (near_stop w l k u sent)) && (some_beyond w l k u && is_free w l k out u sent))
+  pub crosses_is : crosses w rules p sent None l ≡ (not (out (near_stop w l k u sent)) && (some_beyond w l k u && is_free w l k out u sent))
   unfolding crosses
   crosses_is =
       some_same (λ m. crossed_on out (member_stops w p.sender sent m) l)
@@ -468,7 +468,7 @@ module _ (w : Network) (n : IsNetwork w) (l : ℕ) (k : LinkSpec) (g : slice_get
       (on_route w l k link_of u (host w m) (host_below w n p.sender h) hv))
       ∙ some_and (not (out (near_stop w l k u sent))) (is_free w l k out u sent) is_over (length w.hosts)
 
-  pub drops_is : drops_at w rules p sent l ≡ (out (near_stop w l k u sent) && (some_beyond w l k u && is_free w l k out u sent))
+  pub drops_is : drops_at w rules p sent None l ≡ (out (near_stop w l k u sent) && (some_beyond w l k u && is_free w l k out u sent))
   unfolding drops_at
   drops_is =
       some_same (λ m. dropped_on out (member_stops w p.sender sent m) l)

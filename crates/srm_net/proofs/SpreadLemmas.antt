@@ -11,11 +11,11 @@ use Rattle.srm_net.specs.declared.link.LinkSpec.{LinkSpec}
 use Rattle.srm_net.specs.declared.packet.PacketId.{PacketId}
 use Rattle.srm_net.specs.Network.{Network, Joins, IsWalk, IsTree, IsNetwork}
 use Rattle.srm_net.specs.Paths.{is_in, end_of, delay_of, delay_along, distance, host, route, Stop, stop, stops, takes_out}
-use Rattle.srm_net.specs.Paths.{reaches, crosses, drops_at}
+use Rattle.srm_net.specs.Paths.{hops, is_within, reaches, crosses, drops_at}
 use Rattle.srm_net.specs.DropRules.{DropRules, may_drop}
 use Rattle.srm_net.specs.Tables.{is_beyond, near_end, far_from, some_beyond}
 use Rattle.srm_net.specs.Rooting.{takes}
-use Rattle.srm_net.specs.Spreads.{comes_to, arrival, PlainSpread, TellsArrivals, IsSpread, FitsIn}
+use Rattle.srm_net.specs.Spreads.{comes_to, arrival, PlainSpread, TellsArrivals, IsSpread, FitsIn, TellsHops}
 use Rattle.srm_net.proofs.Lists.{below_get, get_below, get_index}
 use Rattle.srm_net.proofs.Numbers.{Apart, in_head, in_tail, in_cases, in_append_cases, not_in, apart_push, apart_from_distinct}
 use Rattle.srm_net.proofs.Walks.{turned, walk_last, same_link, same_far}
@@ -190,28 +190,28 @@ module _ (w : Network) (n : IsNetwork w) (l u near far : ℕ) (any : Bool) (seen
       let ends = seen_ends w n l u near far any hu seen in
       comes_next w n.tree (takes_out rules p) u sent far near l hu ends.far_in ends.near_in ends.back ends.leads
 
-  crossed_plain : crosses w rules p sent l ≡ (not (takes_out rules p (stop l (sent + delay_along w.links u (route w u near)))) &&
+  crossed_plain : crosses w rules p sent None l ≡ (not (takes_out rules p (stop l (sent + delay_along w.links u (route w u near)))) &&
       (any && comes_to w (takes_out rules p) u sent near))
   unfolding comes_to
   crossed_plain = told_crossed w n l u near sent any rules p seen.link hs e seen.nears seen.anys
 
-  dropped_plain : drops_at w rules p sent l ≡ (takes_out rules p (stop l (sent + delay_along w.links u (route w u near))) &&
+  dropped_plain : drops_at w rules p sent None l ≡ (takes_out rules p (stop l (sent + delay_along w.links u (route w u near))) &&
       (any && comes_to w (takes_out rules p) u sent near))
   unfolding comes_to
   dropped_plain = told_dropped w n l u near sent any rules p seen.link hs e seen.nears seen.anys
 
-  pub crossed_in : crosses w rules p sent l
+  pub crossed_in : crosses w rules p sent None l
       ≡ (any && (comes_to w (takes_out rules p) u sent near && comes_to w (takes_out rules p) u sent far))
   crossed_in = grind (arith, crossed_plain, over)
 
-  pub dropped_in : drops_at w rules p sent l
+  pub dropped_in : drops_at w rules p sent None l
       ≡ (any && (comes_to w (takes_out rules p) u sent near && not (comes_to w (takes_out rules p) u sent far)))
   dropped_in = grind (arith, dropped_plain, over)
 
 -- what a spread tells of a link
 module _ (w : Network) (n : IsNetwork w) (l u near far : ℕ) (any : Bool) (seen : SeenFrom w l u near far any) (s : PlainSpread)
     (fits : FitsIn w s) (e : u ≡ host w s.sender)
-    (rules : DropRules) (p : PacketId) (sent : ℕ) (is : IsSpread w rules p sent s) where
+    (rules : DropRules) (p : PacketId) (sent : ℕ) (scope : Option ℕ) (is : IsSpread w rules p sent scope s) where
   below : p.sender < length w.hosts
   below = subst (λ m. m < length w.hosts) is.sender fits.sender
 
@@ -224,7 +224,7 @@ module _ (w : Network) (n : IsNetwork w) (l u near far : ℕ) (any : Bool) (seen
   ends : EndsOf w l u near far
   ends = seen_ends w n l u near far any (subst (λ z. z < w.nodes) (sym home) (host_below w n p.sender below)) seen
 
-  pub not_beyond : any ≡ false → (crosses w rules p sent l ≡ false) × (drops_at w rules p sent l ≡ false)
+  pub not_beyond : any ≡ false → (crosses w rules p sent None l ≡ false) × (drops_at w rules p sent None l ≡ false)
   not_beyond h =
       let c = crossed_in w n l u near far any seen rules p sent below home in
       let d = dropped_in w n l u near far any seen rules p sent below home in (
@@ -234,7 +234,7 @@ module _ (w : Network) (n : IsNetwork w) (l u near far : ℕ) (any : Bool) (seen
 
   -- by whether it comes to the nearer end, and to the farther, which it comes to from there
   pub by_ends : (a b : Bool) → any ≡ true → slice_get s.comes near ≡ Some a → slice_get s.comes far ≡ Some b
-      → (crosses w rules p sent l ≡ (a && b)) × (drops_at w rules p sent l ≡ (a && not b)) × (b ≡ true → a ≡ true)
+      → (crosses w rules p sent None l ≡ (a && b)) × (drops_at w rules p sent None l ≡ (a && not b)) × (b ≡ true → a ≡ true)
   by_ends a b h g f =
       let q = read near a ends.near_in g in
       let r = read far b ends.far_in f in
@@ -263,12 +263,12 @@ seen_of w l k g u =
 -- where nobody is beyond a link from the sender's node, the packet does not cross it, and is not dropped there
 pub nobody_beyond : (w : Network) → IsNetwork w → (l : ℕ) → l < length w.links → (s : PlainSpread) → FitsIn w s
     → ((k : LinkSpec) → slice_get w.links l ≡ Some k → some_beyond w l k (host w s.sender) ≡ false)
-    → (rules : DropRules) (p : PacketId) (sent : ℕ) → IsSpread w rules p sent s
-    → (crosses w rules p sent l ≡ false) × (drops_at w rules p sent l ≡ false)
-nobody_beyond w n l lt s fits none rules p sent is =
+    → (rules : DropRules) (p : PacketId) (sent : ℕ) (scope : Option ℕ) → IsSpread w rules p sent scope s
+    → (crosses w rules p sent None l ≡ false) × (drops_at w rules p sent None l ≡ false)
+nobody_beyond w n l lt s fits none rules p sent scope is =
     let k = below_get w.links l lt in
     let u = host w s.sender in
-    not_beyond w n l u _ _ (some_beyond w l k.0 u) (seen_of w l k.0 k.1 u) s fits refl rules p sent is (none k.0 k.1)
+    not_beyond w n l u _ _ (some_beyond w l k.0 u) (seen_of w l k.0 k.1 u) s fits refl rules p sent scope is (none k.0 k.1)
 
 -- ---- a packet that may not be dropped
 
@@ -288,14 +288,18 @@ get_all zero b x h = absurd (omega arith)
 get_all (suc n) b zero h = refl
 get_all (suc n) b (suc x) h = get_all n b x (omega arith)
 
-pub spread_everywhere : (w : Network) (rules : DropRules) (p : PacketId) (sent n : ℕ) → may_drop rules p sent ≡ false → n ≡ w.nodes
-    → IsSpread w rules p sent (record { sender = p.sender; comes = replicate n true; arrivals = None })
-spread_everywhere w rules p sent n h e = record {
+pub spread_everywhere : (w : Network) (rules : DropRules) (p : PacketId) (sent : ℕ) (scope : Option ℕ) (n : ℕ)
+    → may_drop rules p sent ≡ false → n ≡ w.nodes
+    → IsSpread w rules p sent scope (record
+    { sender = p.sender; scope = scope; comes = replicate n true; arrivals = None; hops = None })
+spread_everywhere w rules p sent scope n h e = record {
   sender = refl;
+  scope_is = refl;
   nodes = length-replicate n true ∙ e;
   each = λ x lt.
       get_all n true x (subst (λ m. x < m) (sym e) lt) ∙ ap Some (sym (comes_everywhere w rules p sent (host w p.sender) x h));
   arrivals = tt;
+  hops = tt;
 }
 
 is_some_if : (b : Bool) (n : ℕ) → is_some (if b then Some n else None) ≡ b
@@ -304,44 +308,61 @@ is_some_if false n = refl
 
 -- ---- a packet of which it is told when it comes to each node
 
-pub spread_told : (w : Network) (rules : DropRules) (p : PacketId) (sent : ℕ) (arrivals : List (Option ℕ))
-    → TellsArrivals w (takes_out rules p) (host w p.sender) sent arrivals
-    → IsSpread w rules p sent (record { sender = p.sender; comes = map is_some arrivals; arrivals = Some arrivals })
-spread_told w rules p sent arrivals told = record {
+pub spread_told : (w : Network) (rules : DropRules) (p : PacketId) (sent : ℕ) (scope : Option ℕ) (arrivals : List (Option ℕ))
+    (hops : Option (List ℕ))
+    → TellsArrivals w (takes_out rules p) (host w p.sender) sent arrivals → IfSome hops (TellsHops w (host w p.sender))
+    → IsSpread w rules p sent scope
+    (record { sender = p.sender; scope = scope; comes = map is_some arrivals; arrivals = Some arrivals; hops = hops })
+spread_told w rules p sent scope arrivals hops told counted = record {
   sender = refl;
+  scope_is = refl;
   nodes = length-map arrivals is_some ∙ told.nodes;
   each = λ x lt.
       slice_get-map is_some arrivals x ∙ ap (option_map is_some) (told.each x lt)
       ∙ ap Some (is_some_if (comes_to w (takes_out rules p) (host w p.sender) sent x) (sent + takes w (host w p.sender) x));
   arrivals = told;
+  hops = counted;
 }
 
 -- ---- what a spread tells of a member
 
-pub reached_there : (w : Network) (s : PlainSpread) (rules : DropRules) (p : PacketId) (sent : ℕ) → IsSpread w rules p sent s
-    → (m x : ℕ) (b : Bool) → x ≡ host w m → x < w.nodes → slice_get s.comes x ≡ Some b
-    → b ≡ reaches w rules p sent m
-unfolding comes_to reaches
-reached_there w s rules p sent is m x b e lt g = grind arith
+-- a packet reaches a member within its scope where it would without scope
+pub reaches_within : (w : Network) (rules : DropRules) (p : PacketId) (sent : ℕ) (scope : Option ℕ) (m : ℕ)
+    → reaches w rules p sent scope m ≡ (is_within scope (hops w p.sender m) && reaches w rules p sent None m)
+unfolding reaches
+reaches_within w rules p sent scope m = refl
 
-pub arrival_told : (w : Network) (s : PlainSpread) (rules : DropRules) (p : PacketId) (sent : ℕ) → IsSpread w rules p sent s
-    → (arrivals : List (Option ℕ)) → s.arrivals ≡ Some arrivals → (m x : ℕ) → x ≡ host w m → x < w.nodes
-    → slice_index_or arrivals x None ≡ (if reaches w rules p sent m then Some (sent + distance w p.sender m) else None)
+-- and so it is told
+pub reaches_by : (w : Network) (rules : DropRules) (p : PacketId) (sent : ℕ) (scope : Option ℕ) (m : ℕ) (b : Bool)
+    → b ≡ is_within scope (hops w p.sender m) → reaches w rules p sent scope m ≡ (b && reaches w rules p sent None m)
+reaches_by w rules p sent scope m b told =
+    reaches_within w rules p sent scope m ∙ ap (λ c. c && reaches w rules p sent None m) (sym told)
+
+pub reached_there : (w : Network) (s : PlainSpread) (rules : DropRules) (p : PacketId) (sent : ℕ) (scope : Option ℕ)
+    → IsSpread w rules p sent scope s → (m x : ℕ) (b : Bool) → x ≡ host w m → x < w.nodes → slice_get s.comes x ≡ Some b
+    → b ≡ reaches w rules p sent None m
+unfolding comes_to reaches
+reached_there w s rules p sent scope is m x b e lt g = grind arith
+
+pub arrival_told : (w : Network) (s : PlainSpread) (rules : DropRules) (p : PacketId) (sent : ℕ) (scope : Option ℕ)
+    → IsSpread w rules p sent scope s → (arrivals : List (Option ℕ)) → s.arrivals ≡ Some arrivals → (m x : ℕ) → x ≡ host w m
+    → x < w.nodes
+    → slice_index_or arrivals x None ≡ (if reaches w rules p sent None m then Some (sent + distance w p.sender m) else None)
 unfolding comes_to reaches distance
-arrival_told w s rules p sent is arrivals h m x e lt =
+arrival_told w s rules p sent scope is arrivals h m x e lt =
     let out = takes_out rules p in
     let u = host w p.sender in
     let told : TellsArrivals w out u sent arrivals = subst (λ o. IfSome o (TellsArrivals w out u sent)) h is.arrivals in
     get_index arrivals x _ None (told.each x lt) ∙ ap (arrival w out u sent) e
 
-pub arrival_everywhere : (w : Network) → IsNetwork w → (s : PlainSpread) (rules : DropRules) (p : PacketId) (sent : ℕ)
-    → IsSpread w rules p sent s → (n : ℕ) → s.comes ≡ replicate n true → (m : ℕ) → m < length w.hosts
+pub arrival_everywhere : (w : Network) → IsNetwork w → (s : PlainSpread) (rules : DropRules) (p : PacketId) (sent : ℕ) (scope : Option ℕ)
+    → IsSpread w rules p sent scope s → (n : ℕ) → s.comes ≡ replicate n true → (m : ℕ) → m < length w.hosts
     → Some (sent + distance w s.sender m)
-    ≡ (if reaches w rules p sent m then Some (sent + distance w p.sender m) else None)
-arrival_everywhere w net s rules p sent is n all m lt =
+    ≡ (if reaches w rules p sent None m then Some (sent + distance w p.sender m) else None)
+arrival_everywhere w net s rules p sent scope is n all m lt =
     let x = host w m in
     let below : x < w.nodes = host_below w net m lt in
     let long : n ≡ w.nodes = sym (length-replicate n true) ∙ ap length (sym all) ∙ is.nodes in
     let there = ap (λ bs. slice_get bs x) all ∙ get_all n true x (subst (λ k. x < k) (sym long) below) in
     ap (λ a. Some (sent + distance w a m)) is.sender
-    ∙ ap (λ b. if b then Some (sent + distance w p.sender m) else None) (reached_there w s rules p sent is m x true refl below there)
+    ∙ ap (λ b. if b then Some (sent + distance w p.sender m) else None) (reached_there w s rules p sent scope is m x true refl below there)

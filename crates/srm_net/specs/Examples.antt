@@ -39,7 +39,11 @@ slow_link a b = record { a = a; b = b; delay = 5; back = 5 }
 abbrev pub slow_chain : Network
 slow_chain = record { nodes = 3; links = slow_link 0 1 ∷ slow_link 1 2 ∷ []; hosts = 0 ∷ 1 ∷ 2 ∷ [] }
 
--- the same with links that take 1 tick from the node in the middle and 3 to it
+-- the same with members on the nodes at its two ends alone
+abbrev pub long_way : Network
+long_way = record { nodes = 3; links = slow_link 0 1 ∷ slow_link 1 2 ∷ []; hosts = 0 ∷ 2 ∷ [] }
+
+-- a chain of three nodes whose links take 1 tick from the node in the middle and 3 to it, with a member on each
 abbrev pub turned_chain : Network
 turned_chain = record { nodes = 3; links = uneven_link 1 0 ∷ uneven_link 1 2 ∷ []; hosts = 0 ∷ 1 ∷ 2 ∷ [] }
 

@@ -1,6 +1,6 @@
 -- What holds of every network, and of the orders.
 use Rattle.std.specs.Prelude.{◌≡◌, ◌≢◌, ◌↔◌, ℕ, ◌+◌, ◌/◌, ◌<◌, ◌≤◌, true, false, not, All, Contains, List, [], ◌∷◌}
-use Rattle.std.specs.Prelude.{◌++◌, length, Option, Some, None, ◌&&◌, nat_lt}
+use Rattle.std.specs.Prelude.{◌++◌, length, Option, Some, None, ◌&&◌, nat_lt, min, drop}
 use Rattle.std.specs.List.{list_any}
 use Rattle.std.specs.declared.cmp.Ordering.{Ordering}
 use Rattle.std.specs.declared.cmp.Ordering.TheVariants.{Equal}
@@ -14,7 +14,8 @@ use Rattle.srm_net.specs.declared.link.LinkSpec.{LinkSpec}
 use Rattle.srm_net.specs.Network.{Network, IsPath, IsTree, IsAlike, IsNetwork}
 use Rattle.srm_net.specs.Paths.{route, member_route, distance, round, hops, drop_cmp, is_listed, reaches, crosses}
 use Rattle.srm_net.specs.Paths.{drops_at}
-use Rattle.srm_net.specs.Paths.{Stop, stop, takes_out}
+use Rattle.srm_net.specs.Paths.{Stop, stop, takes_out, is_within, first, member_stops, crossed_on, dropped_on}
+use Rattle.srm_net.specs.Paths.{some_below}
 use Rattle.srm_net.specs.DropRules.{DropRules, is_out, may_drop, with_seed}
 use Rattle.srm_net.specs.Losses.{is_on, takes, loss_word, words_taking}
 use Rattle.srm_net.specs.Fates.{is_on_way, joins_members}
@@ -105,25 +106,28 @@ OutOfTheOnlyOne = (w : Network) (m : ℕ) → out w m ≡ None → (b : ℕ) →
 
 -- a packet reaches its sender
 abbrev pub ReachesItsSender : Type 0
-ReachesItsSender = (w : Network) (rules : DropRules) (p : PacketId) (sent : ℕ) → reaches w rules p sent p.sender ≡ true
+ReachesItsSender =
+    (w : Network) (rules : DropRules) (p : PacketId) (sent : ℕ) (scope : Option ℕ)
+    → reaches w rules p sent scope p.sender ≡ true
 
 -- a packet that no link is listed for, and that is sent when no outage or loss is yet to end, reaches every member
+-- within its scope
 abbrev pub UnlistedReachesAll : Type 0
 UnlistedReachesAll =
     (w : Network) (rules : DropRules) (p : PacketId) (sent : ℕ) → may_drop rules p sent ≡ false
-    → (m : ℕ) → reaches w rules p sent m ≡ true
+    → (scope : Option ℕ) (m : ℕ) → reaches w rules p sent scope m ≡ is_within scope (hops w p.sender m)
 
--- it crosses the links on the ways from its sender to members, and no other
+-- without scope it crosses the links on the ways from its sender to members, and no other
 abbrev pub UnlistedCrossesItsWays : Type 0
 UnlistedCrossesItsWays =
     (w : Network) (rules : DropRules) (p : PacketId) (sent : ℕ) → may_drop rules p sent ≡ false
-    → (l : ℕ) → crosses w rules p sent l ≡ is_on_way w p.sender l
+    → (l : ℕ) → crosses w rules p sent None l ≡ is_on_way w p.sender l
 
 -- and is dropped nowhere
 abbrev pub UnlistedIsNowhereDropped : Type 0
 UnlistedIsNowhereDropped =
     (w : Network) (rules : DropRules) (p : PacketId) (sent : ℕ) → may_drop rules p sent ≡ false
-    → (l : ℕ) → drops_at w rules p sent l ≡ false
+    → (scope : Option ℕ) (l : ℕ) → drops_at w rules p sent scope l ≡ false
 
 -- the links on the ways of a member are those on the ways between any two members: the same for every member
 abbrev pub WaysTakeTheSameLinks : Type 0
@@ -131,19 +135,61 @@ WaysTakeTheSameLinks =
     (w : Network) → IsNetwork w → (a l : ℕ) → a < length w.hosts → l < length w.links
     → is_on_way w a l ≡ joins_members w l
 
--- a packet that comes to every node crosses the links on the ways between members, and no other
+-- a packet without scope that comes to every node crosses the links on the ways between members, and no other
 abbrev pub EverywhereCrossesTheSame : Type 0
 EverywhereCrossesTheSame =
-    (w : Network) → IsNetwork w → (rules : DropRules) (p : PacketId) (sent : ℕ) (s : PlainSpread)
-    → IsSpread w rules p sent s → is_everywhere s ≡ true → p.sender < length w.hosts
-    → (l : ℕ) → l < length w.links → crosses w rules p sent l ≡ joins_members w l
+    (w : Network) → IsNetwork w → (rules : DropRules) (p : PacketId) (sent : ℕ) (scope : Option ℕ) (s : PlainSpread)
+    → IsSpread w rules p sent scope s → is_everywhere s ≡ true → p.sender < length w.hosts
+    → (l : ℕ) → l < length w.links → crosses w rules p sent scope l ≡ joins_members w l
 
 -- and is dropped nowhere
 abbrev pub EverywhereIsNowhereDropped : Type 0
 EverywhereIsNowhereDropped =
-    (w : Network) → IsNetwork w → (rules : DropRules) (p : PacketId) (sent : ℕ) (s : PlainSpread)
-    → IsSpread w rules p sent s → is_everywhere s ≡ true → p.sender < length w.hosts
-    → (l : ℕ) → l < length w.links → drops_at w rules p sent l ≡ false
+    (w : Network) → IsNetwork w → (rules : DropRules) (p : PacketId) (sent : ℕ) (scope : Option ℕ) (s : PlainSpread)
+    → IsSpread w rules p sent scope s → is_everywhere s ≡ true → p.sender < length w.hosts
+    → (l : ℕ) → l < length w.links → drops_at w rules p sent scope l ≡ false
+
+-- ---- scopes
+
+-- a scope leaves of a way its first links, and of a way that is no longer the whole
+abbrev pub ScopesLeaveTheFirst : Type 0
+ScopesLeaveTheFirst =
+    (ls : List ℕ) (g : ℕ)
+    → (first (Some g) ls ++ drop g ls ≡ ls) × (length (first (Some g) ls) ≡ min g (length ls))
+
+-- without scope a packet reaches a member where no link of the way takes it out, and crosses links and is dropped at
+-- links of the whole ways to members
+abbrev pub NoScopeEndsNoWay : Type 0
+NoScopeEndsNoWay =
+    (w : Network) (rules : DropRules) (p : PacketId) (sent : ℕ)
+    → ((m : ℕ) → reaches w rules p sent None m ≡ not (list_any (takes_out rules p) (member_stops w p.sender sent m)))
+    × ((l : ℕ) → crosses w rules p sent None l
+    ≡ some_below (λ m. crossed_on (takes_out rules p) (member_stops w p.sender sent m) l) (length w.hosts))
+    × ((l : ℕ) → drops_at w rules p sent None l
+    ≡ some_below (λ m. dropped_on (takes_out rules p) (member_stops w p.sender sent m) l) (length w.hosts))
+
+-- what is within a scope is within another
+abbrev pub IsNoWider : Option ℕ → Option ℕ → Type 0
+IsNoWider g h = (n : ℕ) → is_within g n ≡ true → is_within h n ≡ true
+
+-- with a scope that is no wider a packet reaches no other members, crosses no other links, and is dropped at no others
+abbrev pub NarrowScopesTakePart : Type 0
+NarrowScopesTakePart =
+    (w : Network) (rules : DropRules) (p : PacketId) (sent : ℕ) (g h : Option ℕ) → IsNoWider g h
+    → ((m : ℕ) → reaches w rules p sent g m ≡ true → reaches w rules p sent h m ≡ true)
+    × ((l : ℕ) → crosses w rules p sent g l ≡ true → crosses w rules p sent h l ≡ true)
+    × ((l : ℕ) → drops_at w rules p sent g l ≡ true → drops_at w rules p sent h l ≡ true)
+
+-- where every member is within its scope, a packet has the fate of one without
+abbrev pub WideScopesDecideNothing : Type 0
+WideScopesDecideNothing =
+    (w : Network) (rules : DropRules) (p : PacketId) (sent : ℕ) (scope : Option ℕ)
+    → ((m : ℕ) → m < length w.hosts → is_within scope (hops w p.sender m) ≡ true)
+    → ((m : ℕ) → m < length w.hosts → reaches w rules p sent scope m ≡ reaches w rules p sent None m)
+    × ((l : ℕ) → crosses w rules p sent scope l ≡ crosses w rules p sent None l)
+    × ((l : ℕ) → drops_at w rules p sent scope l ≡ drops_at w rules p sent None l)
+
+-- ---- what decides
 
 -- lists with the same drops list the same
 abbrev pub SameDropsListed : Type 0
@@ -161,19 +207,20 @@ SameOutagesOut =
 abbrev pub listed_alone : List DropSpec → ℕ → DropRules
 listed_alone drops seed = record { listed = drops; outages = []; losses = []; seed = seed }
 
--- without outages and losses a packet reaches a member exactly where no link of the way is listed for it, whenever it
--- is sent
+-- without outages and losses a packet reaches a member exactly where that is within its scope and no link of the way is
+-- listed for it, whenever it is sent
 abbrev pub ListedAloneReaches : Type 0
 ListedAloneReaches =
-    (w : Network) (drops : List DropSpec) (seed : ℕ) (p : PacketId) (sent m : ℕ)
-    → reaches w (listed_alone drops seed) p sent m ≡ not (list_any (is_listed drops p) (member_route w p.sender m))
+    (w : Network) (drops : List DropSpec) (seed : ℕ) (p : PacketId) (sent : ℕ) (scope : Option ℕ) (m : ℕ)
+    → reaches w (listed_alone drops seed) p sent scope m
+    ≡ (is_within scope (hops w p.sender m) && not (list_any (is_listed drops p) (member_route w p.sender m)))
 
 -- without outages and losses, a packet crosses the same links and is dropped at the same, whenever it is sent
 abbrev pub ListedAloneAtAnyTime : Type 0
 ListedAloneAtAnyTime =
-    (w : Network) (drops : List DropSpec) (seed : ℕ) (p : PacketId) (sent later l : ℕ)
-    → (crosses w (listed_alone drops seed) p sent l ≡ crosses w (listed_alone drops seed) p later l)
-    × (drops_at w (listed_alone drops seed) p sent l ≡ drops_at w (listed_alone drops seed) p later l)
+    (w : Network) (drops : List DropSpec) (seed : ℕ) (p : PacketId) (sent later : ℕ) (scope : Option ℕ) (l : ℕ)
+    → (crosses w (listed_alone drops seed) p sent scope l ≡ crosses w (listed_alone drops seed) p later scope l)
+    × (drops_at w (listed_alone drops seed) p sent scope l ≡ drops_at w (listed_alone drops seed) p later scope l)
 
 -- with these outages and losses besides
 abbrev pub with_more : List OutageSpec → List LossSpec → DropRules → DropRules

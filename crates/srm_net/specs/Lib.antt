@@ -2,6 +2,7 @@ pub mod Limits
 pub mod Orders
 pub mod Keys
 pub mod Names
+pub mod Scopes
 pub mod Roles
 pub mod Network
 pub mod Listed

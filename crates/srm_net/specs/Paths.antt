@@ -1,6 +1,7 @@
 -- Routes between nodes and between members, and what becomes of a packet on them.
-use Rattle.std.specs.Prelude.{ℕ, zero, suc, ◌+◌, ◌/◌, Bool, false, not, ◌&&◌, ◌||◌, List, [], ◌∷◌, Option}
-use Rattle.std.specs.Prelude.{Some, None, map, unwrap_or, length, slice_get, slice_index, ◌==◌, if◌then◌else◌}
+use Rattle.std.specs.Prelude.{ℕ, zero, suc, ◌+◌, ◌/◌, Bool, true, false, not, ◌&&◌, ◌||◌, List, [], ◌∷◌, Option}
+use Rattle.std.specs.Prelude.{Some, None, map, unwrap_or, length, take, slice_get, slice_index, ◌==◌, nat_le}
+use Rattle.std.specs.Prelude.{if◌then◌else◌}
 use Rattle.std.specs.List.{list_any, range_with_len}
 use Rattle.std.specs.Option.{option_or, option_map}
 use Rattle.std.specs.declared.cmp.Ordering.{Ordering}
@@ -94,6 +95,22 @@ hops w a b = hops_between w (host w a) (host w b)
 abbrev pub half_rounds_from : Network → ℕ → List ℕ
 half_rounds_from w m = map (λ b. round w m b / 2) (range_with_len 0 (length w.hosts))
 
+-- how many hops each member in turn is from a member
+abbrev pub hops_from : Network → ℕ → List ℕ
+hops_from w m = map (λ b. hops w m b) (range_with_len 0 (length w.hosts))
+
+-- ---- scopes
+
+-- whether so many links are within a scope, which is the greatest number that is, or none where all are
+abbrev pub is_within : Option ℕ → ℕ → Bool
+is_within None n = true
+is_within (Some g) n = nat_le n g
+
+-- what a scope leaves of a way: so many of its first links, or the whole way where there is no scope
+abbrev pub first : {A : Type 0} → Option ℕ → List A → List A
+first None xs = xs
+first (Some g) xs = take g xs
+
 -- ---- drops
 
 -- drops are compared by link, sender and count
@@ -132,9 +149,11 @@ takes_out rules p s =
     is_listed rules.listed p s.link
     || (is_out rules.outages s.link s.at || is_lost rules.losses rules.seed p s.link s.at)
 
--- whether packet p, sent at this tick, reaches member m: no link of the way from its sender takes it out
-unfoldable pub reaches : Network → DropRules → PacketId → ℕ → ℕ → Bool
-reaches w rules p sent m = not (list_any (takes_out rules p) (member_stops w p.sender sent m))
+-- whether packet p of this scope, sent at this tick, reaches member m: the member is within the scope, and no link of
+-- the way from its sender takes it out
+unfoldable pub reaches : Network → DropRules → PacketId → ℕ → Option ℕ → ℕ → Bool
+reaches w rules p sent scope m =
+    is_within scope (hops w p.sender m) && not (list_any (takes_out rules p) (member_stops w p.sender sent m))
 
 -- whether link l is on the way, and neither it nor an earlier link of the way takes the packet out
 abbrev pub crossed_on : (Stop → Bool) → List Stop → ℕ → Bool
@@ -151,13 +170,14 @@ abbrev pub some_below : (ℕ → Bool) → ℕ → Bool
 some_below test zero = false
 some_below test (suc n) = test n || some_below test n
 
--- whether packet p, sent at this tick, crosses link l on its way to some member, whether or not that member is present
-unfoldable pub crosses : Network → DropRules → PacketId → ℕ → ℕ → Bool
-crosses w rules p sent l =
-    some_below (λ m. crossed_on (takes_out rules p) (member_stops w p.sender sent m) l) (length w.hosts)
+-- whether packet p of this scope, sent at this tick, crosses link l on its way to some member, as far as the scope
+-- goes, whether or not that member is within it or present
+unfoldable pub crosses : Network → DropRules → PacketId → ℕ → Option ℕ → ℕ → Bool
+crosses w rules p sent scope l =
+    some_below (λ m. crossed_on (takes_out rules p) (first scope (member_stops w p.sender sent m)) l) (length w.hosts)
 
--- whether packet p, sent at this tick, is dropped at link l on its way to some member, whether or not that member is
--- present
-unfoldable pub drops_at : Network → DropRules → PacketId → ℕ → ℕ → Bool
-drops_at w rules p sent l =
-    some_below (λ m. dropped_on (takes_out rules p) (member_stops w p.sender sent m) l) (length w.hosts)
+-- whether packet p of this scope, sent at this tick, is dropped at link l on its way to some member, as far as the
+-- scope goes, whether or not that member is within it or present
+unfoldable pub drops_at : Network → DropRules → PacketId → ℕ → Option ℕ → ℕ → Bool
+drops_at w rules p sent scope l =
+    some_below (λ m. dropped_on (takes_out rules p) (first scope (member_stops w p.sender sent m)) l) (length w.hosts)

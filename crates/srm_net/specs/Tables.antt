@@ -1,9 +1,9 @@
 -- What the tables of a network tell.
-use Rattle.std.specs.Prelude.{◌≡◌, ℕ, ◌<◌, Bool, not, List, Option, Some, length, slice_get, ◌==◌, if◌then◌else◌}
+use Rattle.std.specs.Prelude.{◌≡◌, ℕ, ◌<◌, max, Bool, not, List, Option, Some, length, slice_get, ◌==◌, if◌then◌else◌}
 use Rattle.srm_net.specs.declared.link.LinkSpec.{LinkSpec}
 use Rattle.srm_net.specs.declared.sides.Sides.{Sides}
 use Rattle.srm_net.specs.Network.{Network}
-use Rattle.srm_net.specs.Paths.{is_in, route, host, some_below}
+use Rattle.srm_net.specs.Paths.{is_in, route, hops_between, is_within, host, some_below}
 use Rattle.srm_net.specs.Least.{out}
 
 -- whether node x is beyond link l, this link, as seen from the link's end a
@@ -13,6 +13,10 @@ is_beyond w l k x = is_in (route w k.a x) l
 -- the end of a link that is nearer to node u
 abbrev pub near_end : Network → ℕ → LinkSpec → ℕ → ℕ
 near_end w l k u = if is_beyond w l k u then k.b else k.a
+
+-- whether the farther end of a link is within a scope of node u
+abbrev pub covers : Network → Option ℕ → ℕ → LinkSpec → Bool
+covers w scope u k = is_within scope (max (hops_between w u k.a) (hops_between w u k.b))
 
 -- the end of a link other than this one
 abbrev pub far_from : LinkSpec → ℕ → ℕ

@@ -10,14 +10,17 @@ ghost use Rattle.srm_net.specs.Names.{name_cmp, page_cmp, id_cmp, heard_cmp};
 ghost use Rattle.srm_net.specs.Paths.{distance, round, hops, reaches, crosses, drops_at};
 ghost use Rattle.srm_net.specs.Least.{least_delay, out};
 ghost use Rattle.srm_net.specs.Examples.{tree_of_eight, uneven_chain, lone_node};
-ghost use Rattle.srm_net.specs.Examples.{slow_chain, turned_chain, outage_of_link_1, loss_of_link_1, packet_of_member_0};
+ghost use Rattle.srm_net.specs.Examples.{slow_chain, long_way, turned_chain, outage_of_link_1, loss_of_link_1, packet_of_member_0};
 ghost use Rattle.srm_net.specs.Losses.{deciding, loss_word};
-ghost use Rattle.srm_net.specs.Laws.{OnePath, TreesHaveOnePath, DistancesFit, AlikeBothWays, RoundsTurn, LeastDelayFits, NoLinkNoTwo, OutFits, OutOfTheOnlyOne};
+ghost use Rattle.srm_net.specs.Laws.{OnePath, TreesHaveOnePath, DistancesFit, AlikeBothWays, RoundsTurn};
+ghost use Rattle.srm_net.specs.Laws.{LeastDelayFits, NoLinkNoTwo, OutFits, OutOfTheOnlyOne};
 ghost use Rattle.srm_net.specs.Laws.{HopsTurn, HopsMeetTheTriangle, HopsFit};
 ghost use Rattle.srm_net.specs.Laws.{ReachesItsSender, UnlistedReachesAll, UnlistedCrossesItsWays, UnlistedIsNowhereDropped};
 ghost use Rattle.srm_net.specs.Laws.{WaysTakeTheSameLinks, EverywhereCrossesTheSame, EverywhereIsNowhereDropped};
+ghost use Rattle.srm_net.specs.Laws.{ScopesLeaveTheFirst, NoScopeEndsNoWay, NarrowScopesTakePart, WideScopesDecideNothing};
 ghost use Rattle.srm_net.specs.Laws.{ListedAloneReaches, ListedAloneAtAnyTime};
-ghost use Rattle.srm_net.specs.Laws.{SureLossIsOutage, SureLossDropsAll, SlotsHaveOneFate, PacketsHaveTheirOwn, SeedDecidesLossesAlone, OthersDecideNothing};
+ghost use Rattle.srm_net.specs.Laws.{SureLossIsOutage, SureLossDropsAll, SlotsHaveOneFate, PacketsHaveTheirOwn};
+ghost use Rattle.srm_net.specs.Laws.{SeedDecidesLossesAlone, OthersDecideNothing};
 ghost use Rattle.srm_net.specs.Laws.{SameDropsListed, SameOutagesOut, OneListOfDrops, OrdersTotally};
 
 /// In a tree the route between two nodes is a path, and there is no other.
@@ -71,24 +74,33 @@ pub fn reaches_its_sender()
     ensures { ReachesItsSender }
 {}
 
-/// A packet that no link is listed for, and that is sent when no outage or loss is yet to end, reaches every member, crosses exactly the
-/// links on the ways from its sender to members, and is dropped nowhere.
+/// A packet that no link is listed for, and that is sent when no outage or loss is yet to end, reaches every member within its scope and
+/// is dropped nowhere; without scope it crosses exactly the links on the ways from its sender to members.
 pub fn unlisted_packets_go_everywhere()
     ensures reaches { UnlistedReachesAll }
     ensures crosses { UnlistedCrossesItsWays }
     ensures dropped { UnlistedIsNowhereDropped }
 {}
 
-/// The links on the ways of a member are the same for every member: those on the ways between any two. A packet that comes to every node
-/// crosses exactly these, whoever sends it, and is dropped nowhere.
+/// The links on the ways of a member are the same for every member: those on the ways between any two. A packet without scope that comes to
+/// every node crosses exactly these, whoever sends it, and is dropped nowhere.
 pub fn packets_cross_the_same_links()
     ensures ways { WaysTakeTheSameLinks }
     ensures crosses { EverywhereCrossesTheSame }
     ensures dropped { EverywhereIsNowhereDropped }
 {}
 
-/// Without outages and losses it is the listed drops alone that keep a packet from a member, and when the packet is sent makes no
-/// difference.
+/// A scope leaves of each way its first links. With a narrower scope a packet reaches, crosses and is dropped at a part of what it would
+/// with a wider one or none. Where every member is within it, it decides nothing; and none leaves the whole ways.
+pub fn scopes_end_ways()
+    ensures first { ScopesLeaveTheFirst }
+    ensures none { NoScopeEndsNoWay }
+    ensures narrow { NarrowScopesTakePart }
+    ensures wide { WideScopesDecideNothing }
+{}
+
+/// Without outages and losses it is the listed drops and the scope alone that keep a packet from a member, and when the packet is sent
+/// makes no difference.
 pub fn listed_drops_alone_decide()
     ensures reaches { ListedAloneReaches }
     ensures at_any_time { ListedAloneAtAnyTime }
@@ -186,27 +198,41 @@ pub fn small_networks()
 /// out in one tick: in tick 5, when the first packet comes there, in tick 4 or in tick 6. In a chain whose first link takes 3 ticks in the
 /// direction in which the packet takes it, and 1 in the other, the packet comes to the next link at tick 3.
 pub fn small_outages()
-    ensures near { reaches slow_chain (outage_of_link_1 5 6) (packet_of_member_0 0) 0 1 ≡ true }
-    ensures far { reaches slow_chain (outage_of_link_1 5 6) (packet_of_member_0 0) 0 2 ≡ false }
-    ensures dropped { drops_at slow_chain (outage_of_link_1 5 6) (packet_of_member_0 0) 0 1 ≡ true }
-    ensures not_crossed { crosses slow_chain (outage_of_link_1 5 6) (packet_of_member_0 0) 0 1 ≡ false }
-    ensures crossed { crosses slow_chain (outage_of_link_1 5 6) (packet_of_member_0 0) 0 0 ≡ true }
-    ensures later { reaches slow_chain (outage_of_link_1 5 6) (packet_of_member_0 1) 10 2 ≡ true }
-    ensures later_crosses { crosses slow_chain (outage_of_link_1 5 6) (packet_of_member_0 1) 10 1 ≡ true }
-    ensures over { reaches slow_chain (outage_of_link_1 4 5) (packet_of_member_0 0) 0 2 ≡ true }
-    ensures not_yet { reaches slow_chain (outage_of_link_1 6 7) (packet_of_member_0 0) 0 2 ≡ true }
-    ensures turned { drops_at turned_chain (outage_of_link_1 3 4) (packet_of_member_0 0) 0 1 ≡ true }
-    ensures not_turned { drops_at turned_chain (outage_of_link_1 1 2) (packet_of_member_0 0) 0 1 ≡ false }
+    ensures near { reaches slow_chain (outage_of_link_1 5 6) (packet_of_member_0 0) 0 None 1 ≡ true }
+    ensures far { reaches slow_chain (outage_of_link_1 5 6) (packet_of_member_0 0) 0 None 2 ≡ false }
+    ensures dropped { drops_at slow_chain (outage_of_link_1 5 6) (packet_of_member_0 0) 0 None 1 ≡ true }
+    ensures not_crossed { crosses slow_chain (outage_of_link_1 5 6) (packet_of_member_0 0) 0 None 1 ≡ false }
+    ensures crossed { crosses slow_chain (outage_of_link_1 5 6) (packet_of_member_0 0) 0 None 0 ≡ true }
+    ensures later { reaches slow_chain (outage_of_link_1 5 6) (packet_of_member_0 1) 10 None 2 ≡ true }
+    ensures later_crosses { crosses slow_chain (outage_of_link_1 5 6) (packet_of_member_0 1) 10 None 1 ≡ true }
+    ensures over { reaches slow_chain (outage_of_link_1 4 5) (packet_of_member_0 0) 0 None 2 ≡ true }
+    ensures not_yet { reaches slow_chain (outage_of_link_1 6 7) (packet_of_member_0 0) 0 None 2 ≡ true }
+    ensures turned { drops_at turned_chain (outage_of_link_1 3 4) (packet_of_member_0 0) 0 None 1 ≡ true }
+    ensures not_turned { drops_at turned_chain (outage_of_link_1 1 2) (packet_of_member_0 0) 0 None 1 ≡ false }
 {}
 
 /// What the definitions say of losses in a chain of three nodes whose links take 5 ticks. Member 0 sends at tick 0, and the packet comes to
 /// link 1 at tick 5, with the word 0x9a19b87a: the rates from 601,955 millionths on take it.
 pub fn small_losses()
-    ensures taken { reaches slow_chain (loss_of_link_1 601955 0 None) (packet_of_member_0 0) 0 2 ≡ false }
-    ensures dropped { drops_at slow_chain (loss_of_link_1 601955 0 None) (packet_of_member_0 0) 0 1 ≡ true }
-    ensures near { reaches slow_chain (loss_of_link_1 601955 0 None) (packet_of_member_0 0) 0 1 ≡ true }
-    ensures spared { reaches slow_chain (loss_of_link_1 601954 0 None) (packet_of_member_0 0) 0 2 ≡ true }
-    ensures in_time { reaches slow_chain (loss_of_link_1 601955 5 (Some 6)) (packet_of_member_0 0) 0 2 ≡ false }
-    ensures over { reaches slow_chain (loss_of_link_1 601955 4 (Some 5)) (packet_of_member_0 0) 0 2 ≡ true }
-    ensures not_yet { reaches slow_chain (loss_of_link_1 601955 6 None) (packet_of_member_0 0) 0 2 ≡ true }
+    ensures taken { reaches slow_chain (loss_of_link_1 601955 0 None) (packet_of_member_0 0) 0 None 2 ≡ false }
+    ensures dropped { drops_at slow_chain (loss_of_link_1 601955 0 None) (packet_of_member_0 0) 0 None 1 ≡ true }
+    ensures near { reaches slow_chain (loss_of_link_1 601955 0 None) (packet_of_member_0 0) 0 None 1 ≡ true }
+    ensures spared { reaches slow_chain (loss_of_link_1 601954 0 None) (packet_of_member_0 0) 0 None 2 ≡ true }
+    ensures in_time { reaches slow_chain (loss_of_link_1 601955 5 (Some 6)) (packet_of_member_0 0) 0 None 2 ≡ false }
+    ensures over { reaches slow_chain (loss_of_link_1 601955 4 (Some 5)) (packet_of_member_0 0) 0 None 2 ≡ true }
+    ensures not_yet { reaches slow_chain (loss_of_link_1 601955 6 None) (packet_of_member_0 0) 0 None 2 ≡ true }
+{}
+
+/// What the definitions say of scopes in a chain of three nodes whose links take 5 ticks, where member 0 sends at tick 0: its packet
+/// reaches and crosses what is within one hop, and is dropped no farther, also towards a member that is two hops away.
+pub fn small_scopes()
+    ensures near { reaches slow_chain (outage_of_link_1 5 6) (packet_of_member_0 0) 0 (Some 1) 1 ≡ true }
+    ensures far { reaches slow_chain (outage_of_link_1 6 7) (packet_of_member_0 0) 0 (Some 1) 2 ≡ false }
+    ensures within { reaches slow_chain (outage_of_link_1 6 7) (packet_of_member_0 0) 0 (Some 2) 2 ≡ true }
+    ensures crossed { crosses slow_chain (outage_of_link_1 5 6) (packet_of_member_0 0) 0 (Some 1) 0 ≡ true }
+    ensures not_crossed { crosses slow_chain (outage_of_link_1 6 7) (packet_of_member_0 0) 0 (Some 1) 1 ≡ false }
+    ensures not_dropped { drops_at slow_chain (outage_of_link_1 5 6) (packet_of_member_0 0) 0 (Some 1) 1 ≡ false }
+    ensures dropped { drops_at slow_chain (outage_of_link_1 5 6) (packet_of_member_0 0) 0 (Some 2) 1 ≡ true }
+    ensures to_nobody { crosses long_way (outage_of_link_1 5 6) (packet_of_member_0 0) 0 (Some 1) 0 ≡ true }
+    ensures nowhere { reaches long_way (outage_of_link_1 6 7) (packet_of_member_0 0) 0 (Some 1) 1 ≡ false }
 {}

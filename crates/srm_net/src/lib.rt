@@ -9,6 +9,7 @@ mod earlier;
 pub mod fate;
 pub mod fault;
 pub mod half_rounds;
+pub mod hops;
 pub mod key;
 pub mod laws;
 pub mod limits;

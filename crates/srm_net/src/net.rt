@@ -1,14 +1,16 @@
 //! A tree of nodes and links with members on some nodes, and what becomes of packets in it.
-ghost use Rattle.std.specs.Prelude.{◌≡◌, ◌≢◌, ◌↔◌, ℕ, ◌+◌, ◌<◌, ◌≤◌, ◌*◌, true, false, not, [], ◌∷◌, All, IfOk, IfErr, IfSome, IfNone, IsTrue, Some, None, length, slice_get, if◌then◌else◌};
-ghost use Rattle.srm_net.specs.Limits.{end_of_time, greatest_distance};
+ghost use Rattle.std.specs.Prelude.{◌≡◌, ◌≢◌, ◌↔◌, ℕ, ◌+◌, ◌<◌, ◌≤◌, ◌*◌, true, false, not, [], ◌∷◌, All, IfOk, IfErr, IfSome, IfNone};
+ghost use Rattle.std.specs.Prelude.{IsTrue, Option, Some, None, length, slice_get, if◌then◌else◌};
+ghost use Rattle.srm_net.specs.Limits.{end_of_time, greatest_distance, most_nodes};
 ghost use Rattle.srm_net.specs.Network.{plain_network, IsTree, HasDelays, AreHosts, IsNetwork};
-ghost use Rattle.srm_net.specs.Paths.{host, distance, round, hops, half_rounds_from, stop, takes_out, reaches, crosses, drops_at};
+ghost use Rattle.srm_net.specs.Paths.{host, distance, round, hops, half_rounds_from, hops_from};
+ghost use Rattle.srm_net.specs.Paths.{is_within, stop, takes_out, reaches, crosses, drops_at};
 ghost use Rattle.srm_net.specs.Fates.{is_crossing, is_dropping, is_on_way, joins_members};
 ghost use Rattle.srm_net.specs.declared.link.LinkSpec.{LinkSpec};
 ghost use Rattle.srm_net.specs.declared.packet.PacketId.{PacketId};
 ghost use Rattle.srm_net.specs.DropRules.{DropRules, may_drop};
 ghost use Rattle.srm_net.specs.Spreads.{IsSpread, FitsIn};
-ghost use Rattle.srm_net.specs.Tables.{near_end, some_beyond};
+ghost use Rattle.srm_net.specs.Tables.{covers, near_end, some_beyond};
 ghost use Rattle.srm_net.specs.Least.{least_delay, out};
 
 use crate::checks::{are_hosts, have_delays};
@@ -16,6 +18,7 @@ use crate::drops::Drops;
 use crate::fate::Fate;
 use crate::fault::NetFault;
 use crate::half_rounds::HalfRounds;
+use crate::hops::Hops;
 use crate::link::LinkSpec;
 use crate::order::attaching_order;
 use crate::packet::PacketId;
@@ -202,6 +205,19 @@ impl Net {
         HalfRounds::of(&self.tree, m)
     }
 
+    /// How many hops each member in turn is from member `m`: at most 65,534 each. They are told on demand, and share the network's tables,
+    /// which stay as long as one of them is used.
+    ///
+    /// # Errors
+    /// [`AllocError`]; as it is written, only where some 2^63 share the tables, and no memory is asked for.
+    pub fn hops_from(&self, m: u16) -> Result<Hops, AllocError>
+        requires { m < length self.now.hosts }
+        ensures value { IfOk result (λ hs. hs ≡ hops_from self.now m) }
+        ensures bounded { IfOk result (All (λ n. n < most_nodes)) }
+    {
+        Hops::of(&self.tree, m)
+    }
+
     /// The least delay of a link in either direction, in ticks and 1 to 1,000,000, or none where there is no link.
     pub fn least_delay(&self) -> Option<u64>
         ensures value { result ≡ least_delay self.now }
@@ -219,60 +235,93 @@ impl Net {
         self.outs[usize::from(m)]
     }
 
-    /// Whether a packet that is sent at the tick `sent` reaches member `m`: no link of the way from its sender is listed for it, or out
-    /// when it comes there. It reaches its sender.
-    pub fn reaches(&self, drops: &Drops, id: PacketId, sent: u64, m: u16) -> bool
+    /// Whether a packet of this scope, in hops, that is sent at the tick `sent` reaches member `m`: the member is within the scope, and no
+    /// link of the way from its sender is listed for it, or out when it comes there. It reaches its sender.
+    pub fn reaches(
+        &self,
+        drops: &Drops,
+        id: PacketId,
+        sent: u64,
+        scope: Option<u32>,
+        m: u16,
+    ) -> bool
         requires sent { sent < end_of_time }
         requires sender { id.sender < length self.now.hosts }
         requires member { m < length self.now.hosts }
-        ensures { result ≡ reaches self.now drops.now id sent m }
+        ensures { result ≡ reaches self.now drops.now id sent scope m }
     {
+        if !self.tree.is_within(scope, id.sender, m) {
+            return false;
+        }
         let from = self.tree.host(id.sender);
         self.tree.is_clear(drops, id, sent, from, self.tree.host(m))
     }
 
-    /// Whether a packet that is sent at the tick `sent` crosses a link: the link is on the way from its sender to some member, present
-    /// or not, and neither it nor an earlier link of that way is listed for the packet, or out when it comes there.
-    pub fn crosses(&self, drops: &Drops, id: PacketId, sent: u64, link: u16) -> bool
+    /// Whether a packet of this scope that is sent at the tick `sent` crosses a link: the link is on the way from its sender to some
+    /// member, present or not, as far as the scope goes, and neither it nor an earlier link of that way is listed for the packet, or out
+    /// when it comes there.
+    pub fn crosses(
+        &self,
+        drops: &Drops,
+        id: PacketId,
+        sent: u64,
+        scope: Option<u32>,
+        link: u16,
+    ) -> bool
         requires sent { sent < end_of_time }
         requires sender { id.sender < length self.now.hosts }
         requires link { link < length self.now.links }
-        ensures { result ≡ crosses self.now drops.now id sent link }
+        ensures { result ≡ crosses self.now drops.now id sent scope link }
     {
-        matches!(self.fate(drops, id, sent, link), Fate::Crosses)
+        matches!(self.fate(drops, id, sent, scope, link), Fate::Crosses)
     }
 
-    /// Whether a packet that is sent at the tick `sent` is dropped at a link: the link is on the way from its sender to some member,
-    /// present or not, it is listed for the packet, or out when it comes there, and no earlier link of that way is.
-    pub fn drops_at(&self, drops: &Drops, id: PacketId, sent: u64, link: u16) -> bool
+    /// Whether a packet of this scope that is sent at the tick `sent` is dropped at a link: the link is on the way from its sender to some
+    /// member, present or not, as far as the scope goes, it is listed for the packet, or out when it comes there, and no earlier link of
+    /// that way is.
+    pub fn drops_at(
+        &self,
+        drops: &Drops,
+        id: PacketId,
+        sent: u64,
+        scope: Option<u32>,
+        link: u16,
+    ) -> bool
         requires sent { sent < end_of_time }
         requires sender { id.sender < length self.now.hosts }
         requires link { link < length self.now.links }
-        ensures { result ≡ drops_at self.now drops.now id sent link }
+        ensures { result ≡ drops_at self.now drops.now id sent scope link }
     {
-        matches!(self.fate(drops, id, sent, link), Fate::Dropped)
+        matches!(self.fate(drops, id, sent, scope, link), Fate::Dropped)
     }
 
-    /// What becomes of a packet that is sent at the tick `sent` at a link, by one walk: whether it crosses the link, or is dropped
-    /// there, on its way to some member, present or not.
+    /// What becomes of a packet of this scope that is sent at the tick `sent` at a link, by one walk: whether it crosses the link, or is
+    /// dropped there, on its way to some member, present or not.
     ///
-    /// Of a packet that may not be dropped at all, [`is_on_way`](Net::is_on_way) tells the same without a look at the drops.
-    pub fn fate(&self, drops: &Drops, id: PacketId, sent: u64, link: u16) -> Fate
+    /// Of a packet without scope that may not be dropped at all, [`is_on_way`](Net::is_on_way) tells the same without a look at the drops.
+    pub fn fate(
+        &self,
+        drops: &Drops,
+        id: PacketId,
+        sent: u64,
+        scope: Option<u32>,
+        link: u16,
+    ) -> Fate
         requires sent { sent < end_of_time }
         requires sender { id.sender < length self.now.hosts }
         requires link { link < length self.now.links }
-        ensures crosses { is_crossing result ≡ crosses self.now drops.now id sent link }
-        ensures dropped { is_dropping result ≡ drops_at self.now drops.now id sent link }
+        ensures crosses { is_crossing result ≡ crosses self.now drops.now id sent scope link }
+        ensures dropped { is_dropping result ≡ drops_at self.now drops.now id sent scope link }
     {
-        match self.comes_to(drops, id, sent, link) {
+        match self.comes_to(drops, id, sent, scope, link) {
             None => Fate::Neither,
             Some(at) if drops.takes_out(id, link, at) => Fate::Dropped,
             Some(_) => Fate::Crosses,
         }
     }
 
-    /// What becomes of a packet that is sent at the tick `sent`, at every node and link. Each link is looked at once; where the packet
-    /// may not be dropped at all, none is, and no memory is asked for.
+    /// What becomes of a packet of this scope that is sent at the tick `sent`, at every node and link. Each link is looked at once; where
+    /// the packet may not be dropped at all, none is, and no memory is asked for.
     ///
     /// # Errors
     /// [`AllocError`], only where the packet may be dropped.
@@ -282,16 +331,17 @@ impl Net {
         drops: &Drops,
         id: PacketId,
         sent: u64,
+        scope: Option<u32>,
     ) -> Result<Spread, AllocError>
         requires sent { sent < end_of_time }
         requires sender { id.sender < length self.now.hosts }
-        ensures spread { IfOk result (IsSpread self.now drops.now id sent) }
+        ensures spread { IfOk result (IsSpread self.now drops.now id sent scope) }
         ensures fits { IfOk result (FitsIn self.now) }
         ensures asked { IfErr result (λ _. may_drop drops.now id sent ≡ true) }
     {
         let nodes = self.tree.nodes();
         if !drops.may_drop(id, sent) {
-            return Ok(Spread::everywhere(id.sender, nodes));
+            return Ok(Spread::everywhere(id.sender, scope, nodes));
         }
         let packet = Sending {
             id,
@@ -300,7 +350,44 @@ impl Net {
             is_listed: drops.lists_somewhere(id),
         };
         let arrivals = self.tree.arrivals(alloc, drops, packet)?;
-        Ok(Spread::told(id.sender, nodes, arrivals))
+        let hops = self.tree.hops_for(alloc, scope, packet.from)?;
+        Ok(Spread::told(id.sender, scope, nodes, arrivals, hops))
+    }
+
+    // Whether a member is within the scope of the packet of a spread.
+    fn is_near(&self, spread: &Spread, m: u16) -> bool
+        requires spread { FitsIn self.now spread.now }
+        requires member { m < length self.now.hosts }
+        ensures { (rules : DropRules) (p : PacketId) (sent : ℕ) (scope : Option ℕ) → IsSpread self.now rules p sent scope spread.now
+            → result ≡ is_within scope (hops self.now p.sender m) }
+    {
+        match (spread.scope, &spread.hops) {
+            (None, _) => true,
+            (Some(most), Some(hops)) => {
+                u32::from(hops.as_slice()[usize::from(self.host(m))]) <= most
+            }
+            (Some(_), None) => self.tree.is_within(spread.scope, spread.sender(), m),
+        }
+    }
+
+    // Whether the farther end of a link is.
+    fn is_link_near(&self, spread: &Spread, link: u16) -> bool
+        requires spread { FitsIn self.now spread.now }
+        requires link { link < length self.now.links }
+        ensures { (k : LinkSpec) → slice_get self.now.links link ≡ Some k
+            → (rules : DropRules) (p : PacketId) (sent : ℕ) (scope : Option ℕ) → IsSpread self.now rules p sent scope spread.now
+            → result ≡ covers self.now scope (host self.now p.sender) k }
+    {
+        match (spread.scope, &spread.hops) {
+            (None, _) => true,
+            (Some(most), Some(hops)) => {
+                let ends = self.tree.link(link);
+                let hops = hops.as_slice();
+                let farther = hops[usize::from(ends.a)].max(hops[usize::from(ends.b)]);
+                u32::from(farther) <= most
+            }
+            (Some(_), None) => self.tree.covers(spread.scope, spread.sender(), link),
+        }
     }
 
     /// When the packet of a spread, which is sent at the tick `sent`, comes to member `m`, in ticks, if it [`reaches`](Net::reaches) it.
@@ -309,9 +396,12 @@ impl Net {
         requires sent { sent < end_of_time }
         requires spread { FitsIn self.now spread.now }
         requires member { m < length self.now.hosts }
-        ensures { (rules : DropRules) (p : PacketId) → IsSpread self.now rules p sent spread.now
-            → result ≡ (if reaches self.now rules p sent m then Some (sent + distance self.now p.sender m) else None) }
+        ensures { (rules : DropRules) (p : PacketId) (scope : Option ℕ) → IsSpread self.now rules p sent scope spread.now
+            → result ≡ (if reaches self.now rules p sent scope m then Some (sent + distance self.now p.sender m) else None) }
     {
+        if !self.is_near(spread, m) {
+            return None;
+        }
         let Some(arrivals) = &spread.arrivals else {
             return Some(sent + self.distance(spread.sender(), m));
         };
@@ -322,12 +412,15 @@ impl Net {
     pub fn fate_in(&self, spread: &Spread, link: u16) -> Fate
         requires spread { FitsIn self.now spread.now }
         requires link { link < length self.now.links }
-        ensures crosses { (rules : DropRules) (p : PacketId) (sent : ℕ) → IsSpread self.now rules p sent spread.now
-            → is_crossing result ≡ crosses self.now rules p sent link }
-        ensures dropped { (rules : DropRules) (p : PacketId) (sent : ℕ) → IsSpread self.now rules p sent spread.now
-            → is_dropping result ≡ drops_at self.now rules p sent link }
+        ensures crosses { (rules : DropRules) (p : PacketId) (sent : ℕ) (scope : Option ℕ)
+            → IsSpread self.now rules p sent scope spread.now → is_crossing result ≡ crosses self.now rules p sent scope link }
+        ensures dropped { (rules : DropRules) (p : PacketId) (sent : ℕ) (scope : Option ℕ)
+            → IsSpread self.now rules p sent scope spread.now → is_dropping result ≡ drops_at self.now rules p sent scope link }
     {
         if !self.joins_members(link) {
+            return Fate::Neither;
+        }
+        if !self.is_link_near(spread, link) {
             return Fate::Neither;
         }
         let ends = self.tree.link(link);
@@ -336,7 +429,7 @@ impl Net {
 
     /// Whether a link is on the way from member `m` to some member, present or not. It takes no walk.
     ///
-    /// A packet of `m` that may not be dropped at all crosses exactly these links
+    /// A packet of `m` without scope that may not be dropped at all crosses exactly these links
     /// ([`unlisted_packets_go_everywhere`](crate::laws::unlisted_packets_go_everywhere)).
     pub fn is_on_way(&self, m: u16, link: u16) -> bool
         requires member { m < length self.now.hosts }
@@ -349,7 +442,7 @@ impl Net {
 
     /// Whether a link is on the way between some two members, present or not: members are on both its sides. It takes no walk.
     ///
-    /// These links are on the ways of every member, and no others are: every packet that comes to all nodes crosses exactly them
+    /// These links are on the ways of every member, and no others are: every packet without scope that comes to all nodes crosses them
     /// ([`packets_cross_the_same_links`](crate::laws::packets_cross_the_same_links)).
     pub fn joins_members(&self, link: u16) -> bool
         requires link { link < length self.now.links }
@@ -382,17 +475,27 @@ impl Net {
 
     /// The tick at which a packet comes to a link on its way to some member, where the link may yet drop it, or none where it does not
     /// come there.
-    fn comes_to(&self, drops: &Drops, id: PacketId, sent: u64, link: u16) -> Option<u64>
+    fn comes_to(
+        &self,
+        drops: &Drops,
+        id: PacketId,
+        sent: u64,
+        scope: Option<u32>,
+        link: u16,
+    ) -> Option<u64>
         requires sent { sent < end_of_time }
         requires sender { id.sender < length self.now.hosts }
         requires link { link < length self.now.links }
-        ensures crossed { IfSome result (λ at. crosses self.now drops.now id sent link
+        ensures crossed { IfSome result (λ at. crosses self.now drops.now id sent scope link
             ≡ not (takes_out drops.now id (stop link at))) }
-        ensures dropped { IfSome result (λ at. drops_at self.now drops.now id sent link
+        ensures dropped { IfSome result (λ at. drops_at self.now drops.now id sent scope link
             ≡ takes_out drops.now id (stop link at)) }
-        ensures not_crossed { IfNone result (crosses self.now drops.now id sent link ≡ false) }
-        ensures not_dropped { IfNone result (drops_at self.now drops.now id sent link ≡ false) }
+        ensures not_crossed { IfNone result (crosses self.now drops.now id sent scope link ≡ false) }
+        ensures not_dropped { IfNone result (drops_at self.now drops.now id sent scope link ≡ false) }
     {
+        if !self.tree.covers(scope, id.sender, link) {
+            return None;
+        }
         let from = self.host(id.sender);
         let (near, is_any_beyond) = self.beyond(link, from);
         if is_any_beyond && self.tree.is_clear(drops, id, sent, from, near) {

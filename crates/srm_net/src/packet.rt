@@ -44,6 +44,17 @@ pub struct Heard {
     pub highest: u32,
 }
 
+/// What a repair that answers a request with a scope carries besides (Floyd et al. 1997, local recovery).
+#[derive(Clone, Copy, Debug, PartialEq, Eq)]
+pub struct Local {
+    /// How many hops the repair goes.
+    pub scope: u32,
+    /// The member whose request it answers.
+    pub requester: u16,
+    /// The width: the scope of that request, in hops.
+    pub width: u16,
+}
+
 /// What a packet carries.
 #[derive(Debug, Drop)]
 pub enum Body {
@@ -58,6 +69,8 @@ pub enum Body {
     Request {
         /// The name that is asked for.
         name: Name,
+        /// How many hops it goes, from 1; none: to all.
+        scope: Option<u16>,
     },
     /// A drawing operation, sent again by whoever holds it.
     Repair {
@@ -65,6 +78,8 @@ pub enum Body {
         name: Name,
         /// What was drawn.
         ink: u32,
+        /// Where it answers a request with a scope: how far it goes, and for whom. None: to all.
+        local: Option<Local>,
     },
     /// A session message.
     Session {
@@ -83,10 +98,14 @@ impl Clone for Body {
                 name: *name,
                 ink: *ink,
             }),
-            Body::Request { name } => Ok(Body::Request { name: *name }),
-            Body::Repair { name, ink } => Ok(Body::Repair {
+            Body::Request { name, scope } => Ok(Body::Request {
+                name: *name,
+                scope: *scope,
+            }),
+            Body::Repair { name, ink, local } => Ok(Body::Repair {
                 name: *name,
                 ink: *ink,
+                local: *local,
             }),
             Body::Session { heard } => Ok(Body::Session {
                 heard: heard.clone()?,
@@ -95,7 +114,31 @@ impl Clone for Body {
     }
 }
 
-/// A packet, sent to all members (Floyd et al. 1997).
+impl Body {
+    ghost use Rattle.srm_net.specs.Scopes.{scope_of};
+
+    /// How many hops a packet that carries it goes at most, or none where it goes to all.
+    pub fn scope(&self) -> Option<u32>
+        ensures { result ≡ scope_of self.now }
+    {
+        match self {
+            Body::Request {
+                scope: Some(hops),
+                ..
+            } => Some(u32::from(*hops)),
+            Body::Repair {
+                local: Some(local),
+                ..
+            } => Some(local.scope),
+            Body::Drawop { .. }
+            | Body::Request { .. }
+            | Body::Repair { .. }
+            | Body::Session { .. } => None,
+        }
+    }
+}
+
+/// A packet, which goes to all members, or as far as its scope (Floyd et al. 1997).
 #[derive(Clone, Debug, Drop)]
 pub struct Packet {
     /// The packet's identity.

@@ -7,7 +7,7 @@ ghost use Rattle.srm_net.specs.Listed.{is_listed_somewhere};
 ghost use Rattle.srm_net.specs.Network.{Network, HasDelays, IsNetwork, IsTree, IsWithin, plain_network};
 ghost use Rattle.srm_net.specs.Paths.{hops_between, takes_out};
 ghost use Rattle.srm_net.specs.Rooting.{takes, at, IsRooted, TellsTree, IsMeeting, IsFirstLink, IsHeld, IsChildAbove};
-ghost use Rattle.srm_net.specs.Spreads.{TellsArrivals, TellsAbove};
+ghost use Rattle.srm_net.specs.Spreads.{TellsArrivals, TellsAbove, TellsHops};
 
 use crate::drops::Drops;
 use crate::link::LinkSpec;
@@ -181,6 +181,27 @@ impl Rooted {
         self.arrive_above(drops, packet, arrivals.as_mut_slice());
         self.arrive_below(drops, packet, arrivals.as_mut_slice());
         Ok(arrivals)
+    }
+
+    /// How many links there are on the way from a node to each node. It takes a number of steps that grows as the number of nodes.
+    ///
+    /// # Errors
+    /// [`AllocError`].
+    pub(crate) fn hops_from(&self, alloc: Global, from: u16) -> Result<Vec<u16>, AllocError>
+        requires rooted { (w : Network) × IsNetwork w × TellsTree w self.now × (from < w.nodes) }
+        ensures { (w : Network) → TellsTree w self.now → from < w.nodes → IfOk result (λ hops. TellsHops w from hops.items) }
+    {
+        let here = self.position(from);
+        let mut hops = vec![in alloc; 0; self.positions.len()]?;
+        for node in self.order.as_slice() {
+            let there = self.position(*node);
+            if there.holds(here.place) {
+                hops[usize::from(*node)] = here.depth - there.depth;
+                continue;
+            }
+            hops[usize::from(*node)] = hops[usize::from(there.parent)] + 1;
+        }
+        Ok(hops)
     }
 
     /// Tells when a packet comes to each node above its sender, of which it is told already.

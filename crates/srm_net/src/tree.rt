@@ -1,15 +1,15 @@
 //! A tree of nodes and links with members on some nodes, and the ways in it.
-ghost use Rattle.std.specs.Prelude.{◌≡◌, ◌≢◌, ◌+◌, ◌<◌, ◌≤◌, ◌*◌, not, [], ◌∷◌, All, Some, IfOk, length, reverse, slice_get};
+ghost use Rattle.std.specs.Prelude.{◌≡◌, ◌≢◌, ◌+◌, ◌<◌, ◌≤◌, ◌*◌, not, [], ◌∷◌, All, Some, IfOk, length, reverse, slice_get, IfSome};
 ghost use Rattle.std.specs.List.{list_any};
 ghost use Rattle.srm_net.specs.Limits.{end_of_time, greatest_distance};
 ghost use Rattle.srm_net.specs.declared.link.LinkSpec.{LinkSpec};
 ghost use Rattle.srm_net.specs.Growth.{Grows, IsInPreorder};
 ghost use Rattle.srm_net.specs.Network.{plain_network, IsNetwork, IsTree, HasDelays, AreHosts};
-ghost use Rattle.srm_net.specs.Paths.{host, route, end_of, delay_along, distance, round, hops, stops, takes_out};
+ghost use Rattle.srm_net.specs.Paths.{host, route, end_of, delay_along, distance, round, hops, is_within, stops, takes_out};
 ghost use Rattle.srm_net.specs.Listed.{is_listed_somewhere};
-ghost use Rattle.srm_net.specs.Spreads.{TellsArrivals};
+ghost use Rattle.srm_net.specs.Spreads.{TellsArrivals, TellsHops};
 ghost use Rattle.srm_net.specs.Least.{least_delay};
-ghost use Rattle.srm_net.specs.Tables.{is_beyond, TellsAllSides, TellsOuts};
+ghost use Rattle.srm_net.specs.Tables.{covers, is_beyond, TellsAllSides, TellsOuts};
 
 use crate::drops::Drops;
 use crate::link::LinkSpec;
@@ -18,6 +18,7 @@ use crate::outs;
 use crate::packet::PacketId;
 use crate::rooted::Rooted;
 use crate::sending::Sending;
+use crate::sequence::Sequence;
 use crate::sides::Sides;
 use crate::step::Step;
 use std::alloc::{AllocError, Global};
@@ -154,6 +155,35 @@ impl Tree {
         self.rooted.delay(from, to)
     }
 
+    /// Whether member `b` is within a scope of member `a`.
+    pub(crate) fn is_within(&self, scope: Option<u32>, a: u16, b: u16) -> bool
+        requires a { a < length self.now.hosts }
+        requires b { b < length self.now.hosts }
+        ensures { result ≡ is_within scope (hops self.now a b) }
+    {
+        match scope {
+            None => true,
+            Some(most) => u32::from(self.hops(a, b)) <= most,
+        }
+    }
+
+    /// Whether the farther end of a link is within a scope of a member.
+    pub(crate) fn covers(&self, scope: Option<u32>, m: u16, link: u16) -> bool
+        requires member { m < length self.now.hosts }
+        requires link { link < length self.now.links }
+        ensures { (k : LinkSpec) → slice_get self.now.links link ≡ Some k → result ≡ covers self.now scope (host self.now m) k }
+    {
+        let Some(most) = scope else {
+            return true;
+        };
+        let from = self.host(m);
+        let ends = self.link(link);
+        let to_a = self.rooted.hops(from, ends.a);
+        let to_b = self.rooted.hops(from, ends.b);
+        let farther = to_a.max(to_b);
+        u32::from(farther) <= most
+    }
+
     /// The first link of the way between two nodes, and the node to which it leads.
     fn first_step(&self, from: u16, to: u16) -> (u16, u16)
         requires from { from < self.now.nodes }
@@ -198,6 +228,26 @@ impl Tree {
             at = next;
         }
         true
+    }
+
+    /// Of a packet with a scope, how many links there are on the way from a node to each node. Of another one it does not allocate.
+    ///
+    /// # Errors
+    /// [`AllocError`].
+    pub(crate) fn hops_for(
+        &self,
+        alloc: Global,
+        scope: Option<u32>,
+        from: u16,
+    ) -> Result<Option<Sequence<u16>>, AllocError>
+        requires { from < self.now.nodes }
+        ensures { IfOk result (λ hops. IfSome hops (TellsHops self.now from)) }
+    {
+        if scope.is_none() {
+            return Ok(None);
+        }
+        let hops = self.rooted.hops_from(alloc, from)?;
+        Ok(Some(Sequence::from_vec(hops)))
     }
 
     /// When a packet comes to each node, in ticks, or none where it does not come there. Each link is looked at once.

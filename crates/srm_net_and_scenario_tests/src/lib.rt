@@ -12,6 +12,8 @@ mod net_tests;
 #[cfg(test)]
 mod networks;
 #[cfg(test)]
+mod recovery_tests;
+#[cfg(test)]
 mod scenario_tests;
 #[cfg(test)]
 mod spread_tests;

@@ -60,14 +60,15 @@ pub fn ticks_between(net: Result<Net, NetFault>, a: u16, b: u16) -> Option<(u64,
     }
 }
 
-/// How many hops one member is from another.
+/// How many hops one member is from another, where the list of those from it tells the same.
 pub fn hops_between(net: Result<Net, NetFault>, a: u16, b: u16) -> Option<u16> {
     let net = net.ok()?;
-    if a < net.members() && b < net.members() {
-        Some(net.hops(a, b))
-    } else {
-        None
+    if a >= net.members() || b >= net.members() {
+        return None;
     }
+    let hops = net.hops(a, b);
+    let listed = net.hops_from(a).ok()?.get(b);
+    (listed == Some(hops)).then_some(hops)
 }
 
 /// The node of a member, the least ticks from it to another, and the least delay of a link.
@@ -109,7 +110,7 @@ impl LossyNet {
     pub fn reaches(&self, id: PacketId, sent: u64, m: u16) -> Option<bool> {
         let members = self.net.members();
         if sent < END_OF_TIME && id.sender < members && m < members {
-            Some(self.net.reaches(&self.drops, id, sent, m))
+            Some(self.net.reaches(&self.drops, id, sent, None, m))
         } else {
             None
         }
@@ -127,9 +128,9 @@ pub fn fate(on: Result<LossyNet, NetFault>, id: PacketId, sent: u64, link: u16) 
     if sent >= END_OF_TIME || id.sender >= net.members() || usize::from(link) >= net.links().len() {
         return None;
     }
-    let fate = net.fate(&drops, id, sent, link);
-    let crosses = net.crosses(&drops, id, sent, link);
-    let dropped = net.drops_at(&drops, id, sent, link);
+    let fate = net.fate(&drops, id, sent, None, link);
+    let crosses = net.crosses(&drops, id, sent, None, link);
+    let dropped = net.drops_at(&drops, id, sent, None, link);
     let agree = (crosses, dropped) == (fate == Fate::Crosses, fate == Fate::Dropped);
     agree.then_some(fate)
 }

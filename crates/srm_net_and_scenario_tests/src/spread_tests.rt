@@ -21,25 +21,38 @@ const fn first_packet() -> PacketId
     }
 }
 
-// Whether the spread of that packet reaches a member. There is no answer where there is no network, or it has no such member.
-fn is_reached(alloc: Global, on: Result<LossyNet, NetFault>, sent: u64, m: u16) -> Option<bool> {
+// Whether the spread of that packet, of this scope, reaches a member. There is no answer where there is no network, or it has no such
+// member.
+fn is_reached(
+    alloc: Global,
+    on: Result<LossyNet, NetFault>,
+    sent: u64,
+    scope: Option<u32>,
+    m: u16,
+) -> Option<bool> {
     let LossyNet { net, drops } = on.ok()?;
     if sent >= END_OF_TIME || m >= net.members() {
         return None;
     }
-    let Ok(spread) = net.spread(alloc, &drops, first_packet(), sent) else {
+    let Ok(spread) = net.spread(alloc, &drops, first_packet(), sent, scope) else {
         return None;
     };
     Some(net.arrival(&spread, sent, m).is_some())
 }
 
 // What the same spread tells of a link. There is no answer where there is no network, or it has no member or no such link.
-fn fate(alloc: Global, on: Result<LossyNet, NetFault>, sent: u64, link: u16) -> Option<Fate> {
+fn fate(
+    alloc: Global,
+    on: Result<LossyNet, NetFault>,
+    sent: u64,
+    scope: Option<u32>,
+    link: u16,
+) -> Option<Fate> {
     let LossyNet { net, drops } = on.ok()?;
     if sent >= END_OF_TIME || net.members() == 0 || usize::from(link) >= net.links().len() {
         return None;
     }
-    let Ok(spread) = net.spread(alloc, &drops, first_packet(), sent) else {
+    let Ok(spread) = net.spread(alloc, &drops, first_packet(), sent, scope) else {
         return None;
     };
     Some(net.fate_in(&spread, link))
@@ -59,18 +72,29 @@ fn star_with_a_drop(alloc: Global) -> Result<LossyNet, NetFault> {
 #[test]
 fn members_of_a_star(rt: HostRuntime) {
     let alloc = rt.alloc();
-    for (m, want) in [(0, true), (1, false)] {
-        let told = is_reached(alloc, star_with_a_drop(alloc), 7, m);
-        assert_eq!(rt; told, Some(want), "member {m}");
+    for (scope, m, want) in [
+        (None, 0, true),
+        (None, 1, false),
+        (Some(1), 2, false),
+        (Some(2), 2, true),
+    ] {
+        let told = is_reached(alloc, star_with_a_drop(alloc), 7, scope, m);
+        assert_eq!(rt; told, Some(want), "member {m}, scope {scope:?}");
     }
 }
 
 #[test]
 fn links_of_a_star(rt: HostRuntime) {
     let alloc = rt.alloc();
-    for (link, want) in [(1, Fate::Dropped), (3, Fate::Neither)] {
-        let told = fate(alloc, star_with_a_drop(alloc), 7, link);
-        assert_eq!(rt; told, Some(want), "link {link}");
+    for (scope, link, want) in [
+        (None, 1, Fate::Dropped),
+        (None, 3, Fate::Neither),
+        (Some(1), 0, Fate::Crosses),
+        (Some(1), 1, Fate::Neither),
+        (Some(2), 1, Fate::Dropped),
+    ] {
+        let told = fate(alloc, star_with_a_drop(alloc), 7, scope, link);
+        assert_eq!(rt; told, Some(want), "link {link}, scope {scope:?}");
     }
 }
 
@@ -83,11 +107,11 @@ fn drop_at_the_end() -> DropSpec {
 }
 
 #[test]
-fn the_node_before_a_drop_at_the_end_of_the_longest_chain(rt: HostRuntime) -> Result<(), Fail> {
+fn the_link_before_a_drop_at_the_end_of_the_longest_chain(rt: HostRuntime) -> Result<(), Fail> {
     let links = path(rt.alloc(), 1023, 1, 3)?;
     let net = Net::build(rt.alloc(), 1024, &links, &[0, 512, 1023])?;
     let drops = Drops::of(rt.alloc(), &[drop_at_the_end()], &[], &[], 0)?;
-    let spread = net.spread(rt.alloc(), &drops, first_packet(), 0)?;
-    assert!(rt; spread.comes_to(1022));
+    let told = fate(rt.alloc(), Ok(LossyNet { net, drops }), 0, None, 1021);
+    assert_eq!(rt; told, Some(Fate::Crosses));
     Ok(())
 }

@@ -38,6 +38,8 @@ pub enum Show {
     Links,
     /// A row for each join, and each event that adapts a member's timers.
     Timers,
+    /// A row for each request and each repair that was sent.
+    Scopes,
 }
 
 /// What the program is asked for.

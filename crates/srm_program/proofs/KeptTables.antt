@@ -14,7 +14,7 @@ use Rattle.srm_interfaces.specs.WatchSinks.{TakesIn, kept_in, watch_in}
 use Rattle.srm_options.specs.declared.options.Engine.TheVariants.{Step, Window}
 use Rattle.srm_options.specs.declared.options.Options.{Options}
 use Rattle.srm_options.specs.declared.options.Show.{Show}
-use Rattle.srm_options.specs.declared.options.Show.TheVariants.{Trace, Members, Losses, Operations, Links, Timers}
+use Rattle.srm_options.specs.declared.options.Show.TheVariants.{Trace, Members, Losses, Operations, Links, Timers, Scopes}
 use Rattle.srm_engine.specs.declared.fault.RunFault.{RunFault}
 use Rattle.srm_engine.specs.declared.fault.RunFault.TheVariants as fault
 use Rattle.srm_engine.specs.Openings.{seed_in}
@@ -94,6 +94,7 @@ whole_report T p net seed asked show old new r whole is told =
     by Operations whole told = told
     by Links whole told = told
     by Timers whole told = absurd whole
+    by Scopes whole told = told
 
 -- such a table is not left anywhere
 whole_left : (T : Type 0) (p : PlainScenario) (net : Network) (seed : ℕ) (o : Options) (show : Show) (old new : Option (List ℕ))
@@ -110,6 +111,7 @@ whole_left T p net seed o show old new r whole is =
     by Operations whole = tt
     by Links whole = tt
     by Timers whole = absurd whole
+    by Scopes whole = tt
 
 module _ {K : Type 0} (keeps : K → List Row → Type 0) where
   -- nothing is told of a run that was refused

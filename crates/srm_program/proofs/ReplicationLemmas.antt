@@ -17,7 +17,7 @@ use Rattle.srm_member.specs.declared.row.Row.{Row}
 use Rattle.srm_cell.specs.Setting.{setting_of}
 use Rattle.srm_model.specs.World.{World, IsLast}
 use Rattle.srm_options.specs.declared.options.Show.{Show}
-use Rattle.srm_options.specs.declared.options.Show.TheVariants.{Trace, Members, Losses, Operations, Links, Timers}
+use Rattle.srm_options.specs.declared.options.Show.TheVariants.{Trace, Members, Losses, Operations, Links, Timers, Scopes}
 use Rattle.srm_report.specs.Members.{member_rows}
 use Rattle.srm_report.specs.Seeds.{IsLine, AreLines}
 use Rattle.srm_report.specs.SinkLaws.{count_more}
@@ -25,7 +25,7 @@ use Rattle.srm_report.specs.Standings.{GrewBy}
 use Rattle.srm_report.specs.Tables.{lines_of, table_lines}
 use Rattle.srm_report.specs.Timers.{timers_fields, timers_rows}
 use Rattle.srm_report.proofs.LineLemmas.{decimal_is_plain, role_is_plain, time_is_plain, delay_is_plain, cause_is_plain, ref_is_plain}
-use Rattle.srm_report.proofs.LineLemmas.{last_is_plain, told_is_plain, sent_is_plain}
+use Rattle.srm_report.proofs.LineLemmas.{last_is_plain, local_is_plain, name_is_plain, packet_is_plain, told_is_plain, sent_is_plain}
 use Rattle.srm_program.specs.declared.fault.LabFault.{LabFault}
 use Rattle.srm_program.specs.declared.fault.LabFault.TheVariants.{BadCut, BadWidth, ShareFull, NoMemory, CountFull, WriteFault}
 use Rattle.srm_program.specs.Reports.{columns_shown, rows_shown, report_of, failures_after_run, TellsReport}
@@ -89,6 +89,12 @@ rows_are_lines Links p net rows totals =
     let d = decimal_is_plain in
     mapped_lines _ (λ l. (d _, (d _, (d _, (d _, (d _, (d _, tt))))))) _
 rows_are_lines Timers p net rows totals = all_timers rows
+rows_are_lines Scopes p net rows totals =
+    let d = decimal_is_plain in
+    let t = time_is_plain in
+    let l = local_is_plain in
+    mapped_lines _ (λ e. (d _, (d _, (cause_is_plain _, (name_is_plain _, (packet_is_plain _, (t _, (l (λ k. k.requester) _,
+    (l (λ k. k.width) _, (d _, tt)))))))))) _
 
 pub columns_are_line : (show : Show) → IsLine (columns_shown show)
 columns_are_line Trace = (refl, (refl, (refl, (refl, (refl, (refl, (refl, tt)))))))
@@ -97,6 +103,7 @@ columns_are_line Losses = (refl, (refl, (refl, (refl, (refl, (refl, (refl, tt)))
 columns_are_line Operations = (refl, (refl, (refl, (refl, (refl, (refl, (refl, (refl, (refl, (refl, (refl, (refl, tt))))))))))))
 columns_are_line Links = (refl, (refl, (refl, (refl, (refl, (refl, tt))))))
 columns_are_line Timers = (refl, (refl, (refl, (refl, (refl, (refl, (refl, (refl, (refl, (refl, (refl, (refl, tt))))))))))))
+columns_are_line Scopes = (refl, (refl, (refl, (refl, (refl, (refl, (refl, (refl, (refl, tt)))))))))
 
 -- the line of the columns, that of the seed in front
 pub seed_first : (show : Show) → row_text default_writer (codes "seed" ∷ columns_shown show)
@@ -108,6 +115,7 @@ seed_first Losses = refl
 seed_first Operations = refl
 seed_first Links = refl
 seed_first Timers = refl
+seed_first Scopes = refl
 
 -- ---- a run more
 
@@ -167,6 +175,7 @@ whole_told T v p net seed Losses old new h = h
 whole_told T v p net seed Operations old new h = h
 whole_told T v p net seed Links old new h = h
 whole_told T v p net seed Timers old new h = h
+whole_told T v p net seed Scopes old new h = h
 
 -- ---- runs under way
 

@@ -13,6 +13,7 @@ use Rattle.srm_report.specs.Links.{link_columns, link_rows}
 use Rattle.srm_report.specs.Losses.{loss_columns, loss_cmp, loss_row, losses_in}
 use Rattle.srm_report.specs.Members.{member_columns, member_rows}
 use Rattle.srm_report.specs.Operations.{names_lost, operation_columns, operation_row}
+use Rattle.srm_report.specs.Scopes.{scope_columns, scope_rows}
 use Rattle.srm_report.specs.Standings.{GrewBy}
 use Rattle.srm_report.specs.Tables.{table_lines}
 use Rattle.srm_report.specs.Timers.{timers_columns, timers_rows}
@@ -22,6 +23,7 @@ use Rattle.srm_program.specs.declared.fault.LabFault.TheVariants.{BadCut, BadWid
 use Rattle.srm_program.specs.declared.fault.LabFault.TheVariants.{WriteFault}
 use Rattle.srm_options.specs.declared.options.Show.{Show}
 use Rattle.srm_options.specs.declared.options.Show.TheVariants.{Trace, Members, Losses, Operations, Links, Timers}
+use Rattle.srm_options.specs.declared.options.Show.TheVariants.{Scopes}
 
 -- the columns of a table
 abbrev pub columns_shown : Show → List (List ℕ)
@@ -31,6 +33,7 @@ columns_shown Losses = loss_columns
 columns_shown Operations = operation_columns
 columns_shown Links = link_columns
 columns_shown Timers = timers_columns
+columns_shown Scopes = scope_columns
 
 -- the rows of a table, each as its fields, of a run of a scenario on its network that left these rows and totals
 abbrev pub rows_shown : Show → PlainScenario → Network → List Row → List ℕ → List (List (List ℕ))
@@ -40,6 +43,7 @@ rows_shown Losses p net rows totals = map (loss_row net rows) (ordered loss_cmp 
 rows_shown Operations p net rows totals = map (operation_row net rows) (names_lost rows)
 rows_shown Links p net rows totals = link_rows totals
 rows_shown Timers p net rows totals = flat_map timers_rows rows
+rows_shown Scopes p net rows totals = scope_rows rows
 
 -- the table of a run that left these rows and totals
 abbrev pub table_shown : Show → PlainScenario → Network → List Row → List ℕ → List ℕ

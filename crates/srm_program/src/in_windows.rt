@@ -21,6 +21,7 @@ use srm_member::participant::Participant;
 use srm_report::count_rows::CountRows;
 use srm_report::find_losses::FindLosses;
 use srm_report::find_operations::FindOperations;
+use srm_report::find_scopes::FindScopes;
 use srm_report::keep_lines::KeepLines;
 use srm_report::keep_nothing::KeepNothing;
 use srm_report::outlet::Outlet;
@@ -49,6 +50,7 @@ pub(crate) fn in_windows<R: Threads + Wait + Sync, O: Outlet>(
         Show::Losses => by_crew(rt, alloc, task, members, FindLosses { alloc }, outlet),
         Show::Operations => by_crew(rt, alloc, task, members, FindOperations { alloc }, outlet),
         Show::Links => by_crew(rt, alloc, task, members, KeepNothing, outlet),
+        Show::Scopes => by_crew(rt, alloc, task, members, FindScopes { alloc }, outlet),
         Show::Trace => {
             let listing = TraceListing;
             by_crew(

@@ -11,15 +11,18 @@ use srm_report::count_rows::CountRows;
 use srm_report::fault::ReportFault;
 use srm_report::find_losses::FindLosses;
 use srm_report::find_operations::FindOperations;
+use srm_report::find_scopes::FindScopes;
 use srm_report::keep_nothing::{KeepNothing, Nothing};
 use srm_report::links::links_text;
 use srm_report::losses::losses_kept;
 use srm_report::member_count::MemberCount;
 use srm_report::member_losses::MemberLosses;
 use srm_report::member_operations::MemberOperations;
+use srm_report::member_scopes::MemberScopes;
 use srm_report::members::members_kept;
 use srm_report::operations::operations_kept;
 use srm_report::outlet::Outlet;
+use srm_report::scopes::scopes_kept;
 use srm_scenario::session::Session;
 use std::alloc::Global;
 
@@ -122,6 +125,43 @@ impl WatchedTable<MemberOperations> for FindOperations {
     ghost show = { Operations };
 
     fn write<M: Participant, C: WatchCrew<M, MemberOperations, FindOperations>, O: Outlet>(
+        self,
+        alloc: Global,
+        asked: Asked<M>,
+        crew: &mut C,
+        outlet: &mut O,
+    ) -> Result<(), LabFault> {
+        write_windows(alloc, asked, crew, self, outlet)
+    }
+}
+
+/// The table of scopes, of what each member sent and heard.
+impl EndTable<MemberScopes> for FindScopes {
+    ghost use Rattle.srm_options.specs.declared.options.Show.TheVariants.{Scopes};
+
+    ghost table = { Scopes };
+
+    ghost is_whole = { tt };
+
+    fn text(
+        &self,
+        alloc: Global,
+        session: Session,
+        kept: &[MemberScopes],
+        _totals: &Totals,
+    ) -> Result<Vec<u8>, ReportFault> {
+        // By its contract, every scenario is accepted: that makes the rows of its run orderly.
+        let _ = session.scenario.until();
+        scopes_kept(alloc, kept)
+    }
+}
+
+impl WatchedTable<MemberScopes> for FindScopes {
+    ghost use Rattle.srm_options.specs.declared.options.Show.TheVariants.{Scopes};
+
+    ghost show = { Scopes };
+
+    fn write<M: Participant, C: WatchCrew<M, MemberScopes, FindScopes>, O: Outlet>(
         self,
         alloc: Global,
         asked: Asked<M>,

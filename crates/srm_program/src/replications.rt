@@ -15,7 +15,7 @@ use crate::replicating::Replicating;
 use srm_net::net::Net;
 use srm_report::outlet::Outlet;
 use srm_report::writing::{WriteFault, write_out};
-use srm_report::{links, losses, members, operations, timers, trace};
+use srm_report::{links, losses, members, operations, scopes, timers, trace};
 use srm_scenario::scenario::Scenario;
 use srm_team::bench::{Bench, serve_all};
 use srm_team::naming::Naming;
@@ -41,6 +41,7 @@ fn columns(show: Show) -> &'static [u8]
         Show::Operations => operations::HEADER,
         Show::Links => links::HEADER,
         Show::Timers => timers::HEADER,
+        Show::Scopes => scopes::HEADER,
     }
 }
 

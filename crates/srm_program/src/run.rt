@@ -16,6 +16,7 @@ use srm_net::net::Net;
 use srm_report::count_rows::CountRows;
 use srm_report::find_losses::FindLosses;
 use srm_report::find_operations::FindOperations;
+use srm_report::find_scopes::FindScopes;
 use srm_report::keep_nothing::KeepNothing;
 use srm_report::outlet::Outlet;
 use srm_report::timers::TimersListing;
@@ -80,5 +81,6 @@ pub fn run<R: Threads + Wait + Sync, O: Outlet>(
         Show::Operations => write_steps(alloc, task, members, FindOperations { alloc }, outlet),
         Show::Links => write_steps(alloc, task, members, KeepNothing, outlet),
         Show::Timers => write_listing(alloc, task, members, TimersListing, outlet),
+        Show::Scopes => write_steps(alloc, task, members, FindScopes { alloc }, outlet),
     }
 }

@@ -8,6 +8,7 @@ mod CutLemmas
 mod KeptLossLemmas
 mod KeptOperationLemmas
 mod KeptSendings
+mod ScopeLemmas
 pub mod LineLemmas
 pub mod LinkLemmas
 pub mod ListingLemmas

@@ -7,6 +7,7 @@ use Rattle.std.proofs.lemmas.List.{drop-drop}
 use Rattle.std.proofs.lemmas.List.Folds.{list_any-append}
 use Rattle.csv.specs.Machine.{line_feed}
 use Rattle.csv.specs.Writing.{comma, default_writer, fields_text, is_blank, needs_byte, needs_quotes, quoted, row_text}
+use Rattle.srm_net.specs.declared.packet.Local.{Local}
 use Rattle.srm_net.specs.declared.packet.Name.{Name}
 use Rattle.srm_net.specs.declared.packet.Packet.{Packet}
 use Rattle.srm_net.specs.declared.packet.PacketId.{PacketId}
@@ -118,6 +119,10 @@ last_is_plain (Some r) = decimal_is_plain r.member
 pub delay_is_plain : (net : Network) (source : ℕ) (o : Option Recovery) → IsPlain (or_dash (delay_of net source) o)
 delay_is_plain net source None = refl
 delay_is_plain net source (Some r) = ratio_is_plain (r.recovered - r.detected) (round net r.member source)
+
+pub local_is_plain : (number : Local → ℕ) (o : Option Local) → IsPlain (or_dash (λ l. decimal (number l)) o)
+local_is_plain number None = refl
+local_is_plain number (Some l) = decimal_is_plain (number l)
 
 pub role_is_plain : (r : Role) → IsPlain (role_word r)
 role_is_plain r = grind arith

@@ -54,7 +54,7 @@ one_between a p b c q d e f g = omega arith
 abbrev one : (Row → Bool) → Row → ℕ
 one t r = cond (t r) 1 0
 
-count_within : (t : Row → Bool) (pre : List Row) (x : Row) (post : List Row)
+pub count_within : (t : Row → Bool) (pre : List Row) (x : Row) (post : List Row)
     → count_by t (pre ++ x ∷ post) ≡ cond (t x) (count_by t (pre ++ post) + 1) (count_by t (pre ++ post))
 count_within t pre x post =
     one_between _ _ _ _ _ _ (sum_by-append (one t) pre (x ∷ post)) (sum_by-cons (one t) x post) (sum_by-append (one t) pre post)

@@ -5,6 +5,8 @@ pub mod Devices
 pub mod KeptLines
 pub mod KeptLosses
 pub mod KeptOperations
+pub mod Scopes
+pub mod KeptScopes
 pub mod Lines
 pub mod Links
 pub mod ListingSinks

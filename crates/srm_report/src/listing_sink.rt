@@ -1,5 +1,5 @@
 //! A table that lists rows, written as they come.
-ghost use Rattle.std.specs.Prelude.{◌≡◌, ◌<◌, ◌+◌, ◌-◌, ◌^◌, ◌≤◌, ◌==◌, ◌||◌, List, [], false, is_ok, not, if◌then◌else◌, length, IfOk};
+ghost use Rattle.std.specs.Prelude.{◌≡◌, ◌<◌, ◌+◌, ◌-◌, ◌^◌, ◌≤◌, ◌==◌, ◌||◌, List, [], false, true, is_ok, not, if◌then◌else◌, length, IfOk};
 ghost use Rattle.srm_member.specs.declared.row.Row.{Row as R};
 ghost use Rattle.srm_interfaces.specs.Grouped.{all_in, sizes};
 ghost use Rattle.srm_report.specs.KeptLines.{AreLinesOf};
@@ -220,6 +220,8 @@ impl<'a, L: Listing, O: Outlet> ListingSink<'a, L, O> {
             → PutsText O.taken self.old (text_next L.form (standing_of self.old) rows) result self.new }
         ensures told { stage_at (after_answer result) (written_by self.new) ≡ stage_after result }
         ensures left { LeavesOutlet self.old result self.new }
+        ensures gathered { (rows : List R) → AreLinesOf L.form rows (all_in groups.now)
+            → IfOk result (λ _. Gathers self.old (text_next L.form (standing_of self.old) rows) self.new) }
     {
         match pieces_of_lines::<L>(alloc, self.standing, groups) {
             Ok(pieces) => self.put_pieces(pieces.as_slice()),
@@ -235,27 +237,32 @@ impl<'a, L: Listing, O: Outlet> ListingSink<'a, L, O> {
         ensures failures { O.failures (outlet_under self.new) ≡ O.failures (outlet_under self.old) + stops_in result }
         ensures text { PutsText O.taken self.old (whole_text pieces.now) result self.new }
         ensures left { LeavesOutlet self.old result self.new }
+        ensures gathered { IfOk result (λ _. Gathers self.old (whole_text pieces.now) self.new) }
     {
-        match pieces {
-            [text] => self.put(text.bytes()),
-            _ => self.write_each(pieces),
+        if let [text] = pieces {
+            return self.put(text.bytes());
+        }
+        match self.write_each(pieces) {
+            Ok(()) => Ok(()),
+            Err(OutFault) => {
+                let written = self.written;
+                Err(SinkFault::Stopped { written })
+            }
         }
     }
 
     // Writes what is gathered, and the pieces of a text after it. It does not allocate.
-    fn write_each(&mut self, pieces: &[Piece]) -> Result<(), SinkFault>
+    fn write_each(&mut self, pieces: &[Piece]) -> Result<(), OutFault>
         requires failures { O.failures (outlet_under self.old) < 2 ^ 64 - 1 }
         ensures outlet { AreOverOne self.old self.new }
         ensures standing { StandsAsBefore self.old self.new }
-        ensures failures { O.failures (outlet_under self.new) ≡ O.failures (outlet_under self.old) + stops_in result }
-        ensures text { PutsText O.taken self.old (whole_text pieces.now) result self.new }
-        ensures left { LeavesOutlet self.old result self.new }
+        ensures failures { O.failures (outlet_under self.new)
+            ≡ (if is_ok result then O.failures (outlet_under self.old) else O.failures (outlet_under self.old) + 1) }
+        ensures text { WritesThrough O.taken self.old (whole_text pieces.now) result self.new }
     {
+        self.write_gathered()?;
         for piece in pieces {
-            if let Err(OutFault) = self.write_through(piece.bytes()) {
-                let written = self.written;
-                return Err(SinkFault::Stopped { written });
-            }
+            self.write_through(piece.bytes())?;
         }
         Ok(())
     }
@@ -365,7 +372,7 @@ impl<'a, L: Listing, O: Outlet> KeptSink<Lines> for ListingSink<'a, L, O> {
     ghost use Rattle.srm_interfaces.specs.InTurn.{KeepInTurn};
     ghost use Rattle.srm_interfaces.specs.Sinks.{IsOpen, stage_after, stops_in};
     ghost use Rattle.srm_report.specs.KeptLines.{lines_of};
-    ghost use Rattle.srm_report.specs.ListingSinks.{stage_of, outlet_under, AreOverOne, LeavesOutlet, PutsRows, PutsPart};
+    ghost use Rattle.srm_report.specs.ListingSinks.{stage_of, standing_of, has_begun, outlet_under, AreOverOne, Gathers, LeavesOutlet, PutsRows, PutsPart};
 
     ghost keeps = { λ k rows. k ≡ lines_of L.form rows };
 
@@ -381,6 +388,9 @@ impl<'a, L: Listing, O: Outlet> KeptSink<Lines> for ListingSink<'a, L, O> {
             → MatchResult result (λ _. PutsRows O.taken L.form self.old rows self.new)
             (λ _. PutsPart O.taken L.form self.old rows self.new) }
         ensures left { LeavesOutlet self.old result self.new }
+        ensures gathered { (rows : List R) → AreLinesOf L.form rows (all_in groups.old)
+            → IfOk result (λ _. Gathers self.old (text_next L.form (standing_of self.old) rows) self.new) }
+        ensures begun { has_begun self.new ≡ true }
     {
         let answer = self.put_lines(alloc, groups);
         self.has_begun = true;

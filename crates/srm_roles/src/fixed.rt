@@ -1,6 +1,7 @@
 //! The part of a member's record that never changes.
 ghost use Rattle.std.specs.Prelude.{◌≡◌, ◌<◌, length, IfOk, ◌==◌, if◌then◌else◌};
 ghost use Rattle.srm_member.specs.declared.backoff.BackoffFactor.TheVariants.{Two, Three};
+ghost use Rattle.srm_member.specs.declared.steps.Steps.TheVariants.{One as InOne, Two as InTwo};
 ghost use Rattle.srm_scenario.specs.Plain.{network_of};
 ghost use Rattle.srm_member.specs.Fit.{IsBounded};
 ghost use Rattle.srm_scenario.specs.Accepted.{HasRoom};
@@ -9,7 +10,9 @@ ghost use Rattle.srm_roles.specs.Opening.{limits_of, fixed_of};
 use srm_member::backoff::BackoffFactor;
 use srm_member::distances::Distances;
 use srm_member::fixed::Fixed;
+use srm_member::hops::Hops;
 use srm_member::limits::Limits;
+use srm_member::steps::Steps;
 use srm_net::net::Net;
 use srm_scenario::parts::Room;
 use srm_scenario::scenario::Scenario;
@@ -33,6 +36,7 @@ pub fn fixed_of(
     ensures fit { IfOk result IsBounded }
 {
     let dist = Distances::from(net.half_rounds(m)?);
+    let hops = Hops::from(net.hops_from(m)?);
     let member = scenario.member(m);
     let pages = member.pages.clone()?;
     let first = scenario.constants();
@@ -50,6 +54,11 @@ pub fn fixed_of(
         d1: limits_of(first.d1, least.d1, most.d1),
         d2: limits_of(first.d2, least.d2, most.d2),
         dist,
+        hops,
+        scope: member.scope,
+        widen: scenario.widen(),
+        tries: scenario.tries(),
+        steps: steps_of(scenario.steps()),
         pages,
         seed,
         stream: member.stream,
@@ -65,6 +74,13 @@ fn factor_of(backoff: u64) -> BackoffFactor
     } else {
         BackoffFactor::Two
     }
+}
+
+// In how many steps repairs go, by a scenario's number.
+fn steps_of(steps: u16) -> Steps
+    ensures { result ≡ (if steps == 1 then InOne else InTwo) }
+{
+    if steps == 1 { Steps::One } else { Steps::Two }
 }
 
 // A constant of timers, with the least and the most that it is adapted to.

@@ -112,7 +112,7 @@ fn listen(held: &mut Held, cause: &Cause) -> Result<Told, AllocError>
         Cause::Join => Ok(Told::Entered),
         Cause::Arrival { packet } => match &packet.body {
             Body::Drawop { name, ink } => hold(held, *name, *ink),
-            Body::Repair { name, ink } => hold(held, *name, *ink),
+            Body::Repair { name, ink, .. } => hold(held, *name, *ink),
             Body::Request { .. } => Ok(Told::Skip),
             Body::Session { .. } => Ok(Told::Skip),
         },

@@ -192,6 +192,7 @@ accepted_from s star entries listed range its members drops h =
       some_ticks = range.some_ticks;
       few_ticks = range.few_ticks;
       constants = range.constants;
+      recovery = range.recovery;
       network = record {
         tree = tree_from_test (network_of s) (unless_true _ NotTree tree);
         delays = All-from_recursion HasDelays s.links range.delays;

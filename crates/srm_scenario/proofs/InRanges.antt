@@ -21,24 +21,25 @@ use Rattle.srm_scenario.specs.declared.key.Key.{Key}
 use Rattle.srm_scenario.specs.declared.rule.Kind.TheVariants.{Whole, Each}
 use Rattle.srm_scenario.specs.declared.rule.Need.TheVariants.{Optional}
 use Rattle.srm_scenario.specs.declared.rule.Rule.{Rule}
-use Rattle.srm_scenario.specs.KeyLimits.{greatest_delay, last_stream}
+use Rattle.srm_scenario.specs.KeyLimits.{greatest_delay, greatest_scope, last_stream}
 use Rattle.srm_scenario.specs.Rules.{rule, rule_if, allows_back, back_rule, is_met, fits_rules, fits_element, link_rules}
-use Rattle.srm_scenario.specs.Rules.{member_rules, all_whole, count_items, is_whole, optional_number}
+use Rattle.srm_scenario.specs.Rules.{member_rules, scope_rule, all_whole, count_items, is_whole, optional_number}
 use Rattle.srm_scenario.specs.Keys.{name_of}
 use Rattle.srm_scenario.specs.Described.{version_of, whole_number_of, number, array_at, table_of}
 use Rattle.srm_scenario.specs.Described.{link_of, elements_at, links_to_parents, described_scenario}
 use Rattle.srm_scenario.specs.Described.{items_list, names_parents, number_at, values_at, delay_at, back_delay_at, links_from}
-use Rattle.srm_scenario.specs.Described.{given_links, links_in, delays_of, topology_of, repeated_at}
-use Rattle.srm_scenario.specs.Faults.{element_faults, entry_of, entry_copy, entry_in_range, fits_repeated, key_faults, top_faults}
+use Rattle.srm_scenario.specs.Described.{given_links, links_in, delays_of, topology_of, scope_of}
+use Rattle.srm_scenario.specs.Faults.{element_faults, entries_in, entry_of, entry_copy, entry_in_range, fits_repeated, key_faults}
+use Rattle.srm_scenario.specs.Faults.{top_faults}
 use Rattle.srm_scenario.specs.Faults.{faults_of_links, faults_of_members, faults_of_draws, faults_of_sessions, rules_of_top}
 use Rattle.srm_scenario.specs.LookUps.{AreDelays}
 use Rattle.srm_scenario.specs.Drafts.{IsDraft, plain_of}
 use Rattle.srm_scenario.specs.Ranges.{MemberInRange, HasItsPages, InRange}
 use Rattle.srm_scenario.proofs.Acceptance.{empty_parts, none_by, unless_true}
-use Rattle.srm_scenario.proofs.Repetition.{few_draws, few_sessions, stand_for_all, stand_for_members}
+use Rattle.srm_scenario.proofs.Repetition.{few_draws, few_sessions, fits_scoped, stand_for_all, stand_for_members}
 use Rattle.srm_scenario.proofs.TopFits.{until_fits, constants_fit, delays_fit, delays_met, backs_met, one_delay, one_back, draws_fit}
-use Rattle.srm_scenario.proofs.TopFits.{sessions_fit}
-use Rattle.srm_scenario.proofs.KeyRanges.{number_fits, optional_bound, rule_met, whole_number, back_fits}
+use Rattle.srm_scenario.proofs.TopFits.{recovery_fits, scope_fits, sessions_fit}
+use Rattle.srm_scenario.proofs.KeyRanges.{number_fits, optional_bound, or_fits, rule_met, whole_number, back_fits}
 use Rattle.srm_net.specs.Limits.{end_of_time}
 
 -- ---- elements
@@ -64,17 +65,23 @@ link_delay v m h =
     let there = number_fits (link_rules v) m h 2 key.Delay 1 greatest_delay refl in
     (there, back_fits m (allows_back v) (rule_met (link_rules v) m h 3 (back_rule (allows_back v)) refl) there)
 
-member_range : (v : Version) (m : Members) → fits_rules (member_rules v) m ≡ true → MemberInRange (entry_of m).spec
-member_range v m h =
+scope_range : (v : Version) (scope : ℕ) (m : Members) → is_met m (scope_rule v) ≡ true → scope ≤ greatest_scope
+    → scope_of scope m ≤ greatest_scope
+scope_range v scope m h few = grind (arith, or_fits)
+
+member_range : (v : Version) (scope : ℕ) (m : Members) → scope ≤ greatest_scope → fits_rules (member_rules v) m ≡ true
+    → MemberInRange (entry_of scope m).spec
+member_range v scope m most h =
     let few = number_fits (member_rules v) m h 2 key.Stream 0 last_stream refl in
     record {
       stream = omega (arith, few.1);
       leave = optional_bound key.Leave 1 end_of_time m
           (rule_met (member_rules v) m h 4 (rule key.Leave (Whole 1 end_of_time) Optional) refl);
+      scope = scope_range v scope m (rule_met (member_rules v) m h 6 (scope_rule v) refl) most;
     }
 
-pages_own : (v : Version) (m : Members) → fits_rules (member_rules v) m ≡ true → HasItsPages (entry_of m)
-pages_own v m h none = grind arith
+pages_own : (v : Version) (scope : ℕ) (m : Members) → fits_rules (member_rules v) m ≡ true → HasItsPages (entry_of scope m)
+pages_own v scope m h none = grind arith
 
 all_spec : (es : List MemberEntry) → AllByRecursion (λ e. MemberInRange e.spec) es → AllByRecursion MemberInRange (map (λ e. e.spec) es)
 all_spec [] h = tt
@@ -157,16 +164,20 @@ session_part ms h = grind (arith, empty_parts)
 -- what holds of each copy in range of an entry holds of all members
 all_entries : (P : MemberEntry → Type 0) (ms : Members) → key_faults ms ≡ []
     → ((d : Data) → fits_element (member_rules (version_of ms)) d ≡ true → (k every : ℕ)
-    → entry_in_range (entry_copy k every (entry_of (table_of d))) ≡ true → P (entry_copy k every (entry_of (table_of d))))
-    → AllByRecursion P (repeated_at (codes "member") entry_copy entry_of ms)
+    → entry_in_range (entry_copy k every (entry_of (number (codes "scope") ms) (table_of d))) ≡ true
+    → P (entry_copy k every (entry_of (number (codes "scope") ms) (table_of d)))) → AllByRecursion P (entries_in ms)
 all_entries P ms h each =
-    stand_for_all P (member_rules (version_of ms)) entry_of entry_copy entry_in_range each (array_at (codes "member") ms)
+    let rules : List Rule = member_rules (version_of ms) in
+    let scope = number (codes "scope") ms in
+    stand_for_all P rules (entry_of scope) entry_copy entry_in_range each (array_at (codes "member") ms)
+    (fits_scoped scope rules (array_at (codes "member") ms)
     (none_by (BadKey Rattle.srm_scenario.specs.declared.fault.Part.TheVariants.Member)
-    (fits_repeated (member_rules (version_of ms)) entry_of entry_copy entry_in_range) 0 (array_at (codes "member") ms) (member_part ms h))
+    (fits_repeated rules (entry_of 0) entry_copy entry_in_range) 0 (array_at (codes "member") ms) (member_part ms h)))
 
-copy_range : (v : Version) (d : Data) → fits_element (member_rules v) d ≡ true → (k every : ℕ)
-    → entry_in_range (entry_copy k every (entry_of (table_of d))) ≡ true → MemberInRange (entry_copy k every (entry_of (table_of d))).spec
-copy_range v d h k every range = grind (arith, member_range)
+copy_range : (v : Version) (scope : ℕ) → scope ≤ greatest_scope → (d : Data) → fits_element (member_rules v) d ≡ true → (k every : ℕ)
+    → entry_in_range (entry_copy k every (entry_of scope (table_of d))) ≡ true
+    → MemberInRange (entry_copy k every (entry_of scope (table_of d))).spec
+copy_range v scope most d h k every range = grind (arith, member_range)
 
 -- the scenario that a table describes is in range where no key is a fault
 pub described_range : (ms : Members) → key_faults ms ≡ [] → InRange (described_scenario ms)
@@ -176,25 +187,27 @@ described_range ms h =
     let until = until_fits ms top in
     let links : AllByRecursion HasDelays (given_links ms) =
     given_delays ms top (read_elements HasDelays _ link_of (link_rules (version_of ms)) (link_delay (version_of ms)) _ (link_part ms h)) in
-    let members : AllByRecursion (λ e. MemberInRange e.spec) (repeated_at (codes "member") entry_copy entry_of ms) =
-    all_entries (λ e. MemberInRange e.spec) ms h (copy_range (version_of ms)) in
+    let members : AllByRecursion (λ e. MemberInRange e.spec) (entries_in ms) =
+    all_entries (λ e. MemberInRange e.spec) ms h (copy_range (version_of ms) (number (codes "scope") ms) (scope_fits ms top)) in
     record {
       some_ticks = until.0;
       few_ticks = until.1;
       constants = constants_fit ms top;
+      recovery = recovery_fits ms top;
       delays = described_delays ms (topology_of ms) (delays_fit ms top) links;
-      members = subst (λ (ks : List MemberSpec). AllByRecursion MemberInRange ks) (stand_for_members (array_at (codes "member") ms))
-          (all_spec _ members);
+      members = subst (λ (ks : List MemberSpec). AllByRecursion MemberInRange ks)
+          (stand_for_members (number (codes "scope") ms) (array_at (codes "member") ms)) (all_spec _ members);
       few_draws = few_draws (version_of ms) (array_at (codes "draw") ms) (draws_fit ms top) (draw_part ms h);
       few_sessions = few_sessions (version_of ms) (array_at (codes "session") ms) (sessions_fit ms top) (session_part ms h);
     }
 
 -- and its members have no pages where none are given for them
 pub described_pages : (ms : Members) → key_faults ms ≡ []
-    → AllByRecursion HasItsPages (repeated_at (codes "member") entry_copy entry_of ms)
+    → AllByRecursion HasItsPages (entries_in ms)
 described_pages ms h =
     all_entries HasItsPages ms h
-    (λ d fits k every range. one_read HasItsPages entry_of (member_rules (version_of ms)) (pages_own (version_of ms)) d fits)
+    (λ d fits k every range. one_read HasItsPages (entry_of (number (codes "scope") ms)) (member_rules (version_of ms))
+    (pages_own (version_of ms) (number (codes "scope") ms)) d fits)
 
 -- what the table describes is the scenario of what it lists
 pub described_is : (ms : Members) (l : Draft) → IsDraft ms l → described_scenario ms ≡ plain_of l

@@ -7,6 +7,7 @@ pub mod ScriptLemmas
 pub mod ScriptLists
 pub mod Sorting
 pub mod Members
+pub mod MarkedNodes
 pub mod Arrays
 pub mod Shapes
 pub mod FaultLists

@@ -125,6 +125,7 @@ pub plain_made : (l : Draft) (links : List LinkSpec) (members : List MemberSpec)
       until = l.until;
       constants = l.constants;
       room = l.room;
+      recovery = l.recovery;
       nodes = l.nodes;
       links = links;
       members = members;

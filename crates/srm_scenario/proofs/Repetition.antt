@@ -22,13 +22,13 @@ use Rattle.srm_scenario.specs.declared.rule.Kind.TheVariants.{Whole}
 use Rattle.srm_scenario.specs.declared.rule.Need.TheVariants.{Refused}
 use Rattle.srm_scenario.specs.declared.rule.Rule.{Rule}
 use Rattle.srm_scenario.specs.declared.version.Version.{Version}
-use Rattle.srm_scenario.specs.declared.version.Version.TheVariants.{One, Two, Three, Four}
+use Rattle.srm_scenario.specs.declared.version.Version.TheVariants.{One, Two, Three, Four, Five}
 use Rattle.srm_scenario.specs.KeyLimits.{most_times}
 use Rattle.srm_scenario.specs.Rules.{rule_if, meets, whole_number_of, times_repeated, times_said, fits_element, draw_rules, session_rules}
 use Rattle.srm_scenario.specs.Described.{copies, repeated, every_of, table_of, draw_of, draw_copy, session_message_of, session_copy}
 use Rattle.srm_scenario.specs.Described.{member_of, member_copy}
 use Rattle.srm_scenario.specs.Faults.{fits_repeated, faults_of_draws, faults_of_sessions, draw_in_range, session_in_range, entry_of}
-use Rattle.srm_scenario.specs.Faults.{entry_copy, faults_by, first}
+use Rattle.srm_scenario.specs.Faults.{entry_copy, entry_in_range, or_scope, faults_by, first}
 use Rattle.srm_scenario.specs.LookUps.{FewElements}
 use Rattle.srm_scenario.proofs.Acceptance.{none_by}
 use Rattle.srm_scenario.proofs.KeyRanges.{rule_met}
@@ -152,6 +152,7 @@ few_draws Two ds few none =
     few_alone (draw_rules Two) 4 draw_of draw_copy draw_in_range refl ds (none_by (BadKey part.Draw) _ 0 ds none) (few.are refl)
 few_draws Three ds few none = few_together draw_of draw_copy ds (few.stand_for refl)
 few_draws Four ds few none = few_together draw_of draw_copy ds (few.stand_for refl)
+few_draws Five ds few none = few_together draw_of draw_copy ds (few.stand_for refl)
 
 -- and session messages
 pub few_sessions : (v : Version) (ds : List Data) → FewElements v ds → faults_of_sessions v ds ≡ []
@@ -164,6 +165,7 @@ few_sessions Two ds few none =
     (few.are refl)
 few_sessions Three ds few none = few_together session_message_of session_copy ds (few.stand_for refl)
 few_sessions Four ds few none = few_together session_message_of session_copy ds (few.stand_for refl)
+few_sessions Five ds few none = few_together session_message_of session_copy ds (few.stand_for refl)
 
 -- ---- what holds of each copy
 
@@ -198,9 +200,45 @@ copies_spec every e k zero = refl
 copies_spec every e k (suc n) = ap (λ (l : List MemberSpec). member_copy k every e.spec ∷ l) (copies_spec every e (k + 1) n)
 
 -- the members for which elements stand, without what is only needed to read them
-pub stand_for_members : (ds : List Data) → map (λ e. e.spec) (flat_map (repeated entry_copy entry_of) ds)
-    ≡ flat_map (repeated member_copy member_of) ds
-stand_for_members [] = refl
-stand_for_members (d ∷ ds) =
-    map_join (λ e. e.spec) (repeated entry_copy entry_of d) (flat_map (repeated entry_copy entry_of) ds)
-    ∙ (λ i. copies_spec (every_of d) (entry_of (table_of d)) 0 (times_repeated d) i ++ stand_for_members ds i)
+pub stand_for_members : (scope : ℕ) (ds : List Data) → map (λ e. e.spec) (flat_map (repeated entry_copy (entry_of scope)) ds)
+    ≡ flat_map (repeated member_copy (member_of scope)) ds
+stand_for_members scope [] = refl
+stand_for_members scope (d ∷ ds) =
+    map_join (λ e. e.spec) (repeated entry_copy (entry_of scope) d) (flat_map (repeated entry_copy (entry_of scope)) ds)
+    ∙ (λ i. copies_spec (every_of d) (entry_of scope (table_of d)) 0 (times_repeated d) i ++ stand_for_members scope ds i)
+
+-- a copy of a member that is read from its own table, with a scope for where it has none, is that of the member with this scope
+one_scoped : (scope k every : ℕ) (ms : Members)
+    → or_scope scope (entry_copy k every (entry_of 0 ms)) ≡ entry_copy k every (entry_of scope ms)
+one_scoped scope k every ms = grind arith
+
+copies_scoped : (scope every : ℕ) (ms : Members) (k n : ℕ) → map (or_scope scope) (copies (λ j. entry_copy j every (entry_of 0 ms)) k n)
+    ≡ copies (λ j. entry_copy j every (entry_of scope ms)) k n
+copies_scoped scope every ms k zero = refl
+copies_scoped scope every ms k (suc n) =
+    λ i. one_scoped scope k every ms i ∷ copies_scoped scope every ms (k + 1) n i
+
+-- members that are read from their own tables, with a scope for those that have none, are the members with this scope
+pub members_scoped : (scope : ℕ) (vs : List Value)
+    → map (or_scope scope) (flat_map (λ v. repeated entry_copy (entry_of 0) (view v)) vs)
+    ≡ flat_map (λ v. repeated entry_copy (entry_of scope) (view v)) vs
+members_scoped scope [] = refl
+members_scoped scope (v ∷ vs) =
+    map_join (or_scope scope) (repeated entry_copy (entry_of 0) (view v)) (flat_map (λ x. repeated entry_copy (entry_of 0) (view x)) vs)
+    ∙ (λ i. copies_scoped scope (every_of (view v)) (table_of (view v)) 0 (times_repeated (view v)) i ++ members_scoped scope vs i)
+
+-- whether members are in range does not hang on their scope
+range_copies : (scope every : ℕ) (ms : Members) (k n : ℕ) → list_all entry_in_range (copies (λ j. entry_copy j every (entry_of 0 ms)) k n)
+    ≡ list_all entry_in_range (copies (λ j. entry_copy j every (entry_of scope ms)) k n)
+range_copies scope every ms k zero = refl
+range_copies scope every ms k (suc n) =
+    ap (λ b. entry_in_range (entry_copy k every (entry_of 0 ms)) && b) (range_copies scope every ms (k + 1) n)
+
+pub fits_scoped : (scope : ℕ) (rules : List Rule) (ds : List Data)
+    → AllByRecursion (λ d. fits_repeated rules (entry_of 0) entry_copy entry_in_range d ≡ true) ds
+    → AllByRecursion (λ d. fits_repeated rules (entry_of scope) entry_copy entry_in_range d ≡ true) ds
+fits_scoped scope rules [] h = tt
+fits_scoped scope rules (d ∷ ds) h = (
+  sym (ap (λ b. fits_element rules d && b) (range_copies scope (every_of d) (table_of d) 0 (times_repeated d))) ∙ h.0,
+  fits_scoped scope rules ds h.1,
+)

@@ -8,8 +8,8 @@ use Rattle.srm_scenario.specs.declared.fault.ScenarioFault.{ScenarioFault}
 use Rattle.srm_scenario.specs.declared.fault.ScenarioFault.TheVariants.{NoMemory}
 use Rattle.srm_scenario.specs.declared.draft.Draft.{Draft}
 use Rattle.srm_scenario.specs.Accepted.{IsAccepted}
-use Rattle.srm_scenario.specs.Described.{array_at, repeated_at, listed_drops, described_scenario, topology_of}
-use Rattle.srm_scenario.specs.Faults.{first, IsFault, is_star, entry_of, entry_copy, key_faults, meaning_faults, faults_of}
+use Rattle.srm_scenario.specs.Described.{array_at, number, listed_drops, described_scenario, topology_of}
+use Rattle.srm_scenario.specs.Faults.{first, IsFault, is_star, entries_in, key_faults, meaning_faults, faults_of}
 use Rattle.srm_scenario.specs.Faults.{answer, scenario_of_table}
 use Rattle.srm_scenario.specs.Drafts.{IsDraft, plain_of, faults_in}
 use Rattle.srm_scenario.specs.Plain.{PlainScenario}
@@ -25,7 +25,7 @@ answer-first (f ∷ fs) s e h = let same : f ≡ e = cc in ap Err same
 -- the faults of meaning are those of what is listed
 faults_same : (ms : Members) (l : Draft) → IsDraft ms l
     → meaning_faults (described_scenario ms) (is_star (topology_of ms))
-    (repeated_at (codes "member") entry_copy entry_of ms) (listed_drops ms)
+    (entries_in ms) (listed_drops ms)
     ≡ faults_in l
 faults_same ms l h = λ i. meaning_faults (described_is ms l h i) (is_star (h.topology i)) (h.members i) (h.drops i)
 
@@ -66,6 +66,7 @@ table_accepted ms p h =
     let (none, same) = none_told (faults_of ms) (described_scenario ms) p h in
     let (keys, meant) = empty_parts (key_faults ms) _ none in
     subst IsAccepted same
-    (accepted_from (described_scenario ms) (is_star (topology_of ms)) (repeated_at (codes "member") entry_copy entry_of ms)
-    (listed_drops ms) (described_range ms keys) (described_pages ms keys) (sym (stand_for_members (array_at (codes "member") ms))) refl
+    (accepted_from (described_scenario ms) (is_star (topology_of ms)) (entries_in ms)
+    (listed_drops ms) (described_range ms keys) (described_pages ms keys)
+    (sym (stand_for_members (number (codes "scope") ms) (array_at (codes "member") ms))) refl
     meant)

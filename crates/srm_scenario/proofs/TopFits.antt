@@ -18,14 +18,15 @@ use Rattle.srm_scenario.specs.declared.topology.Topology.{Topology}
 use Rattle.srm_scenario.specs.declared.topology.Topology.TheVariants.{Chain, Star, Tree}
 use Rattle.srm_scenario.specs.declared.version.Version.{Version}
 use Rattle.srm_scenario.specs.Keys.{name_of}
-use Rattle.srm_scenario.specs.Accepted.{AreConstants, HasRoom}
-use Rattle.srm_scenario.specs.KeyLimits.{greatest_delay, greatest_limit}
+use Rattle.srm_scenario.specs.Accepted.{AreConstants, HasRoom, IsRecovery}
+use Rattle.srm_scenario.specs.KeyLimits.{greatest_delay, greatest_limit, greatest_scope, most_tries}
 use Rattle.srm_scenario.specs.Rules.{rule, fits_rules, is_met, is_text, meets, most_nodes_in, last_number, allows_back}
-use Rattle.srm_scenario.specs.Rules.{topology_rule, degree_rule, constant_rule, allows_limits, rule_if}
+use Rattle.srm_scenario.specs.Rules.{topology_rule, degree_rule, constant_rule, allows_limits, allows_scopes, rule_if, scope_rule}
 use Rattle.srm_scenario.specs.Rules.{back_rule, count_items, count_made, times_repeated, rule_where, listed_in, topologies_in, is_kind}
 use Rattle.srm_scenario.specs.Rules.{is_whole, all_whole, optional_number}
 use Rattle.srm_scenario.specs.Described.{number, is_text_or, says, array_of, array_at, items_list, version_of, topology_of}
-use Rattle.srm_scenario.specs.Described.{nodes_in, delays_of, constants_of, number_or, room_of, form_of, given_nodes, names_parents}
+use Rattle.srm_scenario.specs.Described.{nodes_in, delays_of, constants_of, number_or, recovery_of, room_of, form_of, given_nodes}
+use Rattle.srm_scenario.specs.Described.{names_parents}
 use Rattle.srm_scenario.specs.Faults.{rules_of_top}
 use Rattle.srm_scenario.specs.LookUps.{HasDegree, AreDelays, FewElements}
 use Rattle.srm_scenario.proofs.KeyRanges.{number_fits, or_fits, required_number, rule_met, back_fits}
@@ -170,11 +171,35 @@ module _ (ms : Members) (h : fits_rules (rules_of_top ms) ms ≡ true) where
     thrice = backoff_fits.1;
   }
 
+  pub scope_fits : number (codes "scope") ms ≤ greatest_scope
+  scope_fits =
+      (or_fits (allows_scopes (version_of ms)) key.Scope 0 greatest_scope 0 ms (met 15 (scope_rule (version_of ms)) refl) (omega arith)
+      (omega arith)).1
+
+  -- a number of local recovery, which lies in its range where it is given, and is another one where it is not
+  recovery_at : (k : Key) (low high other i : ℕ)
+      → slice_get (rules_of_top ms) i ≡ Some (rule_if (allows_scopes (version_of ms)) k (Whole low high)) → low ≤ other → other ≤ high
+      → (low ≤ unwrap_or (optional_number (name_of k) ms) other) × (unwrap_or (optional_number (name_of k) ms) other ≤ high)
+  recovery_at k low high other i is least most = or_fits (allows_scopes (version_of ms)) k low high other ms (met i _ is) least most
+
+  pub recovery_fits : IsRecovery (recovery_of ms)
+  recovery_fits =
+      let widen = recovery_at key.Widen 0 greatest_scope 0 16 refl (omega arith) (omega arith) in
+      let tries = recovery_at key.Tries 1 most_tries 1 17 refl (omega arith) (omega arith) in
+      let steps = recovery_at key.Steps 1 2 2 18 refl (omega arith) (omega arith) in
+      record {
+        widen = widen.1;
+        some_tries = tries.0;
+        few_tries = tries.1;
+        one_step = steps.0;
+        two_steps = steps.1;
+      }
+
   topology_met : is_met ms (topology_rule (version_of ms)) ≡ true
-  topology_met = met 16 _ refl
+  topology_met = met 20 _ refl
 
   degree_met : is_met ms (degree_rule (version_of ms) (says (codes "topology") (codes "tree") ms)) ≡ true
-  degree_met = met 20 _ refl
+  degree_met = met 24 _ refl
 
   sized : (form_of ms).sized ≡ is_some (topology_of ms)
   sized = named_one (says (codes "topology") (codes "tree") ms) (says (codes "topology") (codes "chain") ms)
@@ -193,7 +218,7 @@ module _ (ms : Members) (h : fits_rules (rules_of_top ms) ms ≡ true) where
 
   parents_met : (length (array_at (codes "parent") ms) ≤ last_number (version_of ms))
       × (list_all (is_whole 0 (last_number (version_of ms))) (array_at (codes "parent") ms) ≡ true)
-  parents_met = numbers_met (names_parents ms) key.Parent (last_number (version_of ms)) (last_number (version_of ms)) ms (met 28 _ refl)
+  parents_met = numbers_met (names_parents ms) key.Parent (last_number (version_of ms)) (last_number (version_of ms)) ms (met 32 _ refl)
 
   pub few_parents : length (array_at (codes "parent") ms) ≤ most_links
   few_parents =
@@ -223,7 +248,7 @@ module _ (ms : Members) (h : fits_rules (rules_of_top ms) ms ≡ true) where
             | inr free ↦ free
           ] in
           required_number key.Nodes 1 (most_nodes_in (version_of ms)) ms
-          (subst (λ b. is_met ms (rule_where (not b) key.Nodes (Whole 1 (most_nodes_in (version_of ms)))) ≡ true) free (met 15 _ refl))
+          (subst (λ b. is_met ms (rule_where (not b) key.Nodes (Whole 1 (most_nodes_in (version_of ms)))) ≡ true) free (met 19 _ refl))
 
   pub nodes_fit : (1 ≤ nodes_in (topology_of ms) ms) × (nodes_in (topology_of ms) ms ≤ most_nodes_in (version_of ms))
   nodes_fit = by (topology_of ms) refl
@@ -233,7 +258,7 @@ module _ (ms : Members) (h : fits_rules (rules_of_top ms) ms ≡ true) where
       by (Some t) e =
           required_number key.Size 1 (most_nodes_in (version_of ms)) ms
           (subst (λ b. is_met ms (rule_where b key.Size (Whole 1 (most_nodes_in (version_of ms)))) ≡ true) (sized ∙ ap is_some e)
-          (met 17 _ refl))
+          (met 21 _ refl))
 
   abbrev delays_listed : Bool
   delays_listed = names_parents ms && not (is_some (get_member (codes "delays") ms))
@@ -242,19 +267,19 @@ module _ (ms : Members) (h : fits_rules (rules_of_top ms) ms ≡ true) where
   backs_listed = names_parents ms && not (is_some (get_member (codes "backs") ms))
 
   delay_met : is_met ms (rule_where (is_some (topology_of ms) || delays_listed) key.Delay (Whole 1 greatest_delay)) ≡ true
-  delay_met = subst (λ b. is_met ms (rule_where (b || delays_listed) key.Delay (Whole 1 greatest_delay)) ≡ true) sized (met 18 _ refl)
+  delay_met = subst (λ b. is_met ms (rule_where (b || delays_listed) key.Delay (Whole 1 greatest_delay)) ≡ true) sized (met 22 _ refl)
 
   back_met : is_met ms (back_rule ((is_some (topology_of ms) || backs_listed) && allows_back (version_of ms))) ≡ true
-  back_met = subst (λ b. is_met ms (back_rule ((b || backs_listed) && allows_back (version_of ms))) ≡ true) sized (met 19 _ refl)
+  back_met = subst (λ b. is_met ms (back_rule ((b || backs_listed) && allows_back (version_of ms))) ≡ true) sized (met 23 _ refl)
 
   pub delays_fit : AreDelays (topology_of ms) (delays_of ms)
   delays_fit = delays_by (version_of ms) ms (topology_of ms) delays_listed backs_listed delay_met back_met
 
   pub delays_met : is_met ms (rule_if (names_parents ms) key.Delays (Each (length (array_at (codes "parent") ms)) 1 greatest_delay)) ≡ true
-  delays_met = met 29 _ refl
+  delays_met = met 33 _ refl
 
   pub backs_met : is_met ms (rule_if (names_parents ms) key.Backs (Each (length (array_at (codes "parent") ms)) 1 greatest_delay)) ≡ true
-  backs_met = met 30 _ refl
+  backs_met = met 34 _ refl
 
   -- where parents are given without delays of each link, one delay is given for all
   pub one_delay : names_parents ms ≡ true → is_some (get_member (codes "delays") ms) ≡ false → IsLinkDelay (number (codes "delay") ms)
@@ -270,7 +295,7 @@ module _ (ms : Members) (h : fits_rules (rules_of_top ms) ms ≡ true) where
       fits.0 fits.1
 
   pub draws_fit : FewElements (version_of ms) (array_at (codes "draw") ms)
-  draws_fit = few_elements (version_of ms) key.Draw ms (met 23 _ refl)
+  draws_fit = few_elements (version_of ms) key.Draw ms (met 27 _ refl)
 
   pub sessions_fit : FewElements (version_of ms) (array_at (codes "session") ms)
-  sessions_fit = few_elements (version_of ms) key.Session ms (met 24 _ refl)
+  sessions_fit = few_elements (version_of ms) key.Session ms (met 28 _ refl)

@@ -9,11 +9,12 @@ use Rattle.srm_net.specs.Network.{IsNetwork}
 use Rattle.srm_net.specs.Paths.{drop_cmp}
 use Rattle.srm_scenario.specs.declared.parts.Constants.{Constants}
 use Rattle.srm_scenario.specs.declared.parts.Room.{Room}
+use Rattle.srm_scenario.specs.declared.parts.Recovery.{Recovery}
 use Rattle.srm_scenario.specs.declared.parts.MemberSpec.{MemberSpec}
 use Rattle.srm_scenario.specs.declared.parts.DrawSpec.{DrawSpec}
 use Rattle.srm_scenario.specs.declared.parts.SessionSpec.{SessionSpec}
 use Rattle.srm_scenario.specs.Plain.{PlainScenario, network_of}
-use Rattle.srm_scenario.specs.KeyLimits.{greatest_limit}
+use Rattle.srm_scenario.specs.KeyLimits.{greatest_limit, greatest_scope, most_tries}
 use Rattle.srm_net.specs.Limits.{end_of_time, most_listed}
 
 -- a constant begins within its limits, which are at most 1,024,000 thousandths
@@ -29,12 +30,22 @@ pub record AreConstants (c : Constants) (room : Room) : Type 0 where
   pub twice : 2 ≤ room.backoff
   pub thrice : room.backoff ≤ 3
 
+-- a backoff widens scopes by at most as much as the greatest scope has, a request has no scope after 1 to 10 backoffs,
+-- and repairs go in one step or in two
+pub record IsRecovery (r : Recovery) : Type 0 where
+  pub widen : r.widen ≤ greatest_scope
+  pub some_tries : 1 ≤ r.tries
+  pub few_tries : r.tries ≤ most_tries
+  pub one_step : 1 ≤ r.steps
+  pub two_steps : r.steps ≤ 2
+
 -- a member joins before the end of the run and before it leaves, and pages are a late member's alone
 pub record IsMember (until : ℕ) (m : MemberSpec) : Type 0 where
   pub join : m.join < until
   pub leave : (at : ℕ) → m.leave ≡ Some at → (m.join < at) × (at ≤ end_of_time)
   pub pages : m.role ≢ Late → m.pages ≡ []
   pub stream : m.stream < 2 ^ 63
+  pub scope : m.scope ≤ greatest_scope
 
 -- a member is there at this time, which is before the end of the run
 pub record IsThere (until at : ℕ) (m : MemberSpec) : Type 0 where
@@ -68,6 +79,7 @@ pub record IsAccepted (s : PlainScenario) : Type 0 where
   pub some_ticks : 1 ≤ s.until
   pub few_ticks : s.until ≤ end_of_time
   pub constants : AreConstants s.constants s.room
+  pub recovery : IsRecovery s.recovery
   pub network : IsNetwork (network_of s)
   pub members : All (IsMember s.until) s.members
   pub draws : All (IsDraw s) s.draws

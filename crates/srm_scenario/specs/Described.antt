@@ -12,13 +12,14 @@ use Rattle.srm_net.specs.declared.link.OutageSpec.{OutageSpec}
 use Rattle.srm_net.specs.declared.link.LossSpec.{LossSpec}
 use Rattle.srm_scenario.specs.declared.parts.Constants.{Constants}
 use Rattle.srm_scenario.specs.declared.parts.Room.{Room}
+use Rattle.srm_scenario.specs.declared.parts.Recovery.{Recovery}
 use Rattle.srm_scenario.specs.declared.parts.MemberSpec.{MemberSpec}
 use Rattle.srm_scenario.specs.declared.parts.DrawSpec.{DrawSpec}
 use Rattle.srm_scenario.specs.declared.parts.SessionSpec.{SessionSpec}
 use Rattle.srm_scenario.specs.declared.delays.Delays.{Delays}
 use Rattle.srm_scenario.specs.declared.form.Form.{Form}
 use Rattle.srm_scenario.specs.declared.version.Version.{Version}
-use Rattle.srm_scenario.specs.declared.version.Version.TheVariants.{One, Two, Three, Four}
+use Rattle.srm_scenario.specs.declared.version.Version.TheVariants.{One, Two, Three, Four, Five}
 use Rattle.srm_scenario.specs.declared.topology.Topology.{Topology}
 use Rattle.srm_scenario.specs.declared.topology.Topology.TheVariants.{Chain, Star, Tree}
 use Rattle.srm_scenario.specs.Plain.{PlainScenario, drop_rules_of}
@@ -63,7 +64,9 @@ table_of d = no_members
 -- the version of the format that a file names
 abbrev pub version_of : Members → Version
 version_of ms =
-    if number (codes "version") ms == 4
+    if number (codes "version") ms == 5
+    then Five
+    else if number (codes "version") ms == 4
     then Four
     else if number (codes "version") ms == 3
     then Three else if number (codes "version") ms == 2 then Two else One
@@ -89,14 +92,20 @@ role_of ms =
     else if says (codes "role") (codes "receiver") ms then Receiver
     else if says (codes "role") (codes "late") ms then Late else Listener
 
-abbrev pub member_of : Members → MemberSpec
-member_of ms = record {
+-- the scope of a member's requests: its own, or this one where it has none
+abbrev pub scope_of : ℕ → Members → ℕ
+scope_of scope ms = if is_some (get_member (codes "scope") ms) then number (codes "scope") ms else scope
+
+-- a member, which has this scope where it has none of its own
+abbrev pub member_of : ℕ → Members → MemberSpec
+member_of scope ms = record {
   node = number (codes "node") ms;
   role = role_of ms;
   stream = number (codes "stream") ms;
   join = number (codes "join") ms;
   leave = optional_number (codes "leave") ms;
   pages = map (λ d. unwrap_or (whole_number_of d) 0) (array_at (codes "pages") ms);
+  scope = scope_of scope ms;
 }
 
 abbrev pub draw_of : Members → DrawSpec
@@ -130,7 +139,7 @@ loss_of ms = record {
   stream = number (codes "stream") ms;
   from = number (codes "from") ms;
   to = optional_number (codes "to") ms;
-  burst = None;
+  burst = optional_number (codes "burst") ms;
 }
 
 -- ---- repetition
@@ -158,6 +167,7 @@ member_copy k every m = record {
   join = m.join;
   leave = m.leave;
   pages = m.pages;
+  scope = m.scope;
 }
 
 abbrev pub draw_copy : ℕ → ℕ → DrawSpec → DrawSpec
@@ -329,14 +339,22 @@ room_of ms = record {
   backoff = unwrap_or (optional_number (codes "backoff") ms) 2;
 }
 
+abbrev pub recovery_of : Members → Recovery
+recovery_of ms = record {
+  widen = number (codes "widen") ms;
+  tries = unwrap_or (optional_number (codes "tries") ms) 1;
+  steps = unwrap_or (optional_number (codes "steps") ms) 2;
+}
+
 unfoldable pub described_scenario : Members → PlainScenario
 described_scenario ms = record {
   until = number (codes "until") ms;
   constants = constants_of ms;
   room = room_of ms;
+  recovery = recovery_of ms;
   nodes = nodes_in (topology_of ms) ms;
   links = links_in (topology_of ms) ms;
-  members = repeated_at (codes "member") member_copy member_of ms;
+  members = repeated_at (codes "member") member_copy (member_of (number (codes "scope") ms)) ms;
   draws = repeated_at (codes "draw") draw_copy draw_of ms;
   sessions = repeated_at (codes "session") session_copy session_message_of ms;
   drops = drop_rules_of (listed_drops ms) (outages_in ms) (losses_in ms);

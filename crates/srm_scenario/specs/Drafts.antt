@@ -6,13 +6,13 @@ use Rattle.srm_scenario.specs.declared.fault.ScenarioFault.{ScenarioFault}
 use Rattle.srm_scenario.specs.declared.draft.Draft.{Draft}
 use Rattle.srm_scenario.specs.declared.delays.Delays.{Delays}
 use Rattle.srm_scenario.specs.declared.topology.Topology.{Topology}
-use Rattle.srm_scenario.specs.Accepted.{AreConstants}
+use Rattle.srm_scenario.specs.Accepted.{AreConstants, IsRecovery}
 use Rattle.srm_scenario.specs.Plain.{PlainScenario, drop_rules_of}
 use Rattle.srm_scenario.specs.Described.{number, constants_of, room_of, topology_of, delays_of, nodes_in, repeated_at}
 use Rattle.srm_scenario.specs.Described.{draw_of, draw_copy, session_message_of, session_copy, listed_drops, outages_in}
-use Rattle.srm_scenario.specs.Described.{losses_in}
+use Rattle.srm_scenario.specs.Described.{losses_in, recovery_of}
 use Rattle.srm_scenario.specs.Described.{given_links, links_to_parents}
-use Rattle.srm_scenario.specs.Faults.{key_faults, meaning_faults, is_star, entry_of, entry_copy}
+use Rattle.srm_scenario.specs.Faults.{key_faults, meaning_faults, is_star, entries_in}
 use Rattle.srm_scenario.specs.LookUps.{HasDegree, AreDelays}
 use Rattle.srm_net.specs.Limits.{end_of_time, most_listed}
 
@@ -25,6 +25,8 @@ pub record IsDraft (ms : Members) (l : Draft) : Type 0 where
   pub constants : constants_of ms ≡ l.constants
   pub room : room_of ms ≡ l.room
   pub constants_fit : AreConstants l.constants l.room
+  pub recovery : recovery_of ms ≡ l.recovery
+  pub recovery_fits : IsRecovery l.recovery
   pub topology : topology_of ms ≡ l.topology
   pub degree : HasDegree l.topology
   pub nodes : nodes_in (topology_of ms) ms ≡ l.nodes
@@ -32,7 +34,7 @@ pub record IsDraft (ms : Members) (l : Draft) : Type 0 where
   pub delays : delays_of ms ≡ l.delays
   pub delays_fit : AreDelays l.topology l.delays
   pub links : given_links ms ≡ l.links.items
-  pub members : repeated_at (codes "member") entry_copy entry_of ms ≡ l.members.items
+  pub members : entries_in ms ≡ l.members.items
   pub draws : repeated_at (codes "draw") draw_copy draw_of ms ≡ l.draws.items
   pub sessions : repeated_at (codes "session") session_copy session_message_of ms ≡ l.sessions.items
   pub drops : listed_drops ms ≡ l.drops.items
@@ -54,6 +56,7 @@ plain_of l = record {
   until = l.until;
   constants = l.constants;
   room = l.room;
+  recovery = l.recovery;
   nodes = l.nodes;
   links = links_listed l.topology l.nodes l.delays l.links.items;
   members = map (λ e. e.spec) l.members.items;

@@ -33,7 +33,7 @@ use Rattle.srm_scenario.specs.Presence.{is_present}
 use Rattle.srm_scenario.specs.Described.{version_of, member_of, array_at, table_of, repeated_at, topology_of, form_of}
 use Rattle.srm_scenario.specs.Described.{constants_of, listed_drops, described_scenario, repeated, member_copy}
 use Rattle.srm_scenario.specs.Described.{draw_of, draw_copy, session_message_of, session_copy, drop_of, drop_copy}
-use Rattle.srm_scenario.specs.Described.{outage_of, outage_copy, loss_of, loss_copy}
+use Rattle.srm_scenario.specs.Described.{outage_of, outage_copy, loss_of, loss_copy, number}
 use Rattle.srm_scenario.specs.declared.version.Version.{Version}
 use Rattle.srm_scenario.specs.KeyLimits.{last_count, last_stream}
 use Rattle.srm_net.specs.Limits.{end_of_time, most_links}
@@ -88,13 +88,44 @@ abbrev pub repeated_faults : {A : Type 0} → Part → List Rule → (Members �
 repeated_faults p rules reading copy in_range ds =
     faults_by (BadKey p) (fits_repeated rules reading copy in_range) 0 ds
 
--- a member, and whether pages are given for it
-abbrev pub entry_of : Members → MemberEntry
-entry_of ms = record { spec = member_of ms; has_pages = is_some (get_member (codes "pages") ms) }
+-- a member, which has this scope where it has none of its own, and whether pages and a scope are given for it
+abbrev pub entry_of : ℕ → Members → MemberEntry
+entry_of scope ms = record {
+  spec = member_of scope ms;
+  has_pages = is_some (get_member (codes "pages") ms);
+  has_scope = is_some (get_member (codes "scope") ms);
+}
 
 -- the copies of what is read of a member
 abbrev pub entry_copy : ℕ → ℕ → MemberEntry → MemberEntry
-entry_copy k every e = record { spec = member_copy k every e.spec; has_pages = e.has_pages }
+entry_copy k every e = record {
+  spec = member_copy k every e.spec;
+  has_pages = e.has_pages;
+  has_scope = e.has_scope;
+}
+
+-- the same member, which has this scope where none is given for it
+abbrev pub or_scope : ℕ → MemberEntry → MemberEntry
+or_scope scope e =
+    if e.has_scope
+    then e
+    else record {
+      spec = record {
+        node = e.spec.node;
+        role = e.spec.role;
+        stream = e.spec.stream;
+        join = e.spec.join;
+        leave = e.spec.leave;
+        pages = e.spec.pages;
+        scope = scope;
+      };
+      has_pages = e.has_pages;
+      has_scope = e.has_scope;
+    }
+
+-- the members of a table, those that have no scope of their own with that of the top table
+abbrev pub entries_in : Members → List MemberEntry
+entries_in ms = repeated_at (codes "member") entry_copy (entry_of (number (codes "scope") ms)) ms
 
 -- the numbers that rise from copy to copy do not pass the ranges of their keys
 abbrev pub entry_in_range : MemberEntry → Bool
@@ -121,7 +152,7 @@ faults_of_links version ds = element_faults part.Link (link_rules version) ds
 
 abbrev pub faults_of_members : Version → List Data → List ScenarioFault
 faults_of_members version ds =
-    repeated_faults part.Member (member_rules version) entry_of entry_copy entry_in_range ds
+    repeated_faults part.Member (member_rules version) (entry_of 0) entry_copy entry_in_range ds
 
 abbrev pub faults_of_draws : Version → List Data → List ScenarioFault
 faults_of_draws version ds = repeated_faults part.Draw (draw_rules version) draw_of draw_copy draw_in_range ds
@@ -159,7 +190,8 @@ abbrev pub is_taken : List MemberEntry → ℕ → Bool
 is_taken es node = list_any (λ e. e.spec.node == node) es
 
 -- its node is a node of the network, not the hub of a star, and not that of an earlier member; it joins before the end
--- of the run, and before it leaves; and pages are given for a late member alone
+-- of the run, and before it leaves; pages are given for a late member alone; and no scope is given for a listener,
+-- which asks for nothing
 abbrev pub fits_member : ℕ → ℕ → Bool → List MemberEntry → MemberEntry → Bool
 fits_member until nodes star earlier e =
     let k = e.spec in
@@ -169,6 +201,7 @@ fits_member until nodes star earlier e =
     && nat_lt k.join until
     && leaves_after k.join k.leave
     && (not e.has_pages || is_late k.role)
+    && (not e.has_scope || not (is_listener k.role))
 
 -- the faults of members from place i on, after the earlier ones
 abbrev pub member_faults : ℕ → ℕ → Bool → List MemberEntry → ℕ → List MemberEntry → List ScenarioFault
@@ -223,8 +256,8 @@ key_faults ms =
     ∷ faults_of_losses (version_of ms) (array_at (codes "loss") ms)
     ∷ [])
 
--- the faults of what a table describes: a scenario, whether its topology is a star, its members with whether pages are
--- given for them, and its drops as they are listed
+-- the faults of what a table describes: a scenario, whether its topology is a star, its members with whether pages and
+-- scopes are given for them, and its drops as they are listed
 unfoldable pub meaning_faults : PlainScenario → Bool → List MemberEntry → List DropSpec → List ScenarioFault
 meaning_faults s star entries listed =
     all_of (
@@ -241,7 +274,7 @@ meaning_faults s star entries listed =
 unfoldable pub faults_of : Members → List ScenarioFault
 faults_of ms =
     key_faults ms ++ meaning_faults (described_scenario ms) (is_star (topology_of ms))
-    (repeated_at (codes "member") entry_copy entry_of ms) (listed_drops ms)
+    (entries_in ms) (listed_drops ms)
 
 -- the scenario, or the first of the faults
 abbrev pub answer : List ScenarioFault → PlainScenario → Result PlainScenario ScenarioFault

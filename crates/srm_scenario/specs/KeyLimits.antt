@@ -13,6 +13,14 @@ greatest_limit = 1024000
 abbrev pub greatest_rate : ℕ
 greatest_rate = 1000000
 
+-- the greatest scope of a request, and the most by which each backoff widens it, in hops
+abbrev pub greatest_scope : ℕ
+greatest_scope = 65535
+
+-- after how many backoffs a request has no scope, at most
+abbrev pub most_tries : ℕ
+most_tries = 10
+
 -- the last number of a page, of an ink, and of a packet of a sender that a drop names
 abbrev pub last_page : ℕ
 last_page = 65535

@@ -6,11 +6,10 @@ use Rattle.srm_scenario.specs.declared.delays.Delays.{Delays}
 use Rattle.srm_scenario.specs.declared.version.Version.{Version}
 use Rattle.srm_scenario.specs.declared.topology.Topology.{Topology}
 use Rattle.srm_scenario.specs.declared.topology.Topology.TheVariants.{Tree}
-use Rattle.srm_scenario.specs.declared.parts.Constants.{Constants}
-use Rattle.srm_scenario.specs.declared.parts.Room.{Room}
-use Rattle.srm_scenario.specs.Accepted.{AreConstants}
+use Rattle.srm_scenario.specs.declared.top.Numbers.{Numbers}
+use Rattle.srm_scenario.specs.Accepted.{AreConstants, IsRecovery}
 use Rattle.srm_scenario.specs.Described.{number, array_at, version_of, topology_of, delays_of, constants_of, nodes_in}
-use Rattle.srm_scenario.specs.Described.{room_of}
+use Rattle.srm_scenario.specs.Described.{recovery_of, room_of}
 use Rattle.srm_net.specs.Limits.{end_of_time, most_links, most_listed, most_nodes}
 use Rattle.srm_scenario.specs.Rules.{allows_repetition, times_repeated}
 
@@ -19,16 +18,18 @@ abbrev pub HasDegree : Option Topology → Type 0
 HasDegree (Some (Tree degree)) = (2 ≤ degree) × (degree ≤ most_links)
 HasDegree t = Unit {0}
 
--- the table's version, end of the run, constants and their room
-pub record HasNumbers (ms : Members) (version : Version) (until : ℕ) (constants : Constants) (room : Room) : Type 0
-  where
-    pub version_is : version_of ms ≡ version
-    pub until_is : number (codes "until") ms ≡ until
-    pub some_ticks : 1 ≤ until
-    pub few_ticks : until ≤ end_of_time
-    pub constants_are : constants_of ms ≡ constants
-    pub room_is : room_of ms ≡ room
-    pub constants_fit : AreConstants constants room
+-- the table's version, end of the run, constants and their room, scope and local recovery
+pub record HasNumbers (ms : Members) (n : Numbers) : Type 0 where
+  pub version_is : version_of ms ≡ n.version
+  pub until_is : number (codes "until") ms ≡ n.until
+  pub some_ticks : 1 ≤ n.until
+  pub few_ticks : n.until ≤ end_of_time
+  pub constants_are : constants_of ms ≡ n.constants
+  pub room_is : room_of ms ≡ n.room
+  pub constants_fit : AreConstants n.constants n.room
+  pub scope_is : number (codes "scope") ms ≡ n.scope
+  pub recovery_is : recovery_of ms ≡ n.recovery
+  pub recovery_fits : IsRecovery n.recovery
 
 -- the delays of a topology's links are 1 to 1,000,000
 abbrev pub AreDelays : Option Topology → Delays → Type 0

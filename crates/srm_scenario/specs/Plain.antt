@@ -18,6 +18,7 @@ use Rattle.srm_net.specs.Paths.{drop_cmp}
 use Rattle.srm_scenario.specs.declared.mark.Mark.{Mark}
 use Rattle.srm_scenario.specs.declared.parts.Constants.{Constants}
 use Rattle.srm_scenario.specs.declared.parts.Room.{Room}
+use Rattle.srm_scenario.specs.declared.parts.Recovery.{Recovery}
 use Rattle.srm_scenario.specs.declared.parts.MemberSpec.{MemberSpec}
 use Rattle.srm_scenario.specs.declared.parts.DrawSpec.{DrawSpec}
 use Rattle.srm_scenario.specs.declared.parts.SessionSpec.{SessionSpec}
@@ -29,6 +30,7 @@ pub record PlainScenario : Type 0 where
   pub until : ℕ
   pub constants : Constants
   pub room : Room
+  pub recovery : Recovery
   pub nodes : ℕ
   pub links : List LinkSpec
   pub members : List MemberSpec
@@ -52,6 +54,7 @@ with_seed s seed = record {
   until = s.until;
   constants = s.constants;
   room = s.room;
+  recovery = s.recovery;
   nodes = s.nodes;
   links = s.links;
   members = s.members;

@@ -5,7 +5,7 @@ use Rattle.std.specs.List.{list_any, list_all}
 use Rattle.std.specs.Option.{option_and_then}
 use Rattle.std.specs.Str.{bytes_eq}
 use Rattle.srm_scenario.specs.declared.version.Version.{Version}
-use Rattle.srm_scenario.specs.declared.version.Version.TheVariants.{One, Two, Three, Four}
+use Rattle.srm_scenario.specs.declared.version.Version.TheVariants.{One, Two, Three, Four, Five}
 use Rattle.toml.specs.Data.{Data, Items, Members, integer, string, array, table, no_items, item, no_members, member}
 use Rattle.toml.specs.Data.{get_member}
 use Rattle.srm_net.specs.Limits.{end_of_time, greatest_constant}
@@ -23,7 +23,7 @@ use Rattle.srm_scenario.specs.declared.rule.Words.TheVariants.{Roles, Topologies
 use Rattle.srm_scenario.specs.Keys.{name_of}
 use Rattle.srm_scenario.specs.KeyLimits.{greatest_delay, greatest_limit, greatest_rate, last_count, last_ink, last_page}
 use Rattle.srm_scenario.specs.KeyLimits.{last_stream}
-use Rattle.srm_scenario.specs.KeyLimits.{most_pages, most_times}
+use Rattle.srm_scenario.specs.KeyLimits.{most_pages, most_times, greatest_scope, most_tries}
 
 -- the words of a set, one of which a key may hold
 abbrev pub spellings_of : Words → List (List ℕ)
@@ -43,6 +43,7 @@ most_nodes_in One = 256
 most_nodes_in Two = 1024
 most_nodes_in Three = 65535
 most_nodes_in Four = 65535
+most_nodes_in Five = 65535
 
 -- the last number that a node, a link or a member may have
 abbrev pub last_number : Version → ℕ
@@ -55,6 +56,7 @@ most_listed_in One = 4096
 most_listed_in Two = 4096
 most_listed_in Three = 65535
 most_listed_in Four = 65535
+most_listed_in Five = 65535
 
 -- whether links may have a second delay
 abbrev pub allows_back : Version → Bool
@@ -62,6 +64,7 @@ allows_back One = false
 allows_back Two = true
 allows_back Three = true
 allows_back Four = true
+allows_back Five = true
 
 -- whether links may have outages
 abbrev pub allows_outages : Version → Bool
@@ -69,6 +72,7 @@ allows_outages One = false
 allows_outages Two = true
 allows_outages Three = true
 allows_outages Four = true
+allows_outages Five = true
 
 -- whether links may lose packets at random
 abbrev pub allows_losses : Version → Bool
@@ -76,6 +80,23 @@ allows_losses One = false
 allows_losses Two = false
 allows_losses Three = false
 allows_losses Four = true
+allows_losses Five = true
+
+-- whether losses may come in bursts
+abbrev pub allows_bursts : Version → Bool
+allows_bursts One = false
+allows_bursts Two = false
+allows_bursts Three = false
+allows_bursts Four = false
+allows_bursts Five = true
+
+-- whether requests may have scopes
+abbrev pub allows_scopes : Version → Bool
+allows_scopes One = false
+allows_scopes Two = false
+allows_scopes Three = false
+allows_scopes Four = false
+allows_scopes Five = true
 
 -- whether members may adapt the constants of their timers
 abbrev pub allows_limits : Version → Bool
@@ -83,6 +104,7 @@ allows_limits One = false
 allows_limits Two = false
 allows_limits Three = true
 allows_limits Four = true
+allows_limits Five = true
 
 -- whether the parents of nodes may be given in place of links
 abbrev pub allows_parents : Version → Bool
@@ -90,6 +112,7 @@ allows_parents One = false
 allows_parents Two = false
 allows_parents Three = true
 allows_parents Four = true
+allows_parents Five = true
 
 -- whether an element may stand for several
 abbrev pub allows_repetition : Version → Bool
@@ -97,6 +120,7 @@ allows_repetition One = false
 allows_repetition Two = false
 allows_repetition Three = true
 allows_repetition Four = true
+allows_repetition Five = true
 
 -- the greatest first value of a constant of timers, in thousandths
 abbrev pub greatest_constant_in : Version → ℕ
@@ -104,6 +128,7 @@ greatest_constant_in One = greatest_constant
 greatest_constant_in Two = greatest_constant
 greatest_constant_in Three = greatest_limit
 greatest_constant_in Four = greatest_limit
+greatest_constant_in Five = greatest_limit
 
 -- ---- the table of the format
 
@@ -118,7 +143,7 @@ constant_rule k version = rule k (Whole 0 (greatest_constant_in version)) Requir
 -- numbers of the top table
 abbrev pub number_rules : Version → List Rule
 number_rules version =
-    rule key.Version (Whole 1 4) Required
+    rule key.Version (Whole 1 5) Required
     ∷ rule key.Until (Whole 1 end_of_time) Required
     ∷ constant_rule key.C1 version
     ∷ constant_rule key.C2 version
@@ -142,6 +167,20 @@ limit_rules allowed first =
     ∷ rule_if allowed key.D1Most (Whole first.d1 greatest_limit)
     ∷ rule_if allowed key.D2Most (Whole first.d2 greatest_limit)
     ∷ rule_if allowed key.Backoff (Whole 2 3)
+    ∷ []
+
+-- the scope of a request, at the top table for all members and at a member for its own
+abbrev pub scope_rule : Version → Rule
+scope_rule version = rule_if (allows_scopes version) key.Scope (Whole 0 greatest_scope)
+
+-- local recovery: the scope of requests, by how much each backoff widens it, after how many there is none, and in how
+-- many steps repairs go
+abbrev pub recovery_rules : Version → List Rule
+recovery_rules version =
+    scope_rule version
+    ∷ rule_if (allows_scopes version) key.Widen (Whole 0 greatest_scope)
+    ∷ rule_if (allows_scopes version) key.Tries (Whole 1 most_tries)
+    ∷ rule_if (allows_scopes version) key.Steps (Whole 1 2)
     ∷ []
 
 -- the topology that the top table names, and the degree of its tree
@@ -206,7 +245,7 @@ abbrev pub top_rules : Version → Constants → Form → List Rule
 top_rules version first form =
     number_rules version
     ++ (limit_rules (allows_limits version) first
-    ++ (shape_rules version form ++ (array_rules version ++ parent_rules version form)))
+    ++ (recovery_rules version ++ (shape_rules version form ++ (array_rules version ++ parent_rules version form))))
 
 abbrev pub link_rules : Version → List Rule
 link_rules version =
@@ -238,6 +277,7 @@ member_rules version =
     ∷ rule key.Join (Whole 0 end_of_time) Optional
     ∷ rule key.Leave (Whole 1 end_of_time) Optional
     ∷ pages_rule
+    ∷ scope_rule version
     ∷ repeat_rules version
 
 abbrev pub draw_rules : Version → List Rule
@@ -275,6 +315,7 @@ loss_rules version =
     ∷ rule key.Stream (Whole 0 last_stream) Optional
     ∷ rule key.From (Whole 0 end_of_time) Optional
     ∷ rule key.To (Whole 1 end_of_time) Optional
+    ∷ rule_if (allows_bursts version) key.Burst (Whole 1 end_of_time)
     ∷ repeat_rules version
 
 -- ---- whether a table meets rules

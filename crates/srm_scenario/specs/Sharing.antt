@@ -9,6 +9,7 @@ scenario_inside s = record {
   until = s.until;
   constants = s.constants;
   room = s.room;
+  recovery = s.recovery;
   nodes = s.nodes;
   links = (arc_value s.lists).links.items;
   members = (arc_value s.lists).members.items;

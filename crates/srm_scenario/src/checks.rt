@@ -154,6 +154,7 @@ fn fits_member(until: u64, nodes: u16, star: bool, taken: &[bool], entry: &Membe
         && member.join < until
         && leaves_later
         && (!entry.has_pages || matches!(member.role, Role::Late))
+        && (!entry.has_scope || !matches!(member.role, Role::Listener))
 }
 
 /// The first member that does not fit is a fault. It takes a number of steps that grows as the numbers of nodes and members.

@@ -6,10 +6,10 @@ ghost use Rattle.srm_scenario.specs.Drafts.{IsDraft};
 
 use crate::delays::Delays;
 use crate::element::read_elements;
-use crate::entry::MemberEntry;
+use crate::entry::{MemberEntry, read_members};
 use crate::fault::{Part, ScenarioFault};
 use crate::parents::given_links;
-use crate::parts::{Constants, DrawSpec, Room, SessionSpec};
+use crate::parts::{Constants, DrawSpec, Recovery, Room, SessionSpec};
 use crate::repeated::read_repeated;
 use crate::top::top_of;
 use crate::topology::Topology;
@@ -26,6 +26,8 @@ pub struct Draft {
     pub constants: Constants,
     /// How far they are adapted.
     pub room: Room,
+    /// How members ask again, and how repairs come back, where requests have scopes.
+    pub recovery: Recovery,
     /// The topology that the table names.
     pub topology: Option<Topology>,
     /// How many nodes there are.
@@ -65,7 +67,7 @@ impl Draft {
         };
         let version = top.numbers.version;
         let listed = read_elements(alloc, Part::Link, version, top.shape.links)?;
-        let members = read_repeated(alloc, Part::Member, version, top.arrays.members)?;
+        let members = read_members(alloc, version, top.numbers.scope, top.arrays.members)?;
         let draws = read_repeated(alloc, Part::Draw, version, top.arrays.draws)?;
         let sessions = read_repeated(alloc, Part::Session, version, top.arrays.sessions)?;
         let drops = read_repeated(alloc, Part::Drop, version, top.arrays.drops)?;
@@ -76,6 +78,7 @@ impl Draft {
             until: top.numbers.until,
             constants: top.numbers.constants,
             room: top.numbers.room,
+            recovery: top.numbers.recovery,
             topology: top.shape.topology,
             nodes: top.shape.nodes,
             delays: top.shape.delays,

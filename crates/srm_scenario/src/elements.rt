@@ -99,7 +99,7 @@ fn loss_of(version: Version, table: &Table) -> Option<LossSpec>
         stream: number(table, Key::Stream),
         from: number(table, Key::From),
         to: optional_number(table, Key::To),
-        burst: None,
+        burst: optional_number(table, Key::Burst),
     })
 }
 

@@ -1,30 +1,48 @@
 //! What the elements of members hold.
-ghost use Rattle.std.specs.Prelude.{◌≡◌, Some, None, IfOk, if◌then◌else◌};
-ghost use Rattle.toml.specs.View.{table_view};
+ghost use Rattle.std.specs.Prelude.{◌≡◌, Some, None, [], IfErr, IfOk, flat_map, map, if◌then◌else◌};
+ghost use Rattle.toml.specs.View.{table_view, view};
 ghost use Rattle.srm_scenario.specs.Rules.{member_rules};
-ghost use Rattle.srm_scenario.specs.Described.{role_of};
-ghost use Rattle.srm_scenario.specs.Faults.{accepted, entry_copy, entry_in_range, entry_of};
+ghost use Rattle.srm_scenario.specs.Described.{repeated, role_of};
+ghost use Rattle.srm_scenario.specs.Faults.{accepted, entry_copy, entry_in_range, entry_of, faults_of_members, or_scope, IsFault};
 
 use crate::element::Element;
+use crate::fault::{Part, ScenarioFault};
 use crate::key::Key;
 use crate::limits::{LAST_NODE, LAST_STREAM};
 use crate::numbers::numbers_of;
 use crate::parts::MemberSpec;
-use crate::repeated::{Repeated, risen, step_of};
+use crate::repeated::{Repeated, read_repeated, risen, step_of};
 use crate::rules::member_rules;
 use crate::table::{array, fits_rules, has_key, number, optional_number, says};
 use crate::version::Version;
 use srm_net::role::Role;
 use std::alloc::{AllocError, Global};
-use toml::Table;
+use toml::{Table, Value};
 
-/// A member, and whether pages are given for it.
+/// A member, and which keys its table has.
 #[derive(Debug, Drop)]
 pub struct MemberEntry {
-    /// The member.
+    /// The member. As its own table is read, its scope is 0 where none is given for it.
     pub spec: MemberSpec,
     /// Whether its table has the key `pages`.
     pub has_pages: bool,
+    /// Whether its table has the key `scope`.
+    pub has_scope: bool,
+}
+
+impl MemberEntry {
+    /// The same member, which has this scope where none is given for it.
+    fn or_scope(self, scope: u16) -> MemberEntry
+        ensures { result ≡ or_scope scope self }
+    {
+        if self.has_scope {
+            return self;
+        }
+        MemberEntry {
+            spec: MemberSpec { scope, ..self.spec },
+            ..self
+        }
+    }
 }
 
 /// The role that a member's table names.
@@ -42,13 +60,13 @@ fn role(table: &Table) -> Role
     }
 }
 
-/// A member and whether pages are given for it, from its table.
+/// A member from its own table alone.
 fn entry_of(
     alloc: Global,
     version: Version,
     table: &Table,
 ) -> Result<Option<MemberEntry>, AllocError>
-    ensures { IfOk result (λ o. o ≡ accepted (member_rules version) entry_of (table_view table.now)) }
+    ensures { IfOk result (λ o. o ≡ accepted (member_rules version) (entry_of 0) (table_view table.now)) }
 {
     if !fits_rules(table, &member_rules(version)) {
         return Ok(None);
@@ -62,8 +80,10 @@ fn entry_of(
             join: number(table, Key::Join),
             leave: optional_number(table, Key::Leave),
             pages,
+            scope: number(table, Key::Scope) as u16,
         },
         has_pages: has_key(table, Key::Pages),
+        has_scope: has_key(table, Key::Scope),
     }))
 }
 
@@ -93,8 +113,10 @@ fn copy_of(
             join: member.join,
             leave: member.leave,
             pages,
+            scope: member.scope,
         },
         has_pages: entry.has_pages,
+        has_scope: entry.has_scope,
     }))
 }
 
@@ -104,7 +126,7 @@ impl Element for MemberEntry {
 
     ghost rules = { member_rules };
 
-    ghost reading = { entry_of };
+    ghost reading = { entry_of 0 };
 
     ///
     /// # Errors
@@ -127,4 +149,36 @@ impl Repeated for MemberEntry {
     fn copied(&self, alloc: Global, k: u64, every: u64) -> Result<Option<Self>, AllocError> {
         copy_of(alloc, self, k, every)
     }
+}
+
+/// Reads the members for which the elements of an array stand, one after the other. Those for which no scope is given have this one.
+/// The first element that does not fit the rules of members, or stands for one whose numbers pass their ranges, is a fault.
+pub(crate) fn read_members(
+    alloc: Global,
+    version: Version,
+    scope: u16,
+    values: &[Value],
+) -> Result<Vec<MemberEntry>, ScenarioFault>
+    ensures no_fault { IfOk result (λ _. faults_of_members version (map view values.now) ≡ []) }
+    ensures read { IfOk result (λ members. members.items
+        ≡ flat_map (λ v. repeated entry_copy (entry_of scope) (view v)) values.now) }
+    ensures fault { IfErr result (λ e. IsFault e (faults_of_members version (map view values.now))) }
+{
+    let own: Vec<MemberEntry> = read_repeated(alloc, Part::Member, version, values)?;
+    let members = with_scope(alloc, own, scope)?;
+    Ok(members)
+}
+
+/// The same members. Those for which no scope is given have this one.
+fn with_scope(
+    alloc: Global,
+    entries: Vec<MemberEntry>,
+    scope: u16,
+) -> Result<Vec<MemberEntry>, AllocError>
+    ensures { IfOk result (λ members. members.items ≡ map (or_scope scope) entries.items) }
+{
+    entries
+        .into_iter()
+        .map(|entry| entry.or_scope(scope))
+        .collect(alloc)
 }

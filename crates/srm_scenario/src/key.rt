@@ -35,6 +35,14 @@ pub enum Key {
     D2Most,
     /// `backoff`.
     Backoff,
+    /// `scope`.
+    Scope,
+    /// `widen`.
+    Widen,
+    /// `tries`.
+    Tries,
+    /// `steps`.
+    Steps,
     /// `nodes`.
     Nodes,
     /// `topology`.
@@ -93,6 +101,8 @@ pub enum Key {
     From,
     /// `to`.
     To,
+    /// `burst`.
+    Burst,
     /// `parent`.
     Parent,
     /// `delays`.
@@ -126,6 +136,10 @@ impl Key {
             Key::D1Most => "d1_most",
             Key::D2Most => "d2_most",
             Key::Backoff => "backoff",
+            Key::Scope => "scope",
+            Key::Widen => "widen",
+            Key::Tries => "tries",
+            Key::Steps => "steps",
             Key::Nodes => "nodes",
             Key::Topology => "topology",
             Key::Size => "size",
@@ -155,6 +169,7 @@ impl Key {
             Key::Rate => "rate",
             Key::From => "from",
             Key::To => "to",
+            Key::Burst => "burst",
             Key::Parent => "parent",
             Key::Delays => "delays",
             Key::Backs => "backs",

@@ -30,6 +30,18 @@ pub struct Room {
     pub backoff: u64,
 }
 
+/// How members ask again with a scope, and how repairs come back (Floyd et al. 1997, VII.B, of local recovery). It decides only where
+/// a member's requests have a scope.
+#[derive(Clone, Copy, Debug, PartialEq, Eq)]
+pub struct Recovery {
+    /// By how many hops each backoff widens the scope of a request: 0 to 65,535 (this project's own).
+    pub widen: u16,
+    /// From how many backoffs on a request has no scope: 1 to 10 (this project's own).
+    pub tries: u16,
+    /// In how many steps a repair goes to those that its request was heard by: 1 or 2.
+    pub steps: u16,
+}
+
 /// A member of the session.
 #[derive(Clone, Debug, Drop)]
 pub struct MemberSpec {
@@ -45,6 +57,8 @@ pub struct MemberSpec {
     pub leave: Option<u64>,
     /// Of a late member, the pages whose earlier operations it asks for.
     pub pages: Sequence<u16>,
+    /// The scope of its first request for a name, in hops: 0 to 65,535. Where it is 0, its requests have none.
+    pub scope: u16,
 }
 
 impl MemberSpec {

@@ -55,7 +55,11 @@ fn members_of(alloc: Global, entries: Vec<MemberEntry>) -> Result<Vec<MemberSpec
     entries
         .into_iter()
         .map(|entry| {
-            let MemberEntry { spec, has_pages: _ } = entry;
+            let MemberEntry {
+                spec,
+                has_pages: _,
+                has_scope: _,
+            } = entry;
             spec
         })
         .collect(alloc)
@@ -152,6 +156,7 @@ fn scenario_from(alloc: Global, draft: Draft) -> Result<Scenario, ScenarioFault>
         until,
         constants,
         room,
+        recovery,
         topology,
         nodes,
         delays,
@@ -182,6 +187,7 @@ fn scenario_from(alloc: Global, draft: Draft) -> Result<Scenario, ScenarioFault>
         until,
         constants,
         room,
+        recovery,
         nodes,
         lists,
         drops,

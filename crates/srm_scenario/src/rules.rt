@@ -4,13 +4,13 @@ ghost use Rattle.srm_net.specs.Limits.{end_of_time};
 ghost use Rattle.srm_scenario.specs.declared.key.Key.TheVariants.{Times, Every};
 ghost use Rattle.srm_scenario.specs.declared.rule.Kind.TheVariants.{Whole};
 ghost use Rattle.srm_scenario.specs.KeyLimits.{most_times};
-ghost use Rattle.srm_scenario.specs.Rules.{index_rule, back_rule, constant_rule, rule_if, rule_where, elements_in, topologies_in, allows_repetition, top_rules, link_rules, member_rules, draw_rules, session_rules, drop_rules, outage_rules, loss_rules};
+ghost use Rattle.srm_scenario.specs.Rules.{index_rule, back_rule, constant_rule, rule_if, rule_where, elements_in, topologies_in, allows_repetition, scope_rule, top_rules, link_rules, member_rules, draw_rules, session_rules, drop_rules, outage_rules, loss_rules};
 
 use crate::form::Form;
 use crate::key::Key;
 use crate::limits::{
-    GREATEST_DELAY, GREATEST_LIMIT, GREATEST_RATE, LAST_COUNT, LAST_INK, LAST_PAGE, LAST_STREAM,
-    LAST_TICK, LAST_VERSION, MOST_PAGES, MOST_TIMES,
+    GREATEST_DELAY, GREATEST_LIMIT, GREATEST_RATE, GREATEST_SCOPE, LAST_COUNT, LAST_INK, LAST_PAGE,
+    LAST_STREAM, LAST_TICK, LAST_VERSION, MOST_PAGES, MOST_TIMES, MOST_TRIES,
 };
 use crate::parts::Constants;
 use crate::rule::{Kind, Need, Rule, Words};
@@ -79,12 +79,13 @@ fn topologies_in(version: Version) -> Words
 }
 
 /// The top table, of this form and with these first values of the constants of timers.
-pub fn top_rules(version: Version, first: Constants, form: Form) -> [Rule; 31]
+pub fn top_rules(version: Version, first: Constants, form: Form) -> [Rule; 35]
     ensures { result ≡ top_rules version first form }
 {
     let most = u64::from(version.most_nodes());
     let last = u64::from(version.last_number());
     let limits = version.allows_limits();
+    let scopes = version.allows_scopes();
     let delay = Kind::Whole(1, GREATEST_DELAY);
     let delays = Kind::Each(form.listed, 1, GREATEST_DELAY);
     let listed = elements_in(version, version.most_listed());
@@ -106,6 +107,10 @@ pub fn top_rules(version: Version, first: Constants, form: Form) -> [Rule; 31]
         rule_if(limits, Key::D1Most, Kind::Whole(first.d1, GREATEST_LIMIT)),
         rule_if(limits, Key::D2Most, Kind::Whole(first.d2, GREATEST_LIMIT)),
         rule_if(limits, Key::Backoff, Kind::Whole(2, 3)),
+        scope_rule(version),
+        rule_if(scopes, Key::Widen, Kind::Whole(0, GREATEST_SCOPE)),
+        rule_if(scopes, Key::Tries, Kind::Whole(1, MOST_TRIES)),
+        rule_if(scopes, Key::Steps, Kind::Whole(1, 2)),
         rule_where(!form.shaped, Key::Nodes, Kind::Whole(1, most)),
         Rule::new(
             Key::Topology,
@@ -127,6 +132,17 @@ pub fn top_rules(version: Version, first: Constants, form: Form) -> [Rule; 31]
         rule_if(form.parents, Key::Delays, delays),
         rule_if(form.parents, Key::Backs, delays),
     ]
+}
+
+/// The scope of requests, of all members or of one.
+fn scope_rule(version: Version) -> Rule
+    ensures { result ≡ scope_rule version }
+{
+    rule_if(
+        version.allows_scopes(),
+        Key::Scope,
+        Kind::Whole(0, GREATEST_SCOPE),
+    )
 }
 
 /// For how many elements one stands.
@@ -164,7 +180,7 @@ pub fn link_rules(version: Version) -> [Rule; 4]
 }
 
 /// A member.
-pub fn member_rules(version: Version) -> [Rule; 8]
+pub fn member_rules(version: Version) -> [Rule; 9]
     ensures { result ≡ member_rules version }
 {
     let pages = Kind::Numbers(MOST_PAGES, LAST_PAGE);
@@ -175,6 +191,7 @@ pub fn member_rules(version: Version) -> [Rule; 8]
         Rule::new(Key::Join, Kind::Whole(0, LAST_TICK), Need::Optional),
         Rule::new(Key::Leave, Kind::Whole(1, LAST_TICK), Need::Optional),
         Rule::new(Key::Pages, pages, Need::Optional),
+        scope_rule(version),
         times_rule(version),
         every_rule(version),
     ]
@@ -233,15 +250,17 @@ pub fn outage_rules(version: Version) -> [Rule; 5]
 }
 
 /// A loss.
-pub fn loss_rules(version: Version) -> [Rule; 7]
+pub fn loss_rules(version: Version) -> [Rule; 8]
     ensures { result ≡ loss_rules version }
 {
+    let burst = Kind::Whole(1, LAST_TICK);
     [
         index_rule(Key::Link, version),
         Rule::new(Key::Rate, Kind::Whole(1, GREATEST_RATE), Need::Required),
         Rule::new(Key::Stream, Kind::Whole(0, LAST_STREAM), Need::Optional),
         Rule::new(Key::From, Kind::Whole(0, LAST_TICK), Need::Optional),
         Rule::new(Key::To, Kind::Whole(1, LAST_TICK), Need::Optional),
+        rule_if(version.allows_bursts(), Key::Burst, burst),
         times_rule(version),
         every_rule(version),
     ]

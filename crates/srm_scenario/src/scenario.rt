@@ -9,7 +9,7 @@ ghost use Rattle.srm_scenario.specs.Pages.{wants_page};
 use crate::fault::ScenarioFault;
 use crate::lists::Lists;
 use crate::mark::Mark;
-use crate::parts::{Constants, MemberSpec, Room};
+use crate::parts::{Constants, MemberSpec, Recovery, Room};
 use crate::script::script_of;
 use crate::scripts::scripts_of;
 use srm_net::drops::Drops;
@@ -28,6 +28,7 @@ pub struct Scenario {
     pub(crate) until: u64,
     pub(crate) constants: Constants,
     pub(crate) room: Room,
+    pub(crate) recovery: Recovery,
     pub(crate) nodes: u16,
     pub(crate) lists: Arc<Lists>,
     pub(crate) drops: Drops,
@@ -69,6 +70,30 @@ impl Scenario {
         ensures accepted { IsAccepted self.now }
     {
         self.room
+    }
+
+    /// By how many hops each backoff widens the scope of a request: 0 to 65,535. It decides only where a member has a scope.
+    pub fn widen(&self) -> u16
+        ensures widen { result ≡ self.now.recovery.widen }
+        ensures accepted { IsAccepted self.now }
+    {
+        self.recovery.widen
+    }
+
+    /// From how many backoffs on a request has no scope: 1 to 10. It decides only where a member has a scope.
+    pub fn tries(&self) -> u16
+        ensures tries { result ≡ self.now.recovery.tries }
+        ensures accepted { IsAccepted self.now }
+    {
+        self.recovery.tries
+    }
+
+    /// In how many steps a repair goes to those that its request was heard by: 1 or 2. It decides only where a member has a scope.
+    pub fn steps(&self) -> u16
+        ensures steps { result ≡ self.now.recovery.steps }
+        ensures accepted { IsAccepted self.now }
+    {
+        self.recovery.steps
     }
 
     /// How many members there are: at most [`MOST_NODES`](srm_net::limits::MOST_NODES). They are numbered from 0.
@@ -126,6 +151,14 @@ impl Scenario {
         self.member(m).leave
     }
 
+    /// The scope of member m's first request for a name, in hops: 0 to 65,535. Where it is 0, its requests have none.
+    pub fn scope(&self, m: u16) -> u16
+        requires { m < length self.now.members }
+        ensures { option_map (λ k. k.scope) (slice_get self.now.members m) ≡ Some result }
+    {
+        self.member(m).scope
+    }
+
     /// Whether member m's list of pages has this page. Only a late member has one.
     pub fn wants(&self, m: u16, page: u16) -> bool
         requires { m < length self.now.members }
@@ -167,6 +200,7 @@ impl Scenario {
             until: self.until,
             constants: self.constants,
             room: self.room,
+            recovery: self.recovery,
             nodes: self.nodes,
             lists: Arc::try_clone(&self.lists)?,
             drops: self.drops.share()?,

@@ -3,14 +3,14 @@ ghost use Rattle.std.specs.Prelude.{◌≡◌, ◌≤◌, true, false, codes, le
 ghost use Rattle.toml.specs.View.{view, table_view};
 ghost use Rattle.srm_net.specs.Limits.{most_links};
 ghost use Rattle.srm_scenario.specs.Rules.{fits_rules};
-ghost use Rattle.srm_scenario.specs.Described.{array_at, constants_of, form_of, given_nodes, least_of, most_of, number, room_of, says, topology_of};
+ghost use Rattle.srm_scenario.specs.Described.{array_at, constants_of, form_of, given_nodes, least_of, most_of, number, recovery_of, room_of, says, topology_of};
 ghost use Rattle.srm_scenario.specs.Faults.{rules_of_top};
 ghost use Rattle.srm_scenario.specs.LookUps.{HasNumbers, HasShape, HasArrays};
 
 use crate::delays::Delays;
 use crate::form::Form;
 use crate::key::Key;
-use crate::parts::{Constants, Room};
+use crate::parts::{Constants, Recovery, Room};
 use crate::rules::top_rules;
 use crate::table::{array, fits_rules, has_key, number, number_or, optional_number, says};
 use crate::topology::Topology;
@@ -46,6 +46,10 @@ pub(crate) struct Numbers {
     pub(crate) constants: Constants,
     /// How far they are adapted.
     pub(crate) room: Room,
+    /// The scope of members for which none is given: 0 to 65,535 hops.
+    pub(crate) scope: u16,
+    /// How members ask again, and how repairs come back, where requests have scopes.
+    pub(crate) recovery: Recovery,
 }
 
 /// The first values of the constants of timers, in range or not; 0 where there is none.
@@ -95,16 +99,30 @@ fn room_of(table: &Table) -> Room
     }
 }
 
+/// How members ask again, and how repairs come back.
+fn recovery_of(table: &Table) -> Recovery
+    requires { fits_rules (rules_of_top (table_view table.now)) (table_view table.now) ≡ true }
+    ensures { result ≡ recovery_of (table_view table.now) }
+{
+    Recovery {
+        widen: number(table, Key::Widen) as u16,
+        tries: optional_number(table, Key::Tries).unwrap_or(1) as u16,
+        steps: optional_number(table, Key::Steps).unwrap_or(2) as u16,
+    }
+}
+
 /// The numbers of a table that fits its rules.
 fn numbers_of(table: &Table) -> Numbers
     requires { fits_rules (rules_of_top (table_view table.now)) (table_view table.now) ≡ true }
-    ensures { HasNumbers (table_view table.now) result.version result.until result.constants result.room }
+    ensures { HasNumbers (table_view table.now) result }
 {
     Numbers {
         version: Version::of(number(table, Key::Version)),
         until: number(table, Key::Until),
         constants: constants_of(table),
         room: room_of(table),
+        scope: number(table, Key::Scope) as u16,
+        recovery: recovery_of(table),
     }
 }
 
@@ -230,7 +248,7 @@ fn is_top(table: &Table) -> bool
 pub(crate) fn top_of(table: &Table) -> Option<Top<'_>>
     ensures { let ms = table_view table.now in MatchOption result (fits_rules (rules_of_top ms) ms ≡ false)
         (λ t. (fits_rules (rules_of_top ms) ms ≡ true)
-        × HasNumbers ms t.numbers.version t.numbers.until t.numbers.constants t.numbers.room
+        × HasNumbers ms t.numbers
         × HasShape ms t.shape.topology t.shape.nodes t.shape.delays (map view t.shape.links.now)
         × HasArrays ms (map view t.arrays.members.now) (map view t.arrays.draws.now)
         (map view t.arrays.sessions.now) (map view t.arrays.drops.now) (map view t.arrays.outages.now)

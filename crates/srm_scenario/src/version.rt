@@ -1,6 +1,6 @@
 //! Versions of the scenario format.
 ghost use Rattle.std.specs.Prelude.{◌≡◌, ◌≤◌, ◌==◌, if◌then◌else◌};
-ghost use Rattle.srm_scenario.specs.declared.version.Version.TheVariants.{One, Two, Three, Four};
+ghost use Rattle.srm_scenario.specs.declared.version.Version.TheVariants.{One, Two, Three, Four, Five};
 
 use crate::limits::{GREATEST_CONSTANT, GREATEST_LIMIT, MOST_LISTED, MOST_REPEATED};
 
@@ -16,16 +16,19 @@ pub enum Version {
     Three,
     /// As version 3; and links may lose packets at random.
     Four,
+    /// As version 4; and requests may have scopes, and losses may come in bursts.
+    Five,
 }
 
 impl Version {
-    ghost use Rattle.srm_scenario.specs.Rules.{allows_back, allows_limits, allows_losses, allows_outages, allows_parents, allows_repetition, greatest_constant_in, most_nodes_in, last_number, most_listed_in};
+    ghost use Rattle.srm_scenario.specs.Rules.{allows_back, allows_bursts, allows_limits, allows_losses, allows_outages, allows_parents, allows_repetition, allows_scopes, greatest_constant_in, most_nodes_in, last_number, most_listed_in};
 
     /// The version of this number. Where there is none of this number, it is the first.
     pub fn of(number: u64) -> Version
-        ensures { result ≡ (if number == 4 then Four else if number == 3 then Three else if number == 2 then Two else One) }
+        ensures { result ≡ (if number == 5 then Five else if number == 4 then Four else if number == 3 then Three else if number == 2 then Two else One) }
     {
         match number {
+            5 => Version::Five,
             4 => Version::Four,
             3 => Version::Three,
             2 => Version::Two,
@@ -39,7 +42,7 @@ impl Version {
     {
         match self {
             Version::One => false,
-            Version::Two | Version::Three | Version::Four => true,
+            Version::Two | Version::Three | Version::Four | Version::Five => true,
         }
     }
 
@@ -49,7 +52,7 @@ impl Version {
     {
         match self {
             Version::One => false,
-            Version::Two | Version::Three | Version::Four => true,
+            Version::Two | Version::Three | Version::Four | Version::Five => true,
         }
     }
 
@@ -59,7 +62,27 @@ impl Version {
     {
         match self {
             Version::One | Version::Two | Version::Three => false,
-            Version::Four => true,
+            Version::Four | Version::Five => true,
+        }
+    }
+
+    /// Whether losses may come in bursts.
+    pub fn allows_bursts(self) -> bool
+        ensures { result ≡ allows_bursts self }
+    {
+        match self {
+            Version::One | Version::Two | Version::Three | Version::Four => false,
+            Version::Five => true,
+        }
+    }
+
+    /// Whether requests may have scopes.
+    pub fn allows_scopes(self) -> bool
+        ensures { result ≡ allows_scopes self }
+    {
+        match self {
+            Version::One | Version::Two | Version::Three | Version::Four => false,
+            Version::Five => true,
         }
     }
 
@@ -69,7 +92,7 @@ impl Version {
     {
         match self {
             Version::One | Version::Two => false,
-            Version::Three | Version::Four => true,
+            Version::Three | Version::Four | Version::Five => true,
         }
     }
 
@@ -79,7 +102,7 @@ impl Version {
     {
         match self {
             Version::One | Version::Two => false,
-            Version::Three | Version::Four => true,
+            Version::Three | Version::Four | Version::Five => true,
         }
     }
 
@@ -89,7 +112,7 @@ impl Version {
     {
         match self {
             Version::One | Version::Two => false,
-            Version::Three | Version::Four => true,
+            Version::Three | Version::Four | Version::Five => true,
         }
     }
 
@@ -99,7 +122,7 @@ impl Version {
     {
         match self {
             Version::One | Version::Two => GREATEST_CONSTANT,
-            Version::Three | Version::Four => GREATEST_LIMIT,
+            Version::Three | Version::Four | Version::Five => GREATEST_LIMIT,
         }
     }
 
@@ -111,7 +134,7 @@ impl Version {
         match self {
             Version::One => 256,
             Version::Two => 1024,
-            Version::Three | Version::Four => 65_535,
+            Version::Three | Version::Four | Version::Five => 65_535,
         }
     }
 
@@ -122,7 +145,7 @@ impl Version {
     {
         match self {
             Version::One | Version::Two => MOST_LISTED,
-            Version::Three | Version::Four => MOST_REPEATED,
+            Version::Three | Version::Four | Version::Five => MOST_REPEATED,
         }
     }
 

@@ -1,5 +1,6 @@
 -- Whole runs, and a short form of their rows.
 use Rattle.std.specs.Prelude.{◌≡◌, ℕ, suc, List, [], ◌∷◌, map, Option, Some, None, length}
+use Rattle.std.specs.List.{count_by, filter}
 use Rattle.srm_net.specs.declared.packet.PacketId.{PacketId}
 use Rattle.srm_net.specs.declared.packet.Name.{Name}
 use Rattle.srm_net.specs.declared.packet.Packet.{Packet}
@@ -12,10 +13,12 @@ use Rattle.srm_member.specs.declared.row.Row.{Row}
 use Rattle.srm_member.specs.declared.told.Told.{Told}
 use Rattle.srm_member.specs.declared.exit.Exit.{Exit}
 use Rattle.srm_member.specs.Record.{MemberState}
+use Rattle.srm_member.specs.AdaptingLaws.{is_of_recovery}
 use Rattle.srm_member.specs.declared.fixed.Fixed.{Fixed}
 use Rattle.srm_cell.specs.Setting.{Setting, traffic_of, setting_of}
 use Rattle.srm_cell.specs.Cells.{PlainCell, Idle}
-use Rattle.srm_cell.specs.Crossings.{crossings}
+use Rattle.srm_cell.specs.Crossings.{crossings, packets_of}
+use Rattle.srm_model.specs.Handed.{is_about}
 use Rattle.srm_model.specs.World.{World, step, last_world, opening, exits_of}
 
 -- what an event is about, in short: nothing, a packet by its identity, or a name
@@ -78,6 +81,18 @@ whole_trace p seed = map brief (world_at_end p seed).trace
 -- the crossings of its trace
 unfoldable pub whole_totals : PlainScenario → ℕ → List ℕ
 whole_totals p seed = crossings (traffic_of p (network_of p)) (world_at_end p seed).trace
+
+-- how often a packet was heard, by its arrivals in these rows
+abbrev pub heard_count : PacketId → List Row → ℕ
+heard_count p rows = count_by (λ r. is_about p r.about) rows
+
+-- the requests and repairs that these rows' members sent, and how often each was heard
+abbrev pub recovery_in : List Row → List (Packet × ℕ)
+recovery_in rows = map (λ p. (p, heard_count p.id rows)) (filter (λ p. is_of_recovery p.body) (packets_of rows))
+
+-- those of its trace
+unfoldable pub whole_recovery : PlainScenario → ℕ → List (Packet × ℕ)
+whole_recovery p seed = recovery_in (world_at_end p seed).trace
 
 -- what its members end with
 unfoldable pub whole_exits : PlainScenario → ℕ → List Exit

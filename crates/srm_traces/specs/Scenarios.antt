@@ -8,6 +8,7 @@ use Rattle.srm_net.specs.declared.link.OutageSpec.{OutageSpec}
 use Rattle.srm_net.specs.DropRules.{DropRules}
 use Rattle.srm_scenario.specs.declared.parts.Constants.{Constants}
 use Rattle.srm_scenario.specs.declared.parts.Room.{Room}
+use Rattle.srm_scenario.specs.declared.parts.Recovery.{Recovery}
 use Rattle.srm_scenario.specs.declared.parts.MemberSpec.{MemberSpec}
 use Rattle.srm_scenario.specs.declared.parts.DrawSpec.{DrawSpec}
 use Rattle.srm_scenario.specs.declared.parts.SessionSpec.{SessionSpec}
@@ -29,7 +30,15 @@ star_links delay i (suc n) = link 0 (suc i) delay ∷ star_links delay (suc i) n
 
 -- a member on this node, from the beginning to the end
 abbrev pub member : ℕ → Role → ℕ → MemberSpec
-member node role stream = record { node = node; role = role; stream = stream; join = 0; leave = None; pages = [] }
+member node role stream = record {
+  node = node;
+  role = role;
+  stream = stream;
+  join = 0;
+  leave = None;
+  pages = [];
+  scope = 0;
+}
 
 -- a drawing operation
 abbrev pub draw : ℕ → ℕ → ℕ → ℕ → DrawSpec
@@ -55,6 +64,10 @@ timed c1 c2 = thousandths c1 c2 1000 0
 abbrev pub fixed_room : Constants → Room
 fixed_room first = record { least = first; most = first; backoff = 2 }
 
+-- what a scenario that says nothing of scopes has for local recovery
+abbrev pub without_scopes : Recovery
+without_scopes = record { widen = 0; tries = 1; steps = 2 }
+
 -- these drops, and no outage or loss
 abbrev pub lists_alone : List DropSpec → DropRules
 lists_alone drops = record { listed = drops; outages = []; losses = []; seed = 0 }
@@ -69,6 +82,7 @@ chain_of_five_one_loss = record {
   until = 100;
   constants = timed 1000 0;
   room = fixed_room (timed 1000 0);
+  recovery = without_scopes;
   nodes = 5;
   links = chain_links 1 0 4;
   members = member 0 Sender 1 ∷ member 1 Receiver 2 ∷ member 2 Receiver 3 ∷ member 3 Receiver 4
@@ -84,6 +98,7 @@ loss_on_the_source_link = record {
   until = 1000;
   constants = timed 1000 0;
   room = fixed_room (timed 1000 0);
+  recovery = without_scopes;
   nodes = 3;
   links = chain_links 1 0 2;
   members = member 0 Sender 1 ∷ member 1 Receiver 2 ∷ member 2 Receiver 3 ∷ [];
@@ -98,6 +113,7 @@ repair_before_the_timer_of_its_tick = record {
   until = 1000;
   constants = timed 1500 0;
   room = fixed_room (timed 1500 0);
+  recovery = without_scopes;
   nodes = 2;
   links = chain_links 1 0 1;
   members = member 0 Sender 1 ∷ member 1 Receiver 2 ∷ [];
@@ -116,6 +132,7 @@ drawn_timers = record {
   until = 1000;
   constants = timed 2000 2000;
   room = fixed_room (timed 2000 2000);
+  recovery = without_scopes;
   nodes = 2;
   links = chain_links 10 0 1;
   members = member 0 Sender 1 ∷ member 1 Receiver 54 ∷ [];
@@ -130,6 +147,7 @@ star_loss_at_the_source = record {
   until = 1000;
   constants = timed 1000 0;
   room = fixed_room (timed 1000 0);
+  recovery = without_scopes;
   nodes = 5;
   links = star_links 5 0 4;
   members = member 1 Sender 1 ∷ member 2 Receiver 2 ∷ member 3 Receiver 3 ∷ member 4 Receiver 4 ∷ [];
@@ -144,6 +162,7 @@ star_loss_at_one_member = record {
   until = 1000;
   constants = timed 1000 0;
   room = fixed_room (timed 1000 0);
+  recovery = without_scopes;
   nodes = 5;
   links = star_links 5 0 4;
   members = member 1 Sender 1 ∷ member 2 Receiver 2 ∷ member 3 Receiver 3 ∷ member 4 Receiver 4 ∷ [];
@@ -158,6 +177,7 @@ receiver_that_leaves = record {
   until = 1000;
   constants = timed 1000 0;
   room = fixed_room (timed 1000 0);
+  recovery = without_scopes;
   nodes = 2;
   links = chain_links 1 0 1;
   members = member 0 Sender 1 ∷ record (member 1 Receiver 2) { leave = Some 1 } ∷ [];
@@ -172,6 +192,7 @@ late_joiner = record {
   until = 1000;
   constants = timed 1000 0;
   room = fixed_room (timed 1000 0);
+  recovery = without_scopes;
   nodes = 2;
   links = chain_links 1 0 1;
   members = member 0 Sender 1 ∷ record (member 1 Late 2) { join = 50; pages = 1 ∷ [] } ∷ [];
@@ -186,6 +207,7 @@ session_reveals_a_loss = record {
   until = 1000;
   constants = timed 1000 0;
   room = fixed_room (timed 1000 0);
+  recovery = without_scopes;
   nodes = 2;
   links = chain_links 1 0 1;
   members = member 0 Sender 1 ∷ member 1 Receiver 2 ∷ [];
@@ -200,6 +222,7 @@ two_nodes = record {
   until = 20;
   constants = timed 1000 0;
   room = fixed_room (timed 1000 0);
+  recovery = without_scopes;
   nodes = 2;
   links = link 0 1 3 ∷ [];
   members = member 0 Sender 1 ∷ member 1 Listener 2 ∷ [];
@@ -214,6 +237,7 @@ mended_by_the_data_itself = record {
   until = 1000;
   constants = timed 1000 0;
   room = fixed_room (timed 1000 0);
+  recovery = without_scopes;
   nodes = 3;
   links = chain_links 1 0 2;
   members = member 1 Receiver 1 ∷ member 0 Sender 2 ∷ member 2 Receiver 3 ∷ [];
@@ -228,6 +252,7 @@ loss_learnt_from_a_request = record {
   until = 1000;
   constants = timed 1000 0;
   room = fixed_room (timed 1000 0);
+  recovery = without_scopes;
   nodes = 3;
   links = chain_links 1 0 2;
   members = member 0 Sender 1 ∷ member 1 Receiver 2 ∷ member 2 Receiver 3 ∷ [];
@@ -242,6 +267,7 @@ outage_of_one_tick = record {
   until = 100;
   constants = timed 1000 0;
   room = fixed_room (timed 1000 0);
+  recovery = without_scopes;
   nodes = 3;
   links = chain_links 5 0 2;
   members = member 0 Sender 1 ∷ member 1 Listener 2 ∷ member 2 Listener 3 ∷ [];
@@ -268,6 +294,7 @@ request_timers_adapted = record {
   until = 2000;
   constants = timed 2000 0;
   room = record { least = timed 500 0; most = timed 2000 0; backoff = 3 };
+  recovery = without_scopes;
   nodes = 3;
   links = chain_links 20 0 2;
   members = member 0 Sender 1 ∷ member 1 Receiver 2 ∷ member 2 Receiver 3 ∷ [];
@@ -282,6 +309,7 @@ repair_timers_adapted = record {
   until = 2000;
   constants = thousandths 1500 0 1500 0;
   room = record { least = thousandths 1500 0 500 0; most = thousandths 1500 0 2000 0; backoff = 3 };
+  recovery = without_scopes;
   nodes = 5;
   links = link 0 1 20 ∷ link 0 2 20 ∷ link 0 3 60 ∷ link 0 4 20 ∷ [];
   members = member 1 Sender 1 ∷ member 2 Receiver 2 ∷ member 3 Receiver 3 ∷ member 4 Receiver 4 ∷ [];
@@ -296,6 +324,7 @@ two_ask_together = record {
   until = 2000;
   constants = thousandths 1000 0 500 0;
   room = record { least = thousandths 500 0 500 0; most = thousandths 2000 0 500 0; backoff = 3 };
+  recovery = without_scopes;
   nodes = 5;
   links = link 0 1 20 ∷ link 1 2 20 ∷ link 1 3 20 ∷ link 1 4 60 ∷ [];
   members = member 0 Sender 1 ∷ member 2 Receiver 2 ∷ member 3 Receiver 3 ∷ member 4 Receiver 4 ∷ [];

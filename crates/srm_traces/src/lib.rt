@@ -8,6 +8,8 @@ ghost use Rattle.srm_traces.specs.Traces.{chain_of_five_one_loss_trace, chain_of
 ghost use Rattle.srm_traces.specs.Traces.{outage_of_one_tick_trace, outage_of_one_tick_totals};
 ghost use Rattle.srm_traces.specs.Traces.{request_timers_adapted_trace, request_timers_adapted_totals, request_timers_adapted_constants, repair_timers_adapted_trace, repair_timers_adapted_totals, repair_timers_adapted_constants, two_ask_together_trace, two_ask_together_totals, two_ask_together_constants};
 
+pub mod local_recovery;
+
 /// One loss on a chain of five: its request, and the repair by the nearest that holds it.
 pub fn chain_of_five_one_loss()
     ensures trace { whole_trace Scenarios.chain_of_five_one_loss 0 ≡ chain_of_five_one_loss_trace }

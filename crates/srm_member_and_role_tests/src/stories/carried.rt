@@ -1,5 +1,5 @@
 //! What packets carry, as plain data.
-use srm_net::packet::{Body, Heard, Name};
+use srm_net::packet::{Body, Heard, Local, Name};
 use srm_net::sequence::Sequence;
 use std::alloc::{AllocError, Global};
 
@@ -17,6 +17,8 @@ pub enum Carried {
     Request {
         /// The name that is asked for.
         name: Name,
+        /// How many hops it goes; none: to all.
+        scope: Option<u16>,
     },
     /// A drawing operation, sent again.
     Repair {
@@ -24,6 +26,8 @@ pub enum Carried {
         name: Name,
         /// What was drawn.
         ink: u32,
+        /// Where it answers a request with a scope: how far it goes, and for whom.
+        local: Option<Local>,
     },
     /// A session message.
     Session {
@@ -37,8 +41,8 @@ impl Carried {
     pub(crate) fn body(self, alloc: Global) -> Result<Body, AllocError> {
         match self {
             Carried::Data { name, ink } => Ok(Body::Drawop { name, ink }),
-            Carried::Request { name } => Ok(Body::Request { name }),
-            Carried::Repair { name, ink } => Ok(Body::Repair { name, ink }),
+            Carried::Request { name, scope } => Ok(Body::Request { name, scope }),
+            Carried::Repair { name, ink, local } => Ok(Body::Repair { name, ink, local }),
             Carried::Session { heard } => Ok(Body::Session {
                 heard: Sequence::from_vec(heard.to_vec(alloc)?),
             }),
@@ -51,10 +55,17 @@ impl Carried {
             (Carried::Data { name, ink }, Body::Drawop { name: n, ink: i }) => {
                 name == *n && ink == *i
             }
-            (Carried::Request { name }, Body::Request { name: n }) => name == *n,
-            (Carried::Repair { name, ink }, Body::Repair { name: n, ink: i }) => {
-                name == *n && ink == *i
+            (Carried::Request { name, scope }, Body::Request { name: n, scope: s }) => {
+                name == *n && scope == *s
             }
+            (
+                Carried::Repair { name, ink, local },
+                Body::Repair {
+                    name: n,
+                    ink: i,
+                    local: l,
+                },
+            ) => name == *n && ink == *i && local == *l,
             (Carried::Session { heard }, Body::Session { heard: h }) => heard == h.as_slice(),
             _ => false,
         }

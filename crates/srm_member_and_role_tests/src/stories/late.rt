@@ -112,6 +112,7 @@ pub const LATE: Story = Story {
                 sender: 1,
                 carried: Carried::Request {
                     name: PAGE_2_NUMBER_4,
+                    scope: None,
                 },
             },
             told: Told::Skip,
@@ -159,6 +160,7 @@ pub const LATE: Story = Story {
                 sender: 1,
                 carried: Carried::Request {
                     name: PAGE_1_NUMBER_0,
+                    scope: None,
                 },
             },
             told: Told::Back,
@@ -176,6 +178,7 @@ pub const LATE: Story = Story {
                 sender: 1,
                 carried: Carried::Request {
                     name: PAGE_1_NUMBER_0,
+                    scope: None,
                 },
             },
             told: Told::Hold,
@@ -194,6 +197,7 @@ pub const LATE: Story = Story {
                 carried: Carried::Repair {
                     name: PAGE_1_NUMBER_0,
                     ink: 4,
+                    local: None,
                 },
             },
             told: Told::Fixed,

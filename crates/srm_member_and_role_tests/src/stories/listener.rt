@@ -57,6 +57,7 @@ pub const LISTENER: Story = Story {
                 carried: Carried::Repair {
                     name: PAGE_0_NUMBER_1,
                     ink: 8,
+                    local: None,
                 },
             },
             told: Told::Again,
@@ -71,6 +72,7 @@ pub const LISTENER: Story = Story {
                 carried: Carried::Repair {
                     name: PAGE_0_NUMBER_0,
                     ink: 7,
+                    local: None,
                 },
             },
             told: Told::Fresh,
@@ -84,6 +86,7 @@ pub const LISTENER: Story = Story {
                 sender: 1,
                 carried: Carried::Request {
                     name: PAGE_0_NUMBER_0,
+                    scope: None,
                 },
             },
             told: Told::Skip,

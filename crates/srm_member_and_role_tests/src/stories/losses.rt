@@ -52,7 +52,10 @@ pub const DRAWN: Story = Story {
             event: Event::Ask { name: FIRST },
             told: Told::Sent,
             lost: &[],
-            sent: Some(Carried::Request { name: FIRST }),
+            sent: Some(Carried::Request {
+                name: FIRST,
+                scope: None,
+            }),
             due: Some(Due {
                 time: 202,
                 rank: Rank::Request,
@@ -93,7 +96,10 @@ pub const BACKING_OFF: Story = Story {
             event: Event::Ask { name: FIRST },
             told: Told::Sent,
             lost: &[],
-            sent: Some(Carried::Request { name: FIRST }),
+            sent: Some(Carried::Request {
+                name: FIRST,
+                scope: None,
+            }),
             due: Some(Due {
                 time: 140,
                 rank: Rank::Request,
@@ -105,7 +111,10 @@ pub const BACKING_OFF: Story = Story {
             at: 130,
             event: Event::Arrival {
                 sender: 2,
-                carried: Carried::Request { name: FIRST },
+                carried: Carried::Request {
+                    name: FIRST,
+                    scope: None,
+                },
             },
             told: Told::Back,
             lost: &[],
@@ -120,7 +129,10 @@ pub const BACKING_OFF: Story = Story {
             at: 130,
             event: Event::Arrival {
                 sender: 2,
-                carried: Carried::Request { name: FIRST },
+                carried: Carried::Request {
+                    name: FIRST,
+                    scope: None,
+                },
             },
             told: Told::Hold,
             lost: &[],

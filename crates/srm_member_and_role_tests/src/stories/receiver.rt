@@ -94,6 +94,7 @@ pub const RECEIVER: Story = Story {
             lost: &[],
             sent: Some(Carried::Request {
                 name: PAGE_0_NUMBER_1,
+                scope: None,
             }),
             due: Some(Due {
                 time: 66,
@@ -109,6 +110,7 @@ pub const RECEIVER: Story = Story {
                 carried: Carried::Repair {
                     name: PAGE_0_NUMBER_1,
                     ink: 8,
+                    local: None,
                 },
             },
             told: Told::Fixed,
@@ -136,6 +138,7 @@ pub const RECEIVER: Story = Story {
                 sender: 2,
                 carried: Carried::Request {
                     name: PAGE_0_NUMBER_1,
+                    scope: None,
                 },
             },
             told: Told::Rest,
@@ -150,6 +153,7 @@ pub const RECEIVER: Story = Story {
                 sender: 2,
                 carried: Carried::Request {
                     name: PAGE_0_NUMBER_1,
+                    scope: None,
                 },
             },
             told: Told::Plan,
@@ -169,6 +173,7 @@ pub const RECEIVER: Story = Story {
                 carried: Carried::Repair {
                     name: PAGE_0_NUMBER_1,
                     ink: 8,
+                    local: None,
                 },
             },
             told: Told::Again,
@@ -237,6 +242,7 @@ pub const RECEIVER: Story = Story {
                 sender: 2,
                 carried: Carried::Request {
                     name: PAGE_0_NUMBER_4,
+                    scope: None,
                 },
             },
             told: Told::Back,
@@ -256,6 +262,7 @@ pub const RECEIVER: Story = Story {
                 carried: Carried::Repair {
                     name: PAGE_0_NUMBER_3,
                     ink: 6,
+                    local: None,
                 },
             },
             told: Told::Fixed,

@@ -75,6 +75,7 @@ pub const SENDER: Story = Story {
                 sender: 1,
                 carried: Carried::Request {
                     name: PAGE_3_NUMBER_0,
+                    scope: None,
                 },
             },
             told: Told::Plan,
@@ -93,6 +94,7 @@ pub const SENDER: Story = Story {
                 sender: 2,
                 carried: Carried::Request {
                     name: PAGE_3_NUMBER_0,
+                    scope: None,
                 },
             },
             told: Told::Busy,
@@ -115,6 +117,7 @@ pub const SENDER: Story = Story {
             sent: Some(Carried::Repair {
                 name: PAGE_3_NUMBER_0,
                 ink: 7,
+                local: None,
             }),
             due: None,
         },
@@ -124,6 +127,7 @@ pub const SENDER: Story = Story {
                 sender: 2,
                 carried: Carried::Request {
                     name: PAGE_3_NUMBER_0,
+                    scope: None,
                 },
             },
             told: Told::Rest,
@@ -138,6 +142,7 @@ pub const SENDER: Story = Story {
                 sender: 2,
                 carried: Carried::Request {
                     name: PAGE_3_NUMBER_0,
+                    scope: None,
                 },
             },
             told: Told::Plan,
@@ -186,6 +191,7 @@ pub const SENDER: Story = Story {
                 carried: Carried::Repair {
                     name: PAGE_3_NUMBER_1,
                     ink: 8,
+                    local: None,
                 },
             },
             told: Told::Again,
@@ -207,6 +213,7 @@ pub const SENDER: Story = Story {
             sent: Some(Carried::Repair {
                 name: PAGE_3_NUMBER_0,
                 ink: 7,
+                local: None,
             }),
             due: None,
         },
@@ -216,6 +223,7 @@ pub const SENDER: Story = Story {
                 sender: 1,
                 carried: Carried::Request {
                     name: PAGE_3_NUMBER_1,
+                    scope: None,
                 },
             },
             told: Told::Rest,
@@ -230,6 +238,7 @@ pub const SENDER: Story = Story {
                 sender: 1,
                 carried: Carried::Request {
                     name: PAGE_3_NUMBER_1,
+                    scope: None,
                 },
             },
             told: Told::Plan,

@@ -1,5 +1,7 @@
 use Rattle.std.proofs.Common.{◌≡◌, ◌<◌, ◌≤◌, ◌+◌, ◌*◌, sym, ◌∙◌, ap, subst, length, arith, slice_index}
 use Rattle.srm_net.specs.Fates.{is_crossing, is_dropping}
+use Rattle.srm_net.specs.Scopes.{scope_of}
+use Rattle.srm_net.proofs.Joining.{hops_long}
 use Rattle.srm_ledger.specs.Counts.{place_at, place_of}
 use Rattle.srm_cell.specs.Setting.{traffic_of}
 use Rattle.srm_cell.specs.Totalled.{bump}
@@ -9,7 +11,11 @@ use Rattle.srm_cell.proofs.count.count.Goals as goal
 pub fate_in-fate-requires-clause-spread : goal.fate_in-fate-requires-clause-spread
 fate_in-fate-requires-clause-spread c =
     let is = c.requires.room.1 in
-    record { sender = subst (λ m. m < length c.args.net.now.hosts) (sym is.sender) c.requires.sender; nodes = is.nodes }
+    record {
+      sender = subst (λ m. m < length c.args.net.now.hosts) (sym is.sender) c.requires.sender;
+      nodes = is.nodes;
+      hops = hops_long c.args.net.now _ c.args.spread.now.hops is.hops;
+    }
 
 pub loop-link-init : goal.loop-link-init
 loop-link-init c = λ k is ps h. h ∙ sym (none_counted (traffic_of k c.args.net.now) ps c.args.packet.now)
@@ -54,9 +60,9 @@ loop-link-preserved c = λ k spread ps h.
     let is = c.loop-link.invariant k spread ps h in
     let p = c.args.packet.now in
     let crossing : is_crossing c.fate_in-fate.result ≡ s.crosses p c.loop-link.link =
-    c.fate_in-fate.ensures.crosses k.drops p.id p.sent spread in
+    c.fate_in-fate.ensures.crosses k.drops p.id p.sent (scope_of p.body) spread in
     let dropping : is_dropping c.fate_in-fate.result ≡ s.drops_at p c.loop-link.link =
-    c.fate_in-fate.ensures.dropped k.drops p.id p.sent spread in
+    c.fate_in-fate.ensures.dropped k.drops p.id p.sent (scope_of p.body) spread in
     c.count_at.ensures
     ∙ (λ i. bump (dropping i) (5 * c.loop-link.link + 4)
     (bump (crossing i) (5 * c.loop-link.link + place_of (c.kind_of-kind.ensures i)) (is i)))

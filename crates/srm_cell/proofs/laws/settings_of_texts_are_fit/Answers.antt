@@ -11,6 +11,7 @@ seeded s seed a = record {
   some_ticks = a.some_ticks;
   few_ticks = a.few_ticks;
   constants = a.constants;
+  recovery = a.recovery;
   network = a.network;
   members = a.members;
   draws = a.draws;

@@ -25,3 +25,7 @@ returns-in-Links c = rw c.in-Links.is refl
 pub returns-in-Timers : goal.returns-in-Timers
 unfolding fields_text is_blank
 returns-in-Timers c = rw c.in-Timers.is refl
+
+pub returns-in-Scopes : goal.returns-in-Scopes
+unfolding fields_text is_blank
+returns-in-Scopes c = rw c.in-Scopes.is refl

@@ -87,6 +87,7 @@ scenario_with draft drops l = record {
   until = draft.until;
   constants = draft.constants;
   room = draft.room;
+  recovery = draft.recovery;
   nodes = draft.nodes;
   links = l.links.items;
   members = l.members.items;

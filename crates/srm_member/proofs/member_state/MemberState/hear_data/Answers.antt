@@ -1,7 +1,7 @@
 use Rattle.std.proofs.Common.{◌≡◌, ◌∙◌, ◌+◌, sym, ap, arith}
 use Rattle.std.specs.FinMap.Entries.{put}
 use Rattle.srm_net.specs.Names.{name_cmp, page_cmp}
-use Rattle.srm_member.specs.Record.{MemberState, Progress}
+use Rattle.srm_member.specs.Record.{MemberState}
 use Rattle.srm_member.specs.React.{Reaction, meet}
 use Rattle.srm_member.proofs.Losses.{hear_data-next}
 use Rattle.srm_member.proofs.member_state.MemberState.hear_data.Goals as goal

@@ -1,4 +1,4 @@
-use Rattle.std.proofs.Common.{◌≡◌, ◌∙◌, ap, map, [], Some, None, refl}
+use Rattle.std.proofs.Common.{◌∙◌, ap, map, [], Some, None, refl}
 use Rattle.std.proofs.lemmas.Result.{IfOk-weaker}
 use Rattle.srm_net.specs.declared.packet.Body.TheVariants.{Session}
 use Rattle.srm_member.specs.declared.told.Told.TheVariants.{Sent}

@@ -13,3 +13,6 @@ returns-clause-rows g c rows are =
     true c.standing_after-self.result _
     (c.put_lines-answer.ensures.text rows are)
     c.standing_after-self.ensures
+
+pub returns-clause-gathered : goal.returns-clause-gathered
+returns-clause-gathered g c rows are = c.put_lines-answer.ensures.gathered rows are

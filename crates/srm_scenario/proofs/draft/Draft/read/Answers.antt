@@ -1,4 +1,4 @@
-use Rattle.std.proofs.Common.{◌∙◌, ◌≤◌, List, length, codes, inr, ap, sym, subst}
+use Rattle.std.proofs.Common.{◌∙◌, ◌≤◌, List, flat_map, length, codes, inr, ap, sym, subst}
 use Rattle.std.specs.Prelude.{if◌then◌else◌}
 use Rattle.std.proofs.lemmas.Result.{err_from_is_err_and}
 use Rattle.toml.specs.View.{table_view}
@@ -153,6 +153,8 @@ returns-clause-draft c =
       constants = t.1.constants_are;
       room = t.1.room_is;
       constants_fit = t.1.constants_fit;
+      recovery = t.1.recovery_is;
+      recovery_fits = t.1.recovery_fits;
       topology = t.2.topology_is;
       degree = t.2.topology_fits;
       nodes = t.2.nodes_are;
@@ -161,7 +163,8 @@ returns-clause-draft c =
       delays_fit = t.2.delays_fit;
       links = ap (λ (ks : List LinkSpec). if names_parents ms then links_from ms 0 (parents_in ms) else ks) listed
           ∙ sym c.in_ok-links.ensures;
-      members = repeated-read (repeated entry_copy entry_of) c.in-Some.top.arrays.members.now _ _ t.3.members_are
+      members = ap (λ n. flat_map (repeated entry_copy (entry_of n)) (array_at (codes "member") ms)) t.1.scope_is
+          ∙ repeated-read (repeated entry_copy (entry_of c.in-Some.top.numbers.scope)) c.in-Some.top.arrays.members.now _ _ t.3.members_are
           c.in_ok-members.ensures.read;
       draws = repeated-read (repeated draw_copy draw_of) c.in-Some.top.arrays.draws.now _ _ t.3.draws_are c.in_ok-draws.ensures.read;
       sessions = repeated-read (repeated session_copy session_message_of) c.in-Some.top.arrays.sessions.now _ _ t.3.sessions_are
