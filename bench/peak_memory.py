@@ -8,7 +8,7 @@ ones tell the others of the loss, and the source leaves. All constants are 0, so
 at every tick until the run ends, at tick 1,000, 4,000 or 16,000: some 400,000, 1,750,000 and 7,150,000 rows of one and the
 same scenario. Prints, for each table, engine and crew, the lines and the peak resident memory of each run, in KiB, and the
 greatest over the least. It asserts nothing. No table keeps rows: the memory of losses and operations grows with the losses of the
-run alone, and that of the others does not grow.
+run alone, that of scopes with its requests and repairs, and that of the others does not grow.
 """
 import argparse
 import pathlib
@@ -25,7 +25,7 @@ from program import Program
 MEMBERS = 16
 PAGES = 4
 ENDS = [1000, 4000, 16000]
-TABLES = ["trace", "members", "losses", "operations", "links", "timers"]
+TABLES = ["trace", "members", "losses", "operations", "links", "timers", "scopes"]
 WINDOW = ["--engine", "window", "--workers", "2", "--crew"]
 CREWS = ("plain", "pool", "bag", "team")
 ENGINES: list[tuple[str, list[str]]] = [("step", []), *((f"window, {crew}", [*WINDOW, crew]) for crew in CREWS)]
@@ -76,7 +76,7 @@ def measure(program: Program, words: list[str], text: bytes) -> tuple[int, int]:
 def main() -> None:
     parser = argparse.ArgumentParser(description="peak memory of traces of three lengths")
     parser.add_argument("program", type=Program)
-    parser.add_argument("--show", action="append", choices=TABLES, help="a table; all six where none is named")
+    parser.add_argument("--show", action="append", choices=TABLES, help="a table; all where none is named")
     given = parser.parse_args()
     for table in given.show or TABLES:
         for name, words in ENGINES:

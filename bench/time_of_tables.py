@@ -20,7 +20,7 @@ NODES = 256
 DRAWS = 4096
 SPACING = 1000
 LOST = 50
-TABLES = ["trace", "members", "losses", "operations", "links", "timers"]
+TABLES = ["trace", "members", "losses", "operations", "links", "timers", "scopes"]
 
 
 def scenario(draws: int) -> bytes:

@@ -3,7 +3,7 @@ _srm_lab() {
     local word=${COMP_WORDS[COMP_CWORD]} before=${COMP_WORDS[COMP_CWORD-1]}
     COMPREPLY=()
     case $before in
-        --show) mapfile -t COMPREPLY < <(compgen -W "trace members losses operations links timers" -- "$word") ;;
+        --show) mapfile -t COMPREPLY < <(compgen -W "trace members losses operations links timers scopes" -- "$word") ;;
         --engine) mapfile -t COMPREPLY < <(compgen -W "step window" -- "$word") ;;
         --crew) mapfile -t COMPREPLY < <(compgen -W "plain pool bag team" -- "$word") ;;
         --width) mapfile -t COMPREPLY < <(compgen -W "least promise" -- "$word") ;;

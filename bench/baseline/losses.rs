@@ -10,11 +10,17 @@ pub struct Loss {
     pub from: Time,
     /// None: to the end.
     pub to: Option<Time>,
+    /// How long slots are in each of which it takes all or nothing; none: it decides on each packet.
+    pub burst: Option<Time>,
 }
+
+/// Stands in the word of a slot where that of a packet has its sender; no member has it.
+const NO_MEMBER: u16 = u16::MAX;
 
 impl Loss {
     /// Whether it takes a packet that comes to this link at this time, in the run of a seed.
     pub fn takes(&self, seed: u64, link: usize, id: PacketId, at: Time) -> bool {
+        let id = self.burst.map_or(id, |slot| PacketId { sender: NO_MEMBER, count: at / slot });
         self.from <= at && self.to.map_or(true, |to| at < to) && word(seed, self.stream, link, id) < self.bound
     }
 }

@@ -17,6 +17,7 @@ mod losses;
 mod member;
 mod network;
 mod packets;
+mod recovery;
 mod scenario;
 mod simulation;
 mod tables;

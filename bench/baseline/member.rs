@@ -3,7 +3,8 @@
 use std::collections::BTreeMap;
 
 use crate::events::{Events, Time, ANSWER, ASK};
-use crate::packets::{Body, Highest, Name, Packet};
+use crate::packets::{Body, Highest, Local, Name, Packet};
+use crate::recovery::{Mark, Rest, Scopes};
 use crate::timers::Timers;
 
 #[derive(Clone, Copy, PartialEq, Eq)]
@@ -31,6 +32,7 @@ struct Plan {
     set: Time,
     expiry: Time,
     requester: u16,
+    width: Option<u32>,
 }
 
 #[derive(Clone, Copy, PartialEq, Eq)]
@@ -80,15 +82,16 @@ pub struct Member {
     pub gone: bool,
     pub sent: u64,
     pub timers: Timers,
+    scopes: Scopes,
     pages: BTreeMap<(u16, u16), Progress>,
     held: BTreeMap<Name, u32>,
     missing: BTreeMap<Name, Loss>,
     plans: BTreeMap<Name, Plan>,
-    rests: BTreeMap<Name, Time>,
+    rests: BTreeMap<Name, Rest>,
 }
 
 impl Member {
-    pub fn new(number: u16, role: Role, wanted: Vec<u16>, timers: Timers) -> Member {
+    pub fn new(number: u16, role: Role, wanted: Vec<u16>, timers: Timers, scopes: Scopes) -> Member {
         Member {
             number,
             role,
@@ -96,6 +99,7 @@ impl Member {
             gone: false,
             sent: 0,
             timers,
+            scopes,
             pages: BTreeMap::new(),
             held: BTreeMap::new(),
             missing: BTreeMap::new(),
@@ -110,22 +114,21 @@ impl Member {
         }
         match &packet.body {
             Body::Data { name, ink } => self.take_in(at, *name, *ink, events),
-            Body::Repair { name, ink } => {
+            Body::Repair { name, ink, local } => {
                 self.average_delay(at, *name);
                 let reaction = self.take_in(at, *name, *ink, events);
                 if reaction.told != Told::Skip {
-                    self.average_repair(at, *name);
-                    self.rest(at, *name, packet.id.sender);
+                    self.hear_repair(at, *name, packet.id.sender, *local, events);
                 }
                 reaction
             }
-            Body::Request { name } => self.hear_request(at, *name, packet.id.sender, events),
+            Body::Request { name, scope } => self.hear_request(at, *name, packet.id.sender, *scope, events),
             Body::Session { heard } => self.hear_session(at, heard, events),
         }
     }
 
     fn listen(&mut self, body: &Body) -> Reaction {
-        let (Body::Data { name, ink } | Body::Repair { name, ink }) = body else {
+        let (Body::Data { name, ink } | Body::Repair { name, ink, .. }) = body else {
             return Reaction::of(Told::Skip);
         };
         let before = self.held.insert(*name, *ink);
@@ -150,13 +153,20 @@ impl Member {
         Reaction::of(Told::Again)
     }
 
-    fn hear_request(&mut self, at: Time, name: Name, requester: u16, events: &mut Events) -> Reaction {
+    fn hear_request(
+        &mut self,
+        at: Time,
+        name: Name,
+        requester: u16,
+        width: Option<u32>,
+        events: &mut Events,
+    ) -> Reaction {
         let progress = self.meet(name.source, name.page, name.number + 1);
         if name.number < progress.floor {
             return Reaction::of(Told::Skip);
         }
         if self.held.contains_key(&name) {
-            return Reaction::of(self.plan(at, name, requester, events));
+            return Reaction::of(self.plan(at, name, requester, width, events));
         }
         let mut reaction = Reaction::of(Told::Back);
         if name.number >= progress.next {
@@ -184,18 +194,46 @@ impl Member {
     }
 
     /// The answer to a request for a name that is held.
-    fn plan(&mut self, at: Time, name: Name, requester: u16, events: &mut Events) -> Told {
-        if self.rests(at, name) {
+    fn plan(&mut self, at: Time, name: Name, requester: u16, width: Option<u32>, events: &mut Events) -> Told {
+        if self.is_at_rest(at, name, requester, width) {
             return Told::Rest;
         }
-        if self.plans.contains_key(&name) {
+        if let Some(plan) = self.plans.get_mut(&name) {
+            let is_wider = plan.width.is_some_and(|own| width.map_or(true, |width| width > own));
+            if plan.requester != self.number && is_wider {
+                (plan.requester, plan.width) = (requester, width);
+            }
             return Told::Busy;
         }
         self.timers.repairs.begin_period();
-        let expiry = at + self.timers.repair(requester);
-        self.plans.insert(name, Plan { set: at, expiry, requester });
-        events.set_timer(expiry, self.number, ANSWER, name);
+        self.set_plan(at, name, requester, width, events);
         Told::Plan
+    }
+
+    fn set_plan(&mut self, at: Time, name: Name, requester: u16, width: Option<u32>, events: &mut Events) {
+        let expiry = at + self.timers.repair(requester);
+        self.plans.insert(name, Plan { set: at, expiry, requester, width });
+        events.set_timer(expiry, self.number, ANSWER, name);
+    }
+
+    /// The name rests, its plan ends if it is answered, and what answers an own request is sent on a tick later.
+    fn hear_repair(&mut self, at: Time, name: Name, sender: u16, local: Option<Local>, events: &mut Events) {
+        let mark = self.scopes.mark(local, sender);
+        let (requester, width) = local.map_or((self.number, None), |it| (it.requester, Some(it.width)));
+        let was_at_rest = self.is_at_rest(at, name, requester, width);
+        self.rest(at, name, mark, sender);
+        match self.plans.get(&name).map(|plan| self.scopes.serves(mark, plan.requester, plan.width)) {
+            Some(true) => self.end_plan(at, name),
+            Some(false) => {}
+            None if was_at_rest && local.map_or(true, |it| it.requester != sender) => {
+                self.timers.repairs.hear_duplicate();
+            }
+            None => {}
+        }
+        let sends_on = local.is_some_and(|it| self.scopes.sends_on(it));
+        if sends_on && !was_at_rest && !self.plans.contains_key(&name) {
+            self.set_plan(at, name, self.number, width, events);
+        }
     }
 
     /// The progress on a page. One that was not met before begins at 0, or, for a late joiner that does not want it, at
@@ -241,48 +279,48 @@ impl Member {
         }
     }
 
-    /// A repair ends the delay of the repair timer of its name, or is a duplicate while the name rests.
-    fn average_repair(&mut self, at: Time, name: Name) {
-        if let Some(plan) = self.plans.get(&name) {
-            let distance = self.timers.distance(plan.requester);
-            self.timers.repairs.take_in_delay(at - plan.set, distance);
-        } else if self.rests(at, name) {
-            self.timers.repairs.hear_duplicate();
-        }
+    fn is_at_rest(&self, at: Time, name: Name, requester: u16, width: Option<u32>) -> bool {
+        self.rests.get(&name).is_some_and(|rest| at < rest.end && self.scopes.serves(rest.mark, requester, width))
     }
 
-    fn rests(&self, at: Time, name: Name) -> bool {
-        self.rests.get(&name).is_some_and(|&rest| at < rest)
-    }
-
-    /// The name rests, and its repair timer ends.
-    fn rest(&mut self, at: Time, name: Name, repairer: u16) {
-        let plan = self.plans.remove(&name);
-        let other = match plan {
+    fn rest(&mut self, at: Time, name: Name, mark: Option<Mark>, repairer: u16) {
+        let other = match self.plans.get(&name) {
             _ if name.source != self.number => name.source,
             Some(plan) => plan.requester,
             None => repairer,
         };
-        self.rests.insert(name, at + 3 * self.timers.distance(other));
+        self.rests.insert(name, Rest { end: at + 3 * self.timers.distance(other), mark });
+    }
+
+    /// A repair ends the delay of the repair timer of its name, but not of one by which a repair is sent on.
+    fn end_plan(&mut self, at: Time, name: Name) {
+        if let Some(plan) = self.plans.remove(&name).filter(|plan| plan.requester != self.number) {
+            let distance = self.timers.distance(plan.requester);
+            self.timers.repairs.take_in_delay(at - plan.set, distance);
+        }
     }
 
     /// A request timer expires; `None` where it was set anew or has ended.
     pub fn ask(&mut self, at: Time, name: Name, events: &mut Events) -> Option<Reaction> {
         let loss = self.missing.get(&name).filter(|loss| loss.expiry == at)?;
+        let scope = self.scopes.of_request(loss.backoffs);
         if loss.backoffs == 0 {
             self.timers.requests.send_first();
         }
         self.back_off(at, name, events);
-        Some(Reaction::sending(Body::Request { name }))
+        Some(Reaction::sending(Body::Request { name, scope }))
     }
 
     /// A repair timer expires; `None` where it has ended.
     pub fn answer(&mut self, at: Time, name: Name) -> Option<Reaction> {
-        self.plans.get(&name).filter(|plan| plan.expiry == at)?;
-        self.timers.repairs.send_first();
-        self.average_repair(at, name);
-        self.rest(at, name, self.number);
-        Some(Reaction::sending(Body::Repair { name, ink: self.held[&name] }))
+        let &Plan { requester, width, .. } = self.plans.get(&name).filter(|plan| plan.expiry == at)?;
+        if requester != self.number {
+            self.timers.repairs.send_first();
+        }
+        let local = self.scopes.of_repair(requester, width);
+        self.rest(at, name, self.scopes.mark(local, self.number), self.number);
+        self.end_plan(at, name);
+        Some(Reaction::sending(Body::Repair { name, ink: self.held[&name], local }))
     }
 
     pub fn draw(&mut self, page: u16, ink: u32) -> Reaction {

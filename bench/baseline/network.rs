@@ -103,32 +103,45 @@ impl Net {
 
     /// The distances from a node to all members.
     pub fn distances(&self, links: &[Link], from: usize, members: usize) -> Vec<Time> {
-        let mut distances = vec![0; members];
+        self.ways(from, members, |link, node| links[link].delay_from(node))
+    }
+
+    /// How many links are between a node and each member.
+    pub fn hops(&self, from: usize, members: usize) -> Vec<u32> {
+        self.ways(from, members, |_, _| 1).into_iter().map(|hops| hops as u32).collect()
+    }
+
+    /// The sums over the ways from a node to all members of what each link takes from the node where it is taken.
+    fn ways(&self, from: usize, members: usize, takes: impl Fn(usize, usize) -> Time) -> Vec<Time> {
+        let mut ways = vec![0; members];
         let mut left = vec![(from, from, 0)];
-        while let Some((before, node, distance)) = left.pop() {
+        while let Some((before, node, way)) = left.pop() {
             if let Some(member) = self.hosts[node] {
-                distances[member] = distance;
+                ways[member] = way;
             }
             for side in self.sides[node].iter().filter(|side| side.node != before) {
-                left.push((node, side.node, distance + links[side.link].delay_from(node)));
+                left.push((node, side.node, way + takes(side.link, node)));
             }
         }
-        distances
+        ways
     }
 
     /// Where a packet goes that is sent from a node.
     pub fn route(&self, links: &[Link], from: usize, sent: &Sent) -> Route {
         let mut route = Route { hearers: Vec::new(), crossed: Vec::new(), dropped: Vec::new() };
-        let mut left = vec![(from, from, sent.at)];
-        while let Some((before, node, at)) = left.pop() {
+        let mut left = vec![(from, from, sent.at, 0)];
+        while let Some((before, node, at, hops)) = left.pop() {
             route.hearers.extend(self.hosts[node].filter(|_| node != from));
+            if sent.scope.is_some_and(|scope| hops >= scope) {
+                continue;
+            }
             for side in self.sides[node].iter().filter(|side| side.node != before && side.hosts) {
                 let link = &links[side.link];
                 if sent.dropping.contains(&side.link) || link.is_out(at) || link.loses(side.link, sent, at) {
                     route.dropped.push(side.link);
                 } else {
                     route.crossed.push(side.link);
-                    left.push((node, side.node, at + link.delay_from(node)));
+                    left.push((node, side.node, at + link.delay_from(node), hops + 1));
                 }
             }
         }
@@ -136,11 +149,12 @@ impl Net {
     }
 }
 
-/// What decides what becomes of a packet: which it is, when it was sent, the links that are listed as dropping it, and the
-/// seed of the run.
+/// What decides what becomes of a packet: which it is, when it was sent and how many links it goes, the links that are
+/// listed as dropping it, and the seed of the run.
 pub struct Sent<'a> {
     pub id: PacketId,
     pub at: Time,
+    pub scope: Option<u32>,
     pub dropping: &'a [usize],
     pub seed: u64,
 }

@@ -21,10 +21,18 @@ pub struct Highest {
     pub number: u32,
 }
 
+/// Of a repair with a scope: how many links it goes, whose request it answers, and how many that went.
+#[derive(Clone, Copy)]
+pub struct Local {
+    pub scope: u32,
+    pub requester: u16,
+    pub width: u32,
+}
+
 pub enum Body {
     Data { name: Name, ink: u32 },
-    Request { name: Name },
-    Repair { name: Name, ink: u32 },
+    Request { name: Name, scope: Option<u32> },
+    Repair { name: Name, ink: u32, local: Option<Local> },
     Session { heard: Vec<Highest> },
 }
 
@@ -36,6 +44,15 @@ impl Body {
             Body::Request { .. } => 1,
             Body::Repair { .. } => 2,
             Body::Session { .. } => 3,
+        }
+    }
+
+    /// How many links it goes; none: to all.
+    pub fn scope(&self) -> Option<u32> {
+        match self {
+            Body::Request { scope, .. } => *scope,
+            Body::Repair { local, .. } => local.map(|it| it.scope),
+            _ => None,
         }
     }
 

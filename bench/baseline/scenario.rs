@@ -6,12 +6,15 @@ use crate::losses::Loss;
 use crate::member::Role;
 use crate::network::{is_tree, Link, Outage};
 use crate::packets::PacketId;
+use crate::recovery::Recovery;
 use crate::timers::{Backoff, Constant, Constants};
 use crate::toml::Table;
 
 const LATEST: Time = 1 << 40;
 const LONGEST_DELAY: Time = 1_000_000;
 const MOST_TIMES: u64 = 65_535;
+const WIDEST: u64 = 65_535;
+const MOST_TRIES: u64 = 10;
 const WORD: u64 = u32::MAX as u64;
 const MOST_STREAM: u64 = i64::MAX as u64;
 /// Millionths.
@@ -51,6 +54,7 @@ pub struct Placed {
     pub join: Time,
     pub leave: Time,
     pub pages: Vec<u16>,
+    pub recovery: Recovery,
 }
 
 impl Placed {
@@ -80,11 +84,12 @@ struct Version {
     constant: u64,
 }
 
-const VERSIONS: [Version; 4] = [
+const VERSIONS: [Version; 5] = [
     Version { number: 1, nodes: 256, elements: 4096, constant: 64_000 },
     Version { number: 2, nodes: 1024, elements: 4096, constant: 64_000 },
     Version { number: 3, nodes: 65_535, elements: 65_535, constant: 1_024_000 },
     Version { number: 4, nodes: 65_535, elements: 65_535, constant: 1_024_000 },
+    Version { number: 5, nodes: 65_535, elements: 65_535, constant: 1_024_000 },
 ];
 
 const COMMON_KEYS: [&str; 11] =
@@ -92,6 +97,7 @@ const COMMON_KEYS: [&str; 11] =
 const ADAPTIVE_KEYS: [&str; 9] =
     ["c1_least", "c1_most", "c2_least", "c2_most", "d1_least", "d1_most", "d2_least", "d2_most", "backoff"];
 const REPEATING_KEYS: [&str; 2] = ["times", "every"];
+const RECOVERY_KEYS: [&str; 4] = ["scope", "widen", "tries", "steps"];
 
 impl Version {
     fn of(top: &Table) -> &'static Version {
@@ -114,17 +120,21 @@ impl Version {
         let outage: &[&str] = if self.number >= 2 { &["outage"] } else { &[] };
         let loss: &[&str] = if self.number >= 4 { &["loss"] } else { &[] };
         let adaptive: &[&str] = if self.number >= 3 { &ADAPTIVE_KEYS } else { &[] };
-        self.known([&COMMON_KEYS, network, outage, loss, adaptive].concat())
+        self.known([&COMMON_KEYS, network, outage, loss, adaptive, &RECOVERY_KEYS].concat())
     }
 
     fn element_keys(&self, keys: &[&'static str]) -> Vec<&'static str> {
         let repeating: &[&str] = if self.number >= 3 { &REPEATING_KEYS } else { &[] };
-        [keys, repeating].concat()
+        self.known([keys, repeating].concat())
     }
 
-    /// These keys without the second delay, where the version has none.
+    /// These keys without the second delay, local recovery and bursts, where the version has none.
     fn known(&self, mut keys: Vec<&'static str>) -> Vec<&'static str> {
-        keys.retain(|&key| self.number >= 2 || key != "back");
+        keys.retain(|&key| match key {
+            "back" => self.number >= 2,
+            "scope" | "widen" | "tries" | "steps" | "burst" => self.number >= 5,
+            _ => true,
+        });
         keys
     }
 }
@@ -192,18 +202,19 @@ impl Scenario {
         assert!(is_tree(nodes, &links), "the links make no tree");
         let list = |part, keys, most| List { top, version, part, keys, most };
         let last = version.last();
-        let members = list("member", &["node", "role", "stream", "join", "leave", "pages"], version.nodes);
+        let members = list("member", &["node", "role", "stream", "join", "leave", "pages", "scope"], version.nodes);
         let draws = list("draw", &["member", "page", "ink", "at"], version.elements);
         let sessions = list("session", &["member", "at"], version.elements);
         let drops = list("drop", &["link", "sender", "count"], version.elements);
         let outages = list("outage", &["link", "from", "to"], version.elements);
-        let losses = list("loss", &["link", "rate", "stream", "from", "to"], version.elements);
+        let losses = list("loss", &["link", "rate", "stream", "from", "to", "burst"], version.elements);
+        let recovery = recovery(top);
         let mut scenario = Scenario {
             until: top.number("until", 1..=LATEST),
             constants: constants(top, version),
             nodes,
             links,
-            members: members.read(|it| member(it, last)),
+            members: members.read(|it| member(it, last, recovery)),
             draws: draws.read(|it| draw(it, last)),
             sessions: sessions
                 .read(|it| Session { member: it.number("member", last) as u16, at: it.stepped("at", LATEST) }),
@@ -269,7 +280,16 @@ fn constants(top: &Table, version: &Version) -> Constants {
     Constants { c1: constant("c1"), c2: constant("c2"), d1: constant("d1"), d2: constant("d2"), backoff }
 }
 
-fn member(it: &Element, last: u64) -> Placed {
+fn recovery(top: &Table) -> Recovery {
+    Recovery {
+        first: top.number_or("scope", 0..=WIDEST, 0) as u32,
+        widen: top.number_or("widen", 0..=WIDEST, 0) as u32,
+        tries: top.number_or("tries", 1..=MOST_TRIES, 1) as u32,
+        steps: top.number_or("steps", 1..=2, 2),
+    }
+}
+
+fn member(it: &Element, last: u64, recovery: Recovery) -> Placed {
     let role = match it.table.text("role") {
         Some("sender") => Role::Sender,
         Some("receiver") => Role::Receiver,
@@ -277,6 +297,7 @@ fn member(it: &Element, last: u64) -> Placed {
         Some("listener") => Role::Listener,
         other => panic!("no role: {other:?}"),
     };
+    assert!(role != Role::Listener || it.table.find("scope").is_none(), "a listener has a scope");
     let most = i64::MAX as u64;
     Placed {
         node: it.stepped("node", last) as usize,
@@ -285,6 +306,7 @@ fn member(it: &Element, last: u64) -> Placed {
         join: it.table.number_or("join", 0..=LATEST, 0),
         leave: it.table.number_or("leave", 1..=LATEST, Time::MAX),
         pages: it.table.numbers("pages", 0..=65_535).into_iter().map(|page| page as u16).collect(),
+        recovery: Recovery { first: it.table.number_or("scope", 0..=WIDEST, recovery.first.into()) as u32, ..recovery },
     }
 }
 
@@ -314,6 +336,7 @@ fn loss(it: &Element, last: u64) -> LinkLoss {
         bound: rate * (1 << 32) / WHOLE_RATE,
         from: it.table.number_or("from", 0..=LATEST, 0),
         to: it.table.find("to").map(|_| it.table.number("to", 1..=LATEST)),
+        burst: it.table.find("burst").map(|_| it.table.number("burst", 1..=LATEST)),
     };
     LinkLoss { link: it.stepped("link", last) as usize, loss }
 }

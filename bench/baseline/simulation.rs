@@ -6,6 +6,7 @@ use crate::events::{Event, Events, Key, Time, ANSWER, ARRIVAL, ASK, DRAW, JOIN, 
 use crate::member::{Member, Reaction, Role, Told};
 use crate::network::{Link, Net, Route, Sent};
 use crate::packets::{Body, Name, Packet, PacketId, DROPPED};
+use crate::recovery::Scopes;
 use crate::scenario::{Draw, Scenario};
 use crate::timers::{Timers, Words};
 
@@ -63,11 +64,14 @@ impl Simulation {
         let ways: Vec<Vec<Time>> =
             nodes.iter().map(|&node| net.distances(&scenario.links, node, nodes.len())).collect();
         let (events, stays) = (script(&scenario), scenario.members.iter().map(|it| (it.join, it.leave)).collect());
+        let is_local = scenario.members.iter().any(|it| it.recovery.first > 0);
         let mut members = Vec::with_capacity(nodes.len());
         for (number, it) in scenario.members.into_iter().enumerate() {
             let distances = (0..nodes.len()).map(|other| (ways[number][other] + ways[other][number]) / 2).collect();
             let timers = Timers::new(Words::new(seed, it.stream), scenario.constants, distances);
-            members.push(Member::new(number as u16, it.role, it.pages, timers));
+            let hops = if is_local { net.hops(it.node, nodes.len()) } else { Vec::new() };
+            let scopes = Scopes::new(number as u16, it.recovery, hops);
+            members.push(Member::new(number as u16, it.role, it.pages, timers, scopes));
         }
         let mut drops: HashMap<PacketId, Vec<usize>> = HashMap::new();
         for it in scenario.drops {
@@ -75,7 +79,7 @@ impl Simulation {
         }
         let links = scenario.links;
         let sound: Vec<Link> = links.iter().map(|link| Link { outages: Vec::new(), losses: Vec::new(), ..*link }).collect();
-        let any = Sent { id: PacketId { sender: 0, count: 0 }, at: 0, dropping: &[], seed };
+        let any = Sent { id: PacketId { sender: 0, count: 0 }, at: 0, scope: None, dropping: &[], seed };
         Simulation {
             routes: nodes.iter().map(|&node| net.route(&sound, node, &any)).collect(),
             seed,
@@ -156,10 +160,10 @@ impl Simulation {
         let from = &mut self.members[sender as usize];
         let id = PacketId { sender, count: from.sent };
         from.sent += 1;
-        self.packets.push(Packet { id, body });
         let listed = self.drops.get(&id).map(Vec::as_slice);
-        let sent = Sent { id, at, dropping: listed.unwrap_or(&[]), seed: self.seed };
-        let own = (self.is_lossy || listed.is_some())
+        let sent = Sent { id, at, scope: body.scope(), dropping: listed.unwrap_or(&[]), seed: self.seed };
+        self.packets.push(Packet { id, body });
+        let own = (self.is_lossy || listed.is_some() || sent.scope.is_some())
             .then(|| self.net.route(&self.links, self.nodes[sender as usize], &sent));
         let route = own.as_ref().unwrap_or(&self.routes[sender as usize]);
         for &link in &route.crossed {

@@ -5,7 +5,7 @@ usage: tests/fuzz/fuzz.py [--seconds N | --cases N] [--from SEED] [--case SEED] 
 
 Each case is made from its number, its seed: a scenario of the format's grammar, one that is spoiled in one place, an example or
 a scenario with bytes or numbers changed, or a command line that must be refused. The scenarios are of the versions of the
-format that --versions lists, as 1,2,3,4, and any other version must be refused; without it, of those that the program reads. Of
+format that --versions lists, as 1,2,3,4,5, and any other version must be refused; without it, of those that the program reads. Of
 each case this is asserted:
 
 - Each row of the trace is of an event that was pending, and is what the model's tables say; nothing is passed over, and nothing
@@ -113,8 +113,9 @@ def expected(scenario: Scenario, seed: int, trace: bytes) -> dict[str, bytes]:
         "members": fuzz_tables.members_table(scenario, rows),
         "losses": fuzz_tables.losses_table(scenario, losses),
         "operations": fuzz_tables.operations_table(scenario, rows, losses),
-        "links": fuzz_tables.links_table(scenario, rows),
+        "links": fuzz_tables.links_table(scenario, rows, replay.packets),
         "timers": fuzz_tables.timers_table(replay.timers),
+        "scopes": fuzz_tables.scopes_table(rows, replay.packets),
     }
 
 
@@ -244,7 +245,7 @@ def seeds(options: argparse.Namespace) -> Iterator[int]:
 
 
 def versions_of(word: str) -> tuple[int, ...]:
-    """The versions that an argument lists, as 1,2,3,4."""
+    """The versions that an argument lists, as 1,2,3,4,5."""
     versions = tuple(sorted(int(it) for it in word.split(",")))
     if not set(versions) <= set(VERSIONS):
         raise ValueError(word)

@@ -29,6 +29,9 @@ GREATEST_CONSTANT = 1024000
 LEASTS = {f"{name}_least": name for name in CONSTANTS}
 MOSTS = {f"{name}_most": name for name in CONSTANTS}
 BACKOFF = {"backoff": (2, 3)}
+# local recovery: from version 5 on
+SCOPE = (0, 65535)
+RECOVERY = {"scope": SCOPE, "widen": (0, 65535), "tries": (1, 10), "steps": (1, 2)}
 # how often an element stands there, and how far apart: from version 3 on
 REPEATS = {"times": (1, 65535), "every": (0, LATEST)}
 # the keys of an element that rise by `every` from copy to copy
@@ -36,11 +39,11 @@ STEPPED = {
     "member": ("node",), "draw": ("at",), "session": ("at",), "drop": ("count",), "outage": ("from", "to"), "loss": ("link",),
 }
 # what elements may lack, besides REPEATS
-OPTIONAL = {"member": {"join", "leave", "pages"}, "loss": {"stream", "from", "to"}}
+OPTIONAL = {"member": {"join", "leave", "pages", "scope"}, "loss": {"stream", "from", "to", "burst"}}
 # a rate is in millionths
 WHOLE_RATE = 1000000
 # the versions that the program reads
-VERSIONS = (1, 2, 3, 4)
+VERSIONS = (1, 2, 3, 4, 5)
 
 
 def numbers_with(nodes: int) -> dict[str, dict[str, Limits]]:
@@ -49,7 +52,7 @@ def numbers_with(nodes: int) -> dict[str, dict[str, Limits]]:
     delay = (1, LONGEST_DELAY)
     return {
         "top": {
-            "version": (1, 4), "until": (1, LATEST),
+            "version": (1, 5), "until": (1, LATEST),
             "c1": (0, 64000), "c2": (0, 64000), "d1": (0, 64000), "d2": (0, 64000),
             "nodes": (1, nodes), "size": (1, nodes), "delay": delay, "back": delay, "degree": (2, nodes - 1),
         },
@@ -78,18 +81,30 @@ def numbers_of_version_4(nodes: int) -> dict[str, dict[str, Limits]]:
     return {**numbers_of_version_3(nodes), "loss": loss}
 
 
+def numbers_of_version_5(nodes: int) -> dict[str, dict[str, Limits]]:
+    """The same of version 5, which has local recovery, and losses that come in bursts."""
+    numbers = numbers_of_version_4(nodes)
+    numbers["top"].update(RECOVERY)
+    numbers["member"]["scope"] = SCOPE
+    numbers["loss"]["burst"] = (1, LATEST)
+    return numbers
+
+
 def lengths_with(nodes: int, elements: int) -> dict[str, int]:
     """The lengths of arrays in a version with at most so many nodes, and so many elements of other arrays."""
     return {"link": nodes - 1, "member": nodes, "draw": elements, "session": elements, "drop": elements}
 
 
 # by the version of the format, of which the first has no outages
-NUMBERS = {1: numbers_with(256), 2: numbers_with(1024), 3: numbers_of_version_3(65535), 4: numbers_of_version_4(65535)}
+NUMBERS = {
+    1: numbers_with(256), 2: numbers_with(1024), 3: numbers_of_version_3(65535), 4: numbers_of_version_4(65535),
+    5: numbers_of_version_5(65535),
+}
 LENGTHS = {
     1: lengths_with(256, 4096),
     2: {**lengths_with(1024, 4096), "outage": 4096},
     3: {**lengths_with(65535, 65535), "outage": 65535},
-    4: {**lengths_with(65535, 65535), "outage": 65535, "loss": 65535},
+    **dict.fromkeys((4, 5), {**lengths_with(65535, 65535), "outage": 65535, "loss": 65535}),
 }
 
 
@@ -110,17 +125,21 @@ def is_number(value: object, limits: Limits) -> TypeGuard[int]:
 def top_keys(top: Table) -> tuple[set[str], set[str]]:
     """The keys that must stand in the top table, and those that may."""
     version = version_of(top)
-    arrays = set(LENGTHS[version])
-    adaptive = {*LEASTS, *MOSTS, *BACKOFF} if version >= 3 else set()
+    free = set(LENGTHS[version]) | timers_keys(version) | (set(RECOVERY) if version >= 5 else set())
     if "topology" not in top:
         needed = NEEDED | {"nodes"}
-        return needed, needed | arrays | adaptive
-    arrays -= {"link"}
+        return needed, needed | free
+    free -= {"link"}
     if version >= 3 and top["topology"] == "parents":
         needed = NEEDED | {"topology", "parent", "delays" if "delays" in top else "delay"}
-        return needed, needed | arrays | adaptive | {"backs" if "backs" in top else "back"}
+        return needed, needed | free | {"backs" if "backs" in top else "back"}
     needed = NEEDED | {"topology", "size", "delay"} | ({"degree"} if top["topology"] == "tree" else set())
-    return needed, needed | arrays | adaptive | back_key(version)
+    return needed, needed | free | back_key(version)
+
+
+def timers_keys(version: int) -> set[str]:
+    """The keys of adaptive timers, in a version that has them."""
+    return {*LEASTS, *MOSTS, *BACKOFF} if version >= 3 else set()
 
 
 def back_key(version: int) -> set[str]:
@@ -197,7 +216,8 @@ def member_fits(top: Table, member: Table, nodes: int) -> bool:
     is_hub = top.get("topology") == "star" and member["node"] == 0
     in_time = member.get("join", 0) < top["until"] and member.get("leave", LATEST + 1) > member.get("join", 0)
     has_pages = "pages" in member and member["role"] != "late"
-    return member["node"] < nodes and not is_hub and in_time and not has_pages
+    has_scope = "scope" in member and member["role"] == "listener"
+    return member["node"] < nodes and not is_hub and in_time and not has_pages and not has_scope
 
 
 def act_fits(top: Table, act: Table, roles: tuple[str, ...]) -> bool:
@@ -367,11 +387,13 @@ def steps_to(node: int, steps: dict[int, Step | None]) -> list[Step]:
 
 
 class Ways(NamedTuple):
-    """The ways from one member: how long a packet takes to each node and back, and the steps of those to other members."""
+    """The ways from one member: how long a packet takes to each node and back, how many links these have, and the steps of those
+    to other members."""
 
     steps: dict[int, Step | None]
     there: dict[int, int]
     back: dict[int, int]
+    hops: dict[int, int]
     to_members: list[Step]
 
 
@@ -384,25 +406,33 @@ class Fate(NamedTuple):
 
 
 class Loss(NamedTuple):
-    """Which packets a loss of a link takes: of those that come to it in time, the ones whose words are below a bound."""
+    """Which packets a loss of a link takes: of those that come to it in time, the ones whose words are below a bound. With slots,
+    which last so many ticks, all packets of one have one word."""
 
     stream: int
     bound: int
     first: int
     end: int
+    slot: int | None = None
 
     def takes(self, word: int, time: int) -> bool:
         """Whether it takes a packet of this word that comes at this time."""
         return self.first <= time < self.end and word < self.bound
 
+    def subject(self, packet: tuple[int, int], time: int) -> tuple[int, int]:
+        """What decides, besides the link, on a packet that comes at this time: its sender and count, or the slot."""
+        return packet if self.slot is None else (NO_MEMBER, time // self.slot)
+
 
 def loss_of(given: Table) -> Loss:
     """What an element of `loss` says, of which there is none that ends where it has no `to`."""
     bound = given["rate"] * 2**32 // WHOLE_RATE
-    return Loss(given.get("stream", 0), bound, given.get("from", 0), given.get("to", LATEST + 1))
+    return Loss(given.get("stream", 0), bound, given.get("from", 0), given.get("to", LATEST + 1), given.get("burst"))
 
 
 WORD = 2**64 - 1
+# a number that is in words of slots where the sender's is in those of packets
+NO_MEMBER = 65535
 
 
 def mixed(word: int) -> int:
@@ -412,9 +442,9 @@ def mixed(word: int) -> int:
     return word ^ word >> 31
 
 
-def word_of(seed: int, stream: int, link: int, packet: tuple[int, int]) -> int:
-    """The word by which losses of a stream decide on a packet, a sender's by its count, at a link; it has 32 bits."""
-    sender, number = packet
+def word_of(seed: int, stream: int, link: int, subject: tuple[int, int]) -> int:
+    """The word by which losses of a stream decide on a packet, a sender's by its count, or a slot at a link; it has 32 bits."""
+    sender, number = subject
     of_stream = mixed(mixed(seed + 0x9e3779b97f4a7c15 & WORD) ^ stream)
     return mixed(mixed(of_stream ^ link * 65536 + sender) ^ number) >> 32
 
@@ -440,19 +470,19 @@ class Scenario:
         for loss in self.top.get("loss", []):
             self.losses[loss["link"]].append(loss_of(loss))
         self.known: dict[int, Ways] = {}
-        self.fates: dict[tuple[int, frozenset[int], int | None, int | None], Fate] = {}
+        self.fates: dict[tuple[int, frozenset[int], int | None, int | None, int | None], Fate] = {}
 
     def ways(self, member: int) -> Ways:
         """The ways from a member, on which each link takes its delay in the direction in which they take it."""
         if member not in self.known:
             start = self.members[member]["node"]
             steps = steps_from(start, self.beside)
-            there, back = {start: 0}, {start: 0}
+            there, back, hops = {start: 0}, {start: 0}, {start: 0}
             for near, link, far in filter(None, steps.values()):
                 a, _, delay, other = self.links[link]
                 outward, homeward = (delay, other) if near == a else (other, delay)
-                there[far], back[far] = there[near] + outward, back[near] + homeward
-            self.known[member] = Ways(steps, there, back, self.steps_to_members(steps))
+                there[far], back[far], hops[far] = there[near] + outward, back[near] + homeward, hops[near] + 1
+            self.known[member] = Ways(steps, there, back, hops, self.steps_to_members(steps))
         return self.known[member]
 
     def steps_to_members(self, steps: dict[int, Step | None]) -> list[Step]:
@@ -487,17 +517,25 @@ class Scenario:
         """The distance that timers and rests go by."""
         return self.round_trip(a, b) // 2
 
+    def hops(self, a: int, b: int) -> int:
+        """How many links the path between two members has."""
+        return self.ways(a).hops[self.members[b]["node"]]
+
+    def first_scope(self, member: int) -> int:
+        """The scope of a member's first requests, or 0 where these go to all."""
+        return self.members[member].get("scope", self.top.get("scope", 0))
+
     def is_present(self, member: int, time: int) -> bool:
         """Whether a packet that arrives at this time is heard."""
         leave = self.members[member]["leave"]
         return self.members[member]["join"] <= time < self.until and (leave is None or time <= leave)
 
-    def fate(self, sender: int, number: int, sent: int) -> Fate:
-        """What becomes of a packet sent at a time; the first link on a path that drops it is where it ends."""
+    def fate(self, sender: int, number: int, sent: int, scope: int | None = None) -> Fate:
+        """What becomes of a packet sent at a time; a path ends for it where a link drops it, and where its scope ends."""
         listed = frozenset(self.listed.get((sender, number), ()))
-        key = sender, listed, number if self.losses else None, sent if self.outages or self.losses else None
+        key = sender, listed, number if self.losses else None, sent if self.outages or self.losses else None, scope
         if key not in self.fates:
-            self.fates[key] = self.follow((sender, number), listed, sent)
+            self.fates[key] = self.follow((sender, number), listed, sent, scope)
         return self.fates[key]
 
     def is_out(self, link: int, time: int) -> bool:
@@ -507,15 +545,15 @@ class Scenario:
     def is_lost(self, link: int, packet: tuple[int, int], time: int) -> bool:
         """Whether a loss of a link takes a packet, a sender's by its count, that comes to it at a time."""
         losses = self.losses.get(link, ())
-        return any(it.takes(word_of(self.seed, it.stream, link, packet), time) for it in losses)
+        return any(it.takes(word_of(self.seed, it.stream, link, it.subject(packet, time)), time) for it in losses)
 
-    def follow(self, packet: tuple[int, int], listed: frozenset[int], sent: int) -> Fate:
+    def follow(self, packet: tuple[int, int], listed: frozenset[int], sent: int, scope: int | None) -> Fate:
         """Follows a packet on the ways to all members, step by step, each as far as the packet comes."""
         sender, _ = packet
         ways, fate = self.ways(sender), Fate(set(), set(), set())
         came = {self.members[sender]["node"]}
         for near, link, far in ways.to_members:
-            if near not in came:
+            if near not in came or scope is not None and ways.hops[near] >= scope:
                 continue
             time = sent + ways.there[near]
             if link in listed or self.is_out(link, time) or self.is_lost(link, packet, time):

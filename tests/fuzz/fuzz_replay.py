@@ -5,10 +5,10 @@ names and the packet of the model's table; keys must rise; no event may be passe
 `until`. These together leave one trace. On the way each packet is handed once to each member that it reaches and that is there,
 at its time of sending plus the distance, and to no other.
 """
-from typing import Any
+from typing import NamedTuple
 
-from fuzz_format import Scenario, Table
-from fuzz_tables import ARRIVALS, SENDS, Numbers, Row, Timers, Wrong
+from fuzz_format import SCOPE, Scenario, Table
+from fuzz_tables import ARRIVALS, Numbers, Packet, Row, Timers, Wrong
 
 RANKS = {"join": 0, **dict.fromkeys(ARRIVALS, 1), "ask": 2, "answer": 3, "draw": 4, "report": 5, "leave": 6}
 MOST_BACKOFFS = 10
@@ -18,7 +18,7 @@ MOST_DUPLICATES = 10**6
 PAGE_FULL = 4096
 
 # what comes of an event: its result, the names that are lost, and what is sent, if anything
-Outcome = tuple[str, list[Numbers], Any]
+Outcome = tuple[str, list[Numbers], Packet | None]
 
 
 class Words:
@@ -58,10 +58,25 @@ class Missing:
 
 
 class RepairTimer:
-    """When a repair timer was set and expires, and whose request set it."""
+    """When a repair timer was set and expires; whose request it is to answer, and how far that went, if not to all."""
 
-    def __init__(self, begun: int, expiry: int, requester: int) -> None:
-        self.begun, self.expiry, self.requester = begun, expiry, requester
+    def __init__(self, begun: int, expiry: int, requester: int, width: int | None) -> None:
+        self.begun, self.expiry, self.requester, self.width = begun, expiry, requester, width
+
+
+class Mark(NamedTuple):
+    """Of a repair with a scope: whose request it answers, how far that went, and how many hops it went on past the member."""
+
+    requester: int
+    width: int
+    left: int
+
+
+class Rest(NamedTuple):
+    """Up to when a name rests, and the mark of the repair from which it does; none of a repair that went to all."""
+
+    end: int
+    mark: Mark | None
 
 
 class Constant:
@@ -130,11 +145,12 @@ class Member:
         self.role, self.pages = given["role"], set(given["pages"])
         self.words = Words(seed, given["stream"])
         self.requests, self.answers = Interval(scenario.top, "c1", "c2"), Interval(scenario.top, "d1", "d2")
+        self.steps: int = scenario.top.get("steps", 2)
         self.entries: dict[Numbers, Entry] = {}
         self.held: set[Numbers] = set()
         self.missing: dict[Numbers, Missing] = {}
         self.repairs: dict[Numbers, RepairTimer] = {}
-        self.rests: dict[Numbers, int] = {}
+        self.rests: dict[Numbers, Rest] = {}
         self.sent = 0
         self.joined: int | None = None
         self.left: int | None = None
@@ -158,6 +174,38 @@ class Member:
     def half(self, other: int) -> int:
         """Half the round trip to another member."""
         return self.scenario.half_round_trip(self.number, other)
+
+    # ---- scopes ------------------------------------------------------------------
+
+    def scope_of_request(self, backoffs: int) -> int | None:
+        """How many hops a request goes that has been put off so often."""
+        first, top = self.scenario.first_scope(self.number), self.scenario.top
+        if first == 0 or backoffs >= top.get("tries", 1):
+            return None
+        return min(SCOPE[1], first + backoffs * top.get("widen", 0))
+
+    def scope_of_repair(self, requester: int, width: int) -> int:
+        """How many hops a repair goes that answers a request: in one step as far as all go that heard it."""
+        return width + self.scenario.hops(self.number, requester) if self.steps == 1 else width
+
+    def mark_of(self, repair: Packet, sender: int) -> Mark | None:
+        """The mark of a repair that this member hears, or sends."""
+        if repair.scope is None or repair.requester is None or repair.width is None:
+            return None
+        return Mark(repair.requester, repair.width, max(0, repair.scope - self.scenario.hops(sender, self.number)))
+
+    def serves(self, mark: Mark | None, requester: int, width: int | None) -> bool:
+        """Whether who heard a request hears the repair of this mark, too, as this member sees it."""
+        if mark is None:
+            return True
+        if width is None:
+            return False
+        was_for_it = mark.requester == requester != self.number and mark.width >= width
+        return was_for_it or self.scenario.hops(self.number, requester) + width <= mark.left
+
+    def is_at_rest(self, rest: Rest | None, time: int, requester: int, width: int | None) -> bool:
+        """Whether a request has been answered by the repair from which a name rests."""
+        return rest is not None and time < rest.end and self.serves(rest.mark, requester, width)
 
     def drawn(self, backoffs: int, interval: Interval, other: int) -> int:
         """The length of a timer, which takes one word."""
@@ -213,7 +261,8 @@ class Member:
 
     # ---- what comes of an event: the result, the names lost, and what is sent, if anything --------------
 
-    def data(self, row: Row, name: Numbers) -> Outcome:
+    def data(self, row: Row, packet: Packet) -> Outcome:
+        name: Numbers = packet.tells
         if self.role == "listener":
             result = "again" if name in self.held else "fresh"
             self.held.add(name)
@@ -232,35 +281,53 @@ class Member:
             return "fixed", [], None
         return "again", [], None
 
-    def repair(self, row: Row, name: Numbers) -> Outcome:
-        if self.role != "listener":
-            self.note_delay(name, row)
-        came = self.data(row, name)
-        if self.role != "listener" and came[0] != "skip":
-            self.note_repair(row, name)
-            self.end_of_repair(row, name, sender_of(row))
+    def repair(self, row: Row, packet: Packet) -> Outcome:
+        if self.role == "listener":
+            return self.data(row, packet)
+        self.note_delay(packet.tells, row)
+        came = self.data(row, packet)
+        if came[0] != "skip":
+            self.hear_repair(row, packet, sender_of(row))
         return came
 
-    def note_repair(self, row: Row, name: Numbers) -> None:
-        """A repair, heard or sent, tells how long the own timer of it lasted; one heard while the name rests is a duplicate."""
-        timer = self.repairs.get(name)
-        if timer is not None:
-            self.answers.take_in_delay(row.time - timer.begun, self.half(timer.requester))
-        elif row.time < self.rests.get(name, 0):
-            self.answers.hear_duplicate()
-
-    def end_of_repair(self, row: Row, name: Numbers, other: int) -> None:
-        """The name rests, and its repair timer ends."""
-        timer = self.repairs.pop(name, None)
-        self.rests[name] = row.time + 3 * self.base(name, timer.requester if timer is not None else other)
-        if timer is not None:
+    def hear_repair(self, row: Row, packet: Packet, sender: int) -> None:
+        """The name rests; its repair timer ends, if its request is answered; and what was sent for an own request is sent on."""
+        name: Numbers = packet.tells
+        timer, before = self.repairs.get(name), self.rests.get(name)
+        asker = self.number if packet.requester is None else packet.requester
+        mark = self.mark_of(packet, sender)
+        self.rest(name, row, mark, sender)
+        if timer is not None and self.serves(mark, timer.requester, timer.width):
             self.is_not_passed_over(timer.expiry, RANKS["answer"], name, row)
+            self.end_timer(name, row)
+        if timer is None and sender != packet.requester and self.is_at_rest(before, row.time, asker, packet.width):
+            self.answers.hear_duplicate()
+        is_own = self.steps == 2 and packet.requester == self.number
+        if is_own and name not in self.repairs and not self.is_at_rest(before, row.time, self.number, packet.width):
+            self.set_repair_timer(name, row, self.number, packet.width)
 
-    def request(self, row: Row, name: Numbers) -> Outcome:
+    def rest(self, name: Numbers, row: Row, mark: Mark | None, sender: int) -> None:
+        """The name rests from now on, because of a repair of this mark that a member sent."""
+        timer = self.repairs.get(name)
+        other = sender if timer is None else timer.requester
+        self.rests[name] = Rest(row.time + 3 * self.base(name, other), mark)
+
+    def end_timer(self, name: Numbers, row: Row) -> None:
+        """A repair timer ends, of which the interval hears how long it lasted; but not of one by which a repair is sent on."""
+        timer = self.repairs.pop(name)
+        if timer.requester != self.number:
+            self.answers.take_in_delay(row.time - timer.begun, self.half(timer.requester))
+
+    def set_repair_timer(self, name: Numbers, row: Row, requester: int, width: int | None) -> None:
+        length = self.drawn(0, self.answers, requester)
+        self.repairs[name] = RepairTimer(row.time, row.time + length, requester, width)
+
+    def request(self, row: Row, packet: Packet) -> Outcome:
+        name: Numbers = packet.tells
         if self.role == "listener" or name[2] < self.meet(name, name[2] + 1).floor:
             return "skip", [], None
         if name in self.held:
-            return self.held_request(row, name), [], None
+            return self.held_request(row, name, sender_of(row), packet.scope), [], None
         lost = self.lose_up_to(name, row)
         if row.time < self.missing[name].ignore:
             self.requests.hear_duplicate()
@@ -268,21 +335,25 @@ class Member:
         self.back_off(name, row)
         return "back", lost, None
 
-    def held_request(self, row: Row, name: Numbers) -> str:
-        if row.time < self.rests.get(name, 0):
+    def held_request(self, row: Row, name: Numbers, requester: int, width: int | None) -> str:
+        """What is made of a request for a name that is held. A pending timer answers the one that goes farther."""
+        if self.is_at_rest(self.rests.get(name), row.time, requester, width):
             return "rest"
-        if name in self.repairs:
+        timer = self.repairs.get(name)
+        if timer is not None:
+            is_for_another = timer.requester != self.number
+            if is_for_another and timer.width is not None and (width is None or width > timer.width):
+                timer.requester, timer.width = requester, width
             return "busy"
         self.answers.begin_period()
-        requester = sender_of(row)
-        self.repairs[name] = RepairTimer(row.time, row.time + self.drawn(0, self.answers, requester), requester)
+        self.set_repair_timer(name, row, requester, width)
         return "plan"
 
-    def session(self, row: Row, told: list[Numbers]) -> Outcome:
+    def session(self, row: Row, packet: Packet) -> Outcome:
         if self.role == "listener":
             return "skip", [], None
         lost: list[Numbers] = []
-        for name in told:
+        for name in packet.tells:
             self.meet(name, name[2] + 1)
             lost += self.lose_up_to(name, row, begins=not lost)
         return "told", lost, None
@@ -291,19 +362,25 @@ class Member:
         name = row.ref
         if name is None or name not in self.missing or self.missing[name].expiry != row.time:
             raise Wrong(f"{row}: no request timer expires")
+        scope = self.scope_of_request(self.missing[name].backoffs)
         if self.missing[name].backoffs == 0:
             self.requests.send_first()
         self.back_off(name, row)
-        return "sent", [], name
+        return "sent", [], Packet("request", name, scope)
 
     def answer(self, row: Row) -> Outcome:
         name = row.ref
         if name is None or name not in self.held or name not in self.repairs or self.repairs[name].expiry != row.time:
             raise Wrong(f"{row}: no repair timer expires")
-        self.answers.send_first()
-        self.note_repair(row, name)
-        self.end_of_repair(row, name, self.number)
-        return "sent", [], name
+        timer = self.repairs[name]
+        sends = Packet("repair", name)
+        if timer.width is not None:
+            sends = Packet("repair", name, self.scope_of_repair(timer.requester, timer.width), timer.requester, timer.width)
+        if timer.requester != self.number:
+            self.answers.send_first()
+        self.rest(name, row, self.mark_of(sends, self.number), self.number)
+        self.end_timer(name, row)
+        return "sent", [], sends
 
     def draw(self, row: Row) -> Outcome:
         page = self.scripted(self.draws, row)["page"]
@@ -313,11 +390,11 @@ class Member:
         name = self.number, page, entry.next
         self.held.add(name)
         entry.next += 1
-        return "sent", [], name
+        return "sent", [], Packet("data", name)
 
     def report(self, row: Row) -> Outcome:
         self.scripted(self.reports, row)
-        return "sent", [], [(*page, entry.next - 1) for page, entry in sorted(self.entries.items())]
+        return "sent", [], Packet("session", [(*page, entry.next - 1) for page, entry in sorted(self.entries.items())])
 
     def join(self, row: Row) -> Outcome:
         if self.joined is not None or row.time != self.scenario.members[self.number]["join"]:
@@ -361,7 +438,7 @@ class Replay:
     def __init__(self, scenario: Scenario, seed: int) -> None:
         self.scenario = scenario
         self.members = [Member(scenario, seed, number) for number in range(len(scenario.members))]
-        self.packets: dict[Numbers, tuple[str, Any]] = {}
+        self.packets: dict[Numbers, Packet] = {}
         self.losses: dict[tuple[int, Numbers], tuple[int, int | None]] = {}
         self.timers: list[tuple[Row, Timers]] = []
         self.last: tuple[int, ...] = ()
@@ -386,14 +463,14 @@ class Replay:
         if member.left is not None or (member.joined is None) != (row.cause == "join"):
             raise Wrong(f"{row}: the member is not there")
         self.keys_rise(row)
-        carried = (self.handed(member, row),) if row.cause in ARRIVALS else ()
+        heard = (self.handed(member, row),) if row.cause in ARRIVALS else ()
         constants = member.timers()[0]
-        result, lost, sends = getattr(member, row.cause)(row, *carried)
+        result, lost, sends = getattr(member, row.cause)(row, *heard)
         if member.timers()[0] != constants or row.cause == "join" and member.role != "listener":
             self.timers.append((row, member.timers()))
         if (row.result, row.lost) != (result, len(lost)):
             raise Wrong(f"{row}: its result is {result}, and it loses {lost}")
-        self.note_losses(row, lost, carried)
+        self.note_losses(row, lost, heard)
         self.send(member, row, sends)
 
     def keys_rise(self, row: Row) -> None:
@@ -404,36 +481,37 @@ class Replay:
             raise Wrong(f"{row}: it stands below {self.last}")
         self.last = key
 
-    def handed(self, member: Member, row: Row) -> Any:
-        """What a packet carries that arrives now: the name, or what a session message tells."""
+    def handed(self, member: Member, row: Row) -> Packet:
+        """The packet that arrives now."""
         if row.ref is None or member.inbox.pop(row.ref, None) != row.time:
             raise Wrong(f"{row}: this packet does not arrive now, or did already")
-        cause, carried = self.packets[row.ref]
-        if SENDS[cause] != row.cause:
-            raise Wrong(f"{row}: the packet was sent by {cause}")
-        return carried
+        packet = self.packets[row.ref]
+        if packet.kind != row.cause:
+            raise Wrong(f"{row}: the packet is {packet}")
+        return packet
 
-    def note_losses(self, row: Row, lost: list[Numbers], carried: tuple[Any, ...]) -> None:
+    def note_losses(self, row: Row, lost: list[Numbers], heard: tuple[Packet, ...]) -> None:
         for name in lost:
             if (row.member, name) in self.losses:
                 raise Wrong(f"{row}: {name} was lost before")
             self.losses[row.member, name] = row.time, None
         if row.result == "fixed":
-            detected, recovered = self.losses[row.member, carried[0]]
+            name = heard[0].tells
+            detected, recovered = self.losses[row.member, name]
             if recovered is not None:
-                raise Wrong(f"{row}: {carried[0]} was fixed before")
-            self.losses[row.member, carried[0]] = detected, row.time
+                raise Wrong(f"{row}: {name} was fixed before")
+            self.losses[row.member, name] = detected, row.time
 
-    def send(self, member: Member, row: Row, sends: Any) -> None:
+    def send(self, member: Member, row: Row, sends: Packet | None) -> None:
         """A packet that is sent is on its way to each member that it reaches and that is there when it arrives."""
         packet = None if sends is None else (row.member, member.sent)
-        if row.sent != packet or (row.cause in ("ask", "answer", "draw") and row.ref != sends):
-            raise Wrong(f"{row}: it sends {packet}, with {sends}")
-        if packet is None:
+        if row.sent != packet or (row.cause in ("ask", "answer", "draw") and sends is not None and row.ref != sends.tells):
+            raise Wrong(f"{row}: it sends {packet}, {sends}")
+        if packet is None or sends is None:
             return
         member.sent += 1
-        self.packets[packet] = row.cause, sends
-        for hearer in self.scenario.fate(*packet, row.time).reached:
+        self.packets[packet] = sends
+        for hearer in self.scenario.fate(*packet, row.time, sends.scope).reached:
             arrival = row.time + self.scenario.distance(row.member, hearer)
             if self.scenario.is_present(hearer, arrival):
                 self.members[hearer].inbox[packet] = arrival

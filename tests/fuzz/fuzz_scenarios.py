@@ -8,8 +8,9 @@ from random import Random
 from typing import Any, NamedTuple
 
 from fuzz_format import (
-    CONSTANTS, GREATEST_CONSTANT, LATEST, LENGTHS, LONGEST_TEXT, NUMBERS, PAGES, PARTS, REPEATS, ROLES, STEPPED, TOPOLOGIES,
-    VERSIONS, WHOLE_RATE, Scenario, Table, act_fits, copies, links_of, nodes_of, refusal_of, repeated, version_of,
+    CONSTANTS, GREATEST_CONSTANT, LATEST, LENGTHS, LONGEST_TEXT, NUMBERS, PAGES, PARTS, RECOVERY, REPEATS, ROLES, SCOPE,
+    STEPPED, TOPOLOGIES, VERSIONS, WHOLE_RATE, Scenario, Table, act_fits, copies, links_of, nodes_of, refusal_of, repeated,
+    version_of,
 )
 
 MOST_ROWS = 20000
@@ -130,6 +131,21 @@ def adaptive(rng: Random, top: Table) -> None:
         top["backoff"] = rng.choice([2, 3, 3])
 
 
+def local_recovery(rng: Random, top: Table) -> None:
+    """Requests go a few hops first, and farther as they back off, up to all; some members have scopes of their own."""
+
+    def scope() -> int:
+        return rng.choice([0, 1, 1, 2, 2, 3, rng.randint(1, 9), SCOPE[1]])
+
+    given = {"scope": scope(), "widen": rng.choice([0, 0, 1, 1, 2, SCOPE[1]]), "tries": rng.choice([1, 2, 3, 3, 10]),
+             "steps": rng.choice([1, 2, 2])}
+    top.update({key: value for key, value in given.items() if rng.random() < 0.85})
+    share = rng.choice([0, 0, 0.2, 1])
+    for member in top["member"]:
+        if member["role"] != "listener" and rng.random() < share:
+            member["scope"] = scope()
+
+
 def members(rng: Random, top: Table) -> list[Table]:
     """Members on some of the nodes, when all run from the beginning to the end."""
     first = 1 if top.get("topology") == "star" else 0
@@ -195,7 +211,8 @@ def folded(rng: Random, part: str, elements: list[Table]) -> list[Table]:
 def scenario(rng: Random, versions: tuple[int, ...] = VERSIONS) -> Table:
     """The plain data of a scenario of one of these versions that is accepted."""
     usual = rng.choice([[0], [1000], [0, 500, 1000, 2000, 3000], [0, 500, 1000, 2000, 3000], [0, 64000, rng.randrange(64001)]])
-    version = versions[::-1][int(rng.random() * len(versions))]
+    # later versions have all of the earlier ones, and are tried more often
+    version = versions[::-1][int(rng.random()**2 * len(versions))]
     if version >= 3:
         usual = rng.choice([[0], [1000], *[[500, 1000, 2000, 3000]] * 5, [0, 64000, rng.randrange(64001), GREATEST_CONSTANT]])
     constants = {it: rng.choice(usual) for it in CONSTANTS}
@@ -206,6 +223,8 @@ def scenario(rng: Random, versions: tuple[int, ...] = VERSIONS) -> Table:
     if version >= 2 and top.get("topology") != "parents" and rng.random() < 0.8:
         second_delays(rng, top)
     top["member"] = members(rng, top)
+    if version >= 5 and rng.random() < 0.9:
+        local_recovery(rng, top)
     if version >= 3:
         top["member"] = members_in_runs(rng, top)
     act(rng, top)
@@ -382,7 +401,8 @@ def outages(rng: Random, top: Table, network_of: Scenario, most: int) -> list[Ta
 
 
 def losses(rng: Random, top: Table, network_of: Scenario, most: int) -> list[Table]:
-    """Links that lose packets at random: for ever, or from or to a tick about which something comes to them; some overlap."""
+    """Links that lose packets at random, or in bursts: for ever, or from or to a tick about which something comes to them; some
+    overlap."""
     found: list[Table] = []
     sent = top["draw"] + top["session"]
     for _ in range(most if sent else 0):
@@ -401,6 +421,8 @@ def losses(rng: Random, top: Table, network_of: Scenario, most: int) -> list[Tab
             loss["from"] = min(first, LATEST - 1)
         if rng.random() < 0.3:
             loss["to"] = max(end, loss.get("from", 0) + 1)
+        if top["version"] >= 5 and rng.random() < 0.5:
+            loss["burst"] = rng.choice([1, 2, 10, rng.randint(1, 1 + times[-1]), rng.randint(1, 5000), LATEST])
         found.append(loss)
     return found
 
@@ -471,7 +493,7 @@ def drop_key(rng: Random, top: Table, part: str, table: Table) -> None:
 def add_key(rng: Random, top: Table, part: str, table: Table) -> None:
     keys = {"nodes", "link", "topology", "size", "delay", "degree"}
     keys |= {"pages", "join", "leave", "color", "back", "outage", "loss", "rate", "from", "to", "a", "at"}
-    keys |= {"parent", "delays", "backs", "c1_least", "d2_most", "backoff", *REPEATS}
+    keys |= {"parent", "delays", "backs", "c1_least", "d2_most", "backoff", "burst", *RECOVERY, *REPEATS}
     key = rng.choice(sorted(keys - set(table)) or ["color"])
     table[key] = rng.choice([0, 1, 2, [], "chain", "tree", "parents"])
 
@@ -506,7 +528,7 @@ def odd_element(rng: Random, top: Table, part: str, table: Table) -> None:
 
 
 def another_number(rng: Random, top: Table, part: str, table: Table) -> None:
-    keys = [key for key in table if key in NUMBERS[4][part] and type(table[key]) is int]
+    keys = [key for key in table if key in NUMBERS[5][part] and type(table[key]) is int]
     if keys:
         key = rng.choice(keys)
         table[key] = max(0, table[key] + rng.choice([-1, 1, 2, rng.randint(-9, 9)]))

@@ -3,7 +3,7 @@ of timers are those that fuzz_replay.py finds."""
 import collections
 import re
 from collections.abc import Iterable, Mapping
-from typing import NamedTuple
+from typing import Any, NamedTuple
 
 from fuzz_format import Scenario
 
@@ -14,6 +14,7 @@ HEADERS = {
     "operations": "source,page,number,losers,recovered,left,detected,asked,requests,repairs,last,delay",
     "links": "link,data,requests,repairs,sessions,dropped",
     "timers": "time,member,cause,ref,c1,c2,d1,d2,ave_dup_req,ave_req_delay,ave_dup_rep,ave_rep_delay",
+    "scopes": "time,member,cause,ref,sent,scope,requester,width,heard",
 }
 ARRIVALS = ("data", "request", "repair", "session")
 SENDS = {"draw": "data", "ask": "request", "answer": "repair", "report": "session"}
@@ -42,6 +43,17 @@ class Row(NamedTuple):
     result: str
     lost: int
     sent: Numbers | None
+
+
+class Packet(NamedTuple):
+    """Of what kind a packet is, and what it carries: a name, or what a session message tells. How many hops it goes, if that is
+    limited; and of such a repair whose request it answers, and how far that went."""
+
+    kind: str
+    tells: Any
+    scope: int | None = None
+    requester: int | None = None
+    width: int | None = None
 
 
 # the four constants of a member's timers after an event, and the four averages, of which there may be none yet
@@ -147,18 +159,31 @@ def operations_table(
     return table("operations", lines)
 
 
-def links_table(scenario: Scenario, rows: list[Row]) -> bytes:
+def links_table(scenario: Scenario, rows: list[Row], packets: Mapping[Numbers, Packet]) -> bytes:
     """One line for each link: of the packets that were sent, those that crossed it, by kind, and those dropped at it."""
     crossed: collections.Counter[tuple[int, str]] = collections.Counter()
     dropped: collections.Counter[int] = collections.Counter()
     for row in rows:
         if row.sent is not None:
             sender, count = row.sent
-            fate = scenario.fate(sender, count, row.time)
-            crossed.update((link, SENDS[row.cause]) for link in fate.crossed)
+            fate = scenario.fate(sender, count, row.time, packets[row.sent].scope)
+            crossed.update((link, packets[row.sent].kind) for link in fate.crossed)
             dropped.update(fate.dropped)
     links = range(len(scenario.links))
     return table("links", [csv(link, *(crossed[link, kind] for kind in ARRIVALS), dropped[link]) for link in links])
+
+
+def scopes_table(rows: list[Row], packets: Mapping[Numbers, Packet]) -> bytes:
+    """One line for each request and each repair that was sent: how far it was to go, for whom, and how many heard it."""
+    heard = collections.Counter(row.ref for row in rows if row.cause in ARRIVALS)
+    lines = []
+    for row in rows:
+        if row.cause in ("ask", "answer") and row.sent is not None:
+            packet = packets[row.sent]
+            sent = ":".join(str(it) for it in row.sent)
+            local = packet.scope, packet.requester, packet.width
+            lines.append(csv(row.time, row.member, row.cause, ref_text(row), sent, *local, heard[row.sent]))
+    return table("scopes", lines)
 
 
 def ref_text(row: Row) -> str | None:

@@ -4,7 +4,9 @@ import pathlib
 import random
 import re
 import sys
+import tomllib
 import unittest
+from collections.abc import Iterator
 from typing import Any
 
 sys.dont_write_bytecode = True
@@ -21,7 +23,7 @@ import fuzz_worked
 from fuzz_format import Link, Table
 from program import End
 
-ALL_VERSIONS = (1, 2, 3, 4)
+ALL_VERSIONS = (1, 2, 3, 4, 5)
 
 # what examples/chain-of-five-one-loss.toml says
 CHAIN_OF_FIVE: Table = {
@@ -64,9 +66,20 @@ PARENTS: Table = {
 
 
 def worked() -> dict[str, bytes]:
-    """The six tables of the example."""
-    tables = {it: (TOP / "examples" / f"chain-of-five-one-loss.{it}.csv").read_bytes() for it in ("trace", "members", "links")}
+    """The tables of the example."""
+    tables = {it: (TOP / "examples" / f"chain-of-five-one-loss.{it}.csv").read_bytes()
+              for it in ("trace", "members", "links", "scopes")}
     return {**tables, "losses": LOSSES, "operations": OPERATIONS, "timers": TIMERS}
+
+
+def stored() -> Iterator[tuple[pathlib.Path, int, dict[str, bytes]]]:
+    """Each scenario whose trace is stored, with the seed, and all tables that are stored."""
+    for trace in sorted([*TOP.glob("examples/*.trace.csv"), *TOP.glob("tests/scenarios/*.trace.csv")]):
+        run = trace.name.removesuffix(".trace.csv")
+        name, _, seed = run.partition(".seed-")
+        paths = {it: trace.with_name(f"{run}.{it}.csv") for it in fuzz_tables.HEADERS}
+        tables = {it: path.read_bytes() for it, path in paths.items() if path.exists()}
+        yield trace.with_name(f"{name}.toml"), int(seed or 0), tables
 
 
 def program(tables: dict[str, bytes]) -> fuzz.Run:
@@ -75,9 +88,9 @@ def program(tables: dict[str, bytes]) -> fuzz.Run:
 
 
 def told(tables: dict[str, bytes], must: Table | str = CHAIN_OF_FIVE) -> str | None:
-    """What is said of a program that writes these tables for the example, or None."""
+    """What is said of a program that writes these tables for a scenario, or None."""
     try:
-        fuzz.check(program(tables), set(fuzz_tables.HEADERS), fuzz_scenarios.Case("worked", b"", 0, must, None))
+        fuzz.check(program(tables), set(tables), fuzz_scenarios.Case("worked", b"", 0, must, None))
     except fuzz_tables.Wrong as wrong:
         return str(wrong)
     return None
@@ -91,6 +104,16 @@ def top(**changes: object) -> Table:
 class Tables(unittest.TestCase):
     def test_the_worked_tables_agree(self) -> None:
         self.assertIsNone(told(worked()))
+
+    def test_all_stored_tables_agree(self) -> None:
+        seen: set[str] = set()
+        for path, seed, tables in stored():
+            seen.update(tables)
+            scenario = fuzz_format.Scenario(tomllib.loads(path.read_text(encoding="utf-8")), seed)
+            computed = fuzz.expected(scenario, seed, tables["trace"])
+            for name, text in tables.items():
+                self.assertEqual(computed[name], text, f"{path.name}, seed {seed}: {name}")
+        self.assertEqual(seen, set(fuzz_tables.HEADERS))
 
     def test_each_number_of_each_table_is_looked_at(self) -> None:
         for name, text in worked().items():
@@ -153,8 +176,8 @@ class Refusals(unittest.TestCase):
             (None, top()),
             ("bad-key top 0", top(until=fuzz_format.LATEST + 1)),
             ("bad-key top 0", top(until=1.0)),
-            (None, top(version=4)),
-            ("bad-key top 0", top(version=5)),
+            (None, top(version=5)),
+            ("bad-key top 0", top(version=6)),
             (None, top(version=2)),
             ("bad-key top 0", top(back=1)),
             (None, top(version=2, back=1)),
@@ -221,7 +244,7 @@ class Repetition(unittest.TestCase):
             self.assertEqual(fuzz_format.repeated({part: [before, element]}), {part: [before, *made]})
 
     def test_each_made_scenario_is_accepted_in_its_version(self) -> None:
-        for versions in ((1, 2), (3,), (4,), ALL_VERSIONS):
+        for versions in ((1, 2), (3,), (4,), (5,), ALL_VERSIONS):
             for seed in range(30):
                 made = fuzz_scenarios.scenario(random.Random(seed), versions)
                 self.assertIn(made["version"], versions)
@@ -258,8 +281,8 @@ class RefusalsOfVersion3(unittest.TestCase):
             ("bad-key top 0", top(version=3, backoff=4)),
             ("bad-key top 0", top(version=2, backoff=2)),
             ("bad-key top 0", top(version=2, c1_least=1000)),
-            (None, top(version=4)),
-            ("bad-key top 0", top(version=5)),
+            (None, top(version=5)),
+            ("bad-key top 0", top(version=6)),
         ])
 
     def test_parents(self) -> None:
@@ -370,6 +393,49 @@ class RefusalsOfVersion4(unittest.TestCase):
         self.assertEqual(fuzz_format.refusal_of(both, ALL_VERSIONS), "bad-outage 0")
 
 
+class RefusalsOfVersion5(unittest.TestCase):
+    def check(self, rows: list[tuple[str | None, Table]]) -> None:
+        """In version 5 the stated refusal, and in version 4 one of the part in which the key stands."""
+        for must, it in rows:
+            self.assertEqual(fuzz_format.refusal_of(top(version=5, **it), ALL_VERSIONS), must, it)
+            part = next(iter(it)) if "loss" in it or "member" in it else "top"
+            before = fuzz_format.refusal_of(top(version=4, **it), ALL_VERSIONS)
+            self.assertEqual((before or "").split()[:2], ["bad-key", part], it)
+
+    def test_local_recovery(self) -> None:
+        self.check([
+            (None, {"scope": 0}), (None, {"scope": 65535}), ("bad-key top 0", {"scope": 65536}), ("bad-key top 0", {"scope": -1}),
+            ("bad-key top 0", {"scope": True}), ("bad-key top 0", {"scope": 1.0}),
+            (None, {"widen": 0}), (None, {"widen": 65535}), ("bad-key top 0", {"widen": 65536}), ("bad-key top 0", {"widen": -1}),
+            (None, {"tries": 1}), (None, {"tries": 10}), ("bad-key top 0", {"tries": 0}), ("bad-key top 0", {"tries": 11}),
+            (None, {"steps": 1}), (None, {"steps": 2}), ("bad-key top 0", {"steps": 0}), ("bad-key top 0", {"steps": 3}),
+        ])
+
+    def test_scopes_of_members(self) -> None:
+        member = CHAIN_OF_FIVE["member"]
+        listener = {**member[1], "role": "listener"}
+        self.check([
+            (None, {"member": [{**member[0], "scope": 3}, {**member[1], "scope": 65535}]}),
+            (None, {"member": [member[0], {**member[2], "role": "late", "scope": 0}, listener]}),
+            (None, {"member": [member[0], {**member[1], "scope": 2, "times": 4}]}),
+            ("bad-key member 1", {"member": [member[0], {**member[1], "scope": 65536}]}),
+            ("bad-key member 0", {"member": [{**member[0], "scope": 1.0}]}),
+            ("bad-member 1", {"member": [member[0], {**listener, "scope": 1}]}),
+            ("bad-member 2", {"member": [member[0], {**member[1], "scope": 1}, {**listener, "node": 2, "scope": 0}]}),
+        ])
+
+    def test_bursts(self) -> None:
+        loss = {"link": 3, "rate": 1}
+        self.check([
+            (None, {"loss": [{**loss, "burst": 1}, loss]}),
+            (None, {"loss": [{**loss, "burst": 2**40, "times": 2, "every": 0}]}),
+            ("bad-key loss 0", {"loss": [{**loss, "burst": 0}]}),
+            ("bad-key loss 1", {"loss": [loss, {**loss, "burst": 2**40 + 1}]}),
+            ("bad-key loss 0", {"loss": [{**loss, "burst": 1.5}]}),
+            ("bad-loss 0", {"loss": [{**loss, "burst": 1, "from": 5, "to": 5}]}),
+        ])
+
+
 class Losses(unittest.TestCase):
     def test_words_are_made_by_the_published_function(self) -> None:
         # the first two numbers of SplitMix64 with seed 1234567
@@ -392,6 +458,15 @@ class Losses(unittest.TestCase):
             lost = sum(fuzz_format.word_of(7, 0, 3, (5, number)) < bound for number in range(packets))
             share = rate / 1000000
             self.assertLess(abs(lost - packets * share), 4 * (packets * share * (1 - share)) ** 0.5)
+
+    def test_in_bursts_the_slot_decides(self) -> None:
+        # words of stream 1 on link 1 with seed 0, worked from the published function
+        found = [fuzz_format.word_of(0, 1, 1, (65535, slot)) for slot in range(5)]
+        self.assertEqual(found, [0xddf66d04, 0x0f7bf471, 0x5edac5a1, 0x387b7a55, 0x7822a23e])
+        chain = {**CHAIN_OF_FIVE, "version": 5, "loss": [{"link": 1, "rate": 100000, "stream": 1, "burst": 40}]}
+        network = fuzz_format.Scenario(chain)
+        taken = [at for at in range(200) if network.is_lost(1, (at % 5, at), at)]
+        self.assertEqual(taken, list(range(40, 80)))
 
     def test_a_packet_is_followed_up_to_the_loss_that_takes_it(self) -> None:
         # member 0 sends at 50: its packet comes to link 1 at 50, to links 0 and 2 at 60 and to link 3 at 63
@@ -457,6 +532,56 @@ class AdaptiveTimers(unittest.TestCase):
             scenario = fuzz_format.Scenario({**CHAIN_OF_FIVE, "version": 3, "delay": 20, "backoff": factor})
             member = fuzz_replay.Member(scenario, 0, 1)
             self.assertEqual(member.drawn(backoffs, member.requests, 0), length)
+
+
+class LocalRecovery(unittest.TestCase):
+    def test_each_number_of_a_local_recovery_is_looked_at(self) -> None:
+        path, _, tables = next(it for it in stored() if it[0].stem == "local-recovery")
+        scenario = tomllib.loads(path.read_text(encoding="utf-8"))
+        self.assertIsNone(told(tables, scenario))
+        for name, text in tables.items():
+            for found in re.finditer(rb"[0-9]+", text):
+                wrong = text[:found.start()] + str(int(found[0]) + 1).encode() + text[found.end():]
+                self.assertIsNotNone(told({**tables, name: wrong}, scenario), wrong)
+
+    def test_scopes_of_requests_grow_up_to_all(self) -> None:
+        rows: list[tuple[Table, list[int | None]]] = [
+            ({}, [None, None]), ({"scope": 0, "tries": 9, "widen": 5}, [None, None]), ({"scope": 3}, [3, None]),
+            ({"scope": 3, "widen": 2, "tries": 4}, [3, 5, 7, 9, None]),
+            ({"scope": 65000, "widen": 500, "tries": 4}, [65000, 65500, 65535]),
+        ]
+        for given, scopes in rows:
+            member = fuzz_replay.Member(fuzz_format.Scenario({**CHAIN_OF_FIVE, **given}), 0, 2)
+            self.assertEqual([member.scope_of_request(backoffs) for backoffs in range(len(scopes))], scopes, given)
+
+    def test_scopes_of_repairs_in_one_step_and_in_two(self) -> None:
+        for steps, scope in ((1, 65535 + 3), (2, 65535)):
+            member = fuzz_replay.Member(fuzz_format.Scenario({**CHAIN_OF_FIVE, "steps": steps}), 0, 1)
+            self.assertEqual(member.scope_of_repair(4, 65535), scope)
+
+    def test_marks_serve_those_that_heard(self) -> None:
+        # member 3, one hop from members 2 and 4 and two from member 1: a mark, and which requests it serves
+        member = fuzz_replay.Member(fuzz_format.Scenario(CHAIN_OF_FIVE), 0, 3)
+        rows: list[tuple[tuple[int, int, int] | None, int, int | None, bool]] = [
+            (None, 2, None, True), (None, 2, 9, True), ((2, 9, 9), 2, None, False),
+            ((2, 2, 0), 2, 2, True), ((2, 2, 0), 2, 1, True), ((2, 2, 0), 2, 3, False),
+            ((2, 2, 0), 4, 1, False), ((2, 2, 1), 4, 1, False), ((2, 2, 2), 4, 1, True), ((2, 2, 2), 1, 1, False),
+            ((3, 2, 1), 3, 2, False), ((3, 2, 2), 3, 2, True),
+        ]
+        for given, requester, width, does in rows:
+            mark = None if given is None else fuzz_replay.Mark(*given)
+            self.assertEqual(member.serves(mark, requester, width), does, (given, requester, width))
+
+    def test_a_packet_is_followed_up_to_where_its_scope_ends(self) -> None:
+        # member 1 is two hops from member 0, by links 1 and 2, and member 2 is three, by links 1, 0 and 3
+        drop: Table = {"drop": [{"link": 0, "sender": 0, "count": 9}]}
+        rows: list[tuple[Table, int, set[int], set[int], set[int]]] = [
+            ({}, 1, set(), {1}, set()), ({}, 2, {1}, {0, 1, 2}, set()), ({}, 3, {1, 2}, {0, 1, 2, 3}, set()),
+            (drop, 1, set(), {1}, set()), (drop, 2, {1}, {1, 2}, {0}), (drop, 9, {1}, {1, 2}, {0}),
+        ]
+        for changes, scope, reached, crossed, dropped in rows:
+            network = fuzz_format.Scenario({**PARENTS, **changes})
+            self.assertEqual(network.fate(0, 9, 50, scope), (reached, crossed, dropped), (changes, scope))
 
 
 class Model(unittest.TestCase):

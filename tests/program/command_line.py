@@ -282,15 +282,16 @@ class Tables(CommandLineCase):
             (["--show=links"], "links"),
             (["--show", "links", "--seed", "3"], "links"),
             (["--show", "timers"], "timers"),
+            (["--show", "scopes"], "scopes"),
         ):
             with self.subTest(words=words):
                 table = (EXAMPLES / f"chain-of-five-one-loss.{show}.csv").read_bytes()
                 self.assertEqual(self.ended(words)[0], (0, table, b""))
 
     def test_memory_does_not_grow_with_rows(self) -> None:
-        """Of a loss that is asked for in vain at each tick, a hundred times as long."""
+        """Of a loss that is asked for in vain at each tick, a hundred times as long; but for a table of what was asked."""
         shorter, longer = (UNMENDED.replace(b"20000", ticks) for ticks in (b"2000", b"200000"))
-        for words, table in itertools.product((NO_WORDS, WINDOW), fuzz_tables.HEADERS):
+        for words, table in itertools.product((NO_WORDS, WINDOW), fuzz_tables.HEADERS.keys() - {"scopes"}):
             shown = [*words, "--show", table]
             with self.subTest(words=shown):
                 self.assertLess(self.peak(shown, longer), 5 / 4 * self.peak(shown, shorter))
@@ -480,7 +481,7 @@ class Traces(CommandLineCase):
 
     def test_other_tables_are_written_at_the_end(self) -> None:
         text = chain(40, 1, 1)
-        for table in ("members", "losses", "operations", "links"):
+        for table in ("members", "losses", "operations", "links", "scopes"):
             words = ["--show", table]
             with self.subTest(words=words):
                 self.assertGreater(self.allocations(words, text, FULL), 9 / 10 * self.allocations(words, text))
@@ -496,7 +497,7 @@ class Crews(CommandLineCase):
                     self.assertEqual(self.threads([*WINDOW, *LINKS, "--crew", crew, *words]), more)
 
     def test_a_team_has_no_more_threads_for_one_table_than_for_another(self) -> None:
-        for table, workers in itertools.product(("trace", "members", "losses", "operations", "links", "timers"), (1, 2, 7, 64)):
+        for table, workers in itertools.product(fuzz_tables.HEADERS, (1, 2, 7, 64)):
             words = [*WINDOW, "--show", table, "--workers", str(workers), "--crew", "team"]
             with self.subTest(words=words):
                 self.assertEqual(self.threads(words), workers - 1)
@@ -623,8 +624,9 @@ Options:
           The seed of the random words of members and losses [default: 0]
       --replications <1..=1000000>
           How many runs are made, with the seeds from --seed on: each row begins with its seed
-      --show <trace|members|losses|operations|links|timers>
-          The table: a row for each event, member, loss, lost operation, link or adapted timer [default: trace]
+      --show <trace|members|losses|operations|links|timers|scopes>
+          The table: a row for each event, member, loss, lost operation, link, adapted timer, or \
+request and repair [default: trace]
       --check
           Only read and check the scenario, and write nothing
       --explain
@@ -737,7 +739,7 @@ class Explanations(CommandLineCase):
         self.check(["--seed", "-1"], "'-1'", "--seed <0..=9223372036854775807>")
         self.check(["--workers", "-1"], "'-1'", "--workers <1..=64>")
         self.check(["--cut", "-1"], "'-1'", "--cut <N>", "1 to 1024")
-        self.check(["--show", "-1"], "'-1'", "trace, members, losses, operations, links, timers")
+        self.check(["--show", "-1"], "'-1'", "trace, members, losses, operations, links, timers, scopes")
         self.check(["--seed", "--show", "links"], "--seed", "value is required")
         self.check(["--replications", "0"], "'0'", "1..=1000000")
         self.check(["--replications", "2", *WINDOW], "--replications", "cannot be used with '--engine window'")

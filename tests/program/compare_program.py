@@ -5,7 +5,7 @@ usage: tests/program/compare_program.py
 
 examples/ and tests/scenarios/ have scenarios NAME.toml and tables NAME.TABLE.csv, or NAME.seed-N.TABLE.csv where the seed is not
 0. Each stored table is compared with what the sequential engine writes. Then each scenario is run in windows, for
-each of the six tables, with each crew, numbers of workers, cuts and widths that --help names, and has to give the sequential
+each table, with each crew, numbers of workers, cuts and widths that --help names, and has to give the sequential
 engine's bytes; so it has to with each seed for which a table is stored, and by the sequential engine with options that only
 windows look at. Last, command lines and texts that are refused have to end with their line and status. Prints a line for each
 difference, and ends with status 1 where there is one.
@@ -20,7 +20,7 @@ sys.dont_write_bytecode = True
 
 from program import BUILT, REFUSED_LINE, TOP, VERSION, End, Program, Word, refused, side_by_side
 
-SHOWS = ("trace", "members", "losses", "operations", "links", "timers")
+SHOWS = ("trace", "members", "losses", "operations", "links", "timers", "scopes")
 CREWS = ("plain", "pool", "bag", "team")
 WORKERS = ("1", "2", "7")
 CUTS = ("1", "3", "1024")

@@ -295,7 +295,7 @@ class Devices(HostileCase):
                 self.assertEqual(end, refused("write-fault 0"))
 
     def test_output_that_is_full(self) -> None:
-        tables = [["--show", it] for it in ("members", "losses", "operations", "links", "timers")]
+        tables = [["--show", it] for it in ("members", "losses", "operations", "links", "timers", "scopes")]
         for words in [*ENGINES, ["--help"], *tables]:
             with self.subTest(words=words), open("/dev/full", "wb") as full:
                 self.assertEqual(self.program.run(words, TEXT, stdout=full), refused("write-fault 0"))

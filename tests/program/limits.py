@@ -3,12 +3,12 @@
 
 usage: tests/program/limits.py
 
-Each case has as much of one thing as a scenario of version 2, 3 or 4 may have: nodes and members in a chain, a star, a tree and
-by parents, links, draws, session messages, drops, outages, losses, pages of a late member, ticks, delays, distances, and bytes
-of its text. What has to be written is worked out here. Jobs have one member each, so that a window has as many as there are
-members, or as many members as they may have. Then a session of 5,000 members, which lose packets and adapt their timers, is run
-with each crew and several workers, cuts and widths, and has to give the sequential engine's bytes. Prints how many runs there
-were, and ends with status 1 where one differs.
+Each case has as much of one thing as a scenario of version 2 to 5 may have: nodes and members in a chain, a star, a tree and
+by parents, links, draws, session messages, drops, outages, losses, slots, scopes, pages of a late member, ticks, delays,
+distances, and bytes of its text. What has to be written is worked out here. Jobs have one member each, so that a window has as
+many as there are members, or as many members as they may have. Then a session of 5,000 members, which lose packets, recover
+locally and adapt their timers, is run with each crew and several workers, cuts and widths, and has to give the sequential
+engine's bytes. Prints how many runs there were, and ends with status 1 where one differs.
 """
 import dataclasses
 import sys
@@ -26,6 +26,7 @@ LONGEST_TEXT = 1_048_576
 
 TRACE = "time,member,cause,ref,result,lost,sent"
 LINKS = "link,data,requests,repairs,sessions,dropped"
+SCOPES = "time,member,cause,ref,sent,scope,requester,width,heard"
 WINDOW = ("--engine", "window", "--cut")
 STEP = ("--engine", "step")
 PLAIN = (*WINDOW, "1")
@@ -48,6 +49,8 @@ WAYS_OF_MANY = (
     ("links", (*WINDOW, "9", "--width", "promise")),
     ("links", (*WINDOW, "300", "--crew", "team", "--workers", "7", "--width", "promise")),
     ("timers", (*WINDOW, "500", "--crew", "bag", "--workers", "3", "--width", "promise")),
+    ("scopes", (*WINDOW, "70", "--crew", "pool")),
+    ("scopes", (*WINDOW, "200", "--crew", "team", "--workers", "4", "--width", "promise")),
 )
 
 
@@ -63,6 +66,7 @@ class Version:
 SECOND = Version(2, nodes=1_024, elements=4_096)
 THIRD = Version(3, nodes=65_535, elements=65_535)
 FOURTH = dataclasses.replace(THIRD, number=4)
+FIFTH = dataclasses.replace(THIRD, number=5)
 
 
 @dataclasses.dataclass(frozen=True)
@@ -77,7 +81,7 @@ class Case:
 
     def table(self) -> bytes:
         """The bytes that have to be written."""
-        header = {"trace": TRACE, "links": LINKS}[self.show]
+        header = {"trace": TRACE, "links": LINKS, "scopes": SCOPES}[self.show]
         return "".join(f"{line}\n" for line in (header, *self.lines)).encode()
 
 
@@ -222,24 +226,26 @@ def by_parents() -> Case:
     return Case("parents, and bytes", padded(text), "trace", rows, ways=(STEP, BAG))
 
 
-def longest_way() -> Case:
-    """Members at the two ends of the longest chain, at the greatest distance. The first of two draws is dropped.
-
-    The second tells of the loss after one distance; the timers of the request and of the repair take one each, and so does each
-    packet: the repair is there after five. Before that the request is sent again, two distances after the first.
-    """
-    way = LONGEST_DELAY * (THIRD.nodes - 1)
-    last = THIRD.nodes - 1
+def at_the_ends(version: Version, *parts: str) -> str:
+    """Members at the two ends of the longest chain, at the greatest distance. The first of two draws is dropped."""
+    last = version.nodes - 1
     ends = array("member", 'node = 0, role = "sender", stream = 0', f'node = {last}, role = "receiver", stream = 1')
     drop = array("drop", f"link = {last - 1}, sender = 0, count = 0")
-    text = scenario(THIRD, LAST_TICK, topology("chain", THIRD.nodes, LONGEST_DELAY), ends, draws(2), drop)
+    return scenario(version, LAST_TICK, *parts, topology("chain", version.nodes, LONGEST_DELAY), ends, draws(2), drop)
+
+
+def longest_way() -> Case:
+    """The second draw tells of the loss after one distance; the timers of the request and of the repair take one each, and so
+    does each packet: the repair is there after five. Before that the request is sent again, two distances after the first.
+    """
+    way = LONGEST_DELAY * (THIRD.nodes - 1)
     rows = [
         "0,0,join,-,in,0,-", "0,0,draw,0/0/0,sent,0,0:0", "0,1,join,-,in,0,-", "1,0,draw,0/0/1,sent,0,0:1",
         f"{way + 1},1,data,0:1,fresh,1,-", f"{2 * way + 1},1,ask,0/0/0,sent,0,1:0", f"{3 * way + 1},0,request,1:0,plan,0,-",
         f"{4 * way + 1},0,answer,0/0/0,sent,0,0:2", f"{4 * way + 1},1,ask,0/0/0,sent,0,1:1",
         f"{5 * way + 1},0,request,1:1,rest,0,-", f"{5 * way + 1},1,repair,0:2,fixed,0,-",
     ]
-    return Case("distance", text, "trace", rows)
+    return Case("distance", at_the_ends(THIRD), "trace", rows)
 
 
 def far_apart(*parts: str) -> str:
@@ -296,12 +302,45 @@ def cases_of_version_4() -> Iterator[Case]:
     yield Case("losses", text, "links", [f"0,0,0,0,0,{count}"])
 
 
+def widest_scope() -> Case:
+    """The request goes just as far as the longest way, and in one step its repair has that scope and that way: twice as far."""
+    hops = FIFTH.nodes - 1
+    way = LONGEST_DELAY * hops
+    rows = [
+        f"{2 * way + 1},1,ask,0/0/0,1:0,{hops},-,-,1", f"{4 * way + 1},0,answer,0/0/0,0:2,{2 * hops},1,{hops},1",
+        f"{4 * way + 1},1,ask,0/0/0,1:1,{hops},-,-,1",
+    ]
+    return Case("scope", at_the_ends(FIFTH, f"scope = {hops}\nsteps = 1\ntries = 10"), "scopes", rows)
+
+
+def scope_a_link_short() -> Case:
+    """The first request goes one link less than the longest way, and nobody hears it; the second one goes to all."""
+    hops = FIFTH.nodes - 1
+    way = LONGEST_DELAY * hops
+    rows = [
+        f"{2 * way + 1},1,ask,0/0/0,1:0,{hops - 1},-,-,0", f"{4 * way + 1},1,ask,0/0/0,1:1,-,-,-,1",
+        f"{6 * way + 1},0,answer,0/0/0,0:2,-,-,-,1",
+    ]
+    return Case("scope that is a link short", at_the_ends(FIFTH, f"scope = {hops - 1}"), "scopes", rows)
+
+
+def cases_of_version_5() -> Iterator[Case]:
+    """A case for each limit that only version 5 has. One slot is the whole run, and losses of all packets take all."""
+    yield widest_scope()
+    yield scope_a_link_short()
+    count = FIFTH.elements
+    losses = array("loss", f"link = 0, rate = 1000000, burst = {LAST_TICK}, times = {count}, every = 0")
+    text = scenario(FIFTH, LAST_TICK, topology("chain", 2, LONGEST_DELAY), members(range(2)), draws_on_pages(count), losses)
+    yield Case("slot", text, "links", [f"0,0,0,0,0,{count}"])
+
+
 def session_of_many() -> str:
     """A tree of 5,000 nodes with a member on each, of which few lose each of three packets, adapt their timers and ask."""
     adaptive = "c1 = 2000\nc1_least = 500\nc2 = 2000\nc2_most = 8000\nd1 = 1000\nd1_least = 500\nd2 = 1000\nd2_most = 8000"
     network = parents_with(MANY, lambda link: 5 + link % 7)
     return "\n".join((
-        f"version = 3\nuntil = 4000\n{adaptive}\nbackoff = 3\n{network}\n{members_in_a_row(range(MANY))}",
+        f"version = 5\nuntil = 4000\n{adaptive}\nbackoff = 3\nscope = 3\nwiden = 2\ntries = 4",
+        f"{network}\n{members_in_a_row(range(MANY))}",
         array("draw", "member = 0, page = 0, ink = 0, at = 0, times = 4, every = 400"),
         array("drop", f"link = {MANY - 100}, sender = 0, count = 0, times = 3", "link = 7, sender = 0, count = 0, times = 9"), "",
     ))
@@ -332,7 +371,7 @@ def faults_of_many(program: Program) -> Iterator[str]:
 
 def main() -> None:
     program = Program(BUILT)
-    tried = [*cases_of_version_2(), *cases_of_version_3(), *cases_of_version_4()]
+    tried = [*cases_of_version_2(), *cases_of_version_3(), *cases_of_version_4(), *cases_of_version_5()]
     wrong = [fault for case in tried for fault in faults(program, case)]
     wrong += faults_of_many(program)
     for fault in wrong:

@@ -35,13 +35,13 @@ CREWS = {
     "window, pool": ["--engine", "window", "--crew", "pool"],
     **{f"window, {crew}, 2 workers": ["--engine", "window", "--crew", crew, "--workers", "2"] for crew in ("bag", "team")},
 }
-TABLES = {table: ["--show", table] for table in ("members", "losses", "operations", "links", "timers")}
+TABLES = {table: ["--show", table] for table in ("members", "losses", "operations", "links", "timers", "scopes")}
 REPLICATIONS = {
     f"replications, {table}, {workers} workers": ["--replications", "3", "--show", table, "--workers", str(workers)]
     for table, workers in (("trace", 1), ("losses", 1), ("trace", 3), ("losses", 3))
 }
 EXAMPLES = TOP / "examples"
-NAMES_OF_FEW = ("two-nodes", "chain-of-five-one-loss", "star-loss-at-the-source", "losses-at-random")
+NAMES_OF_FEW = ("two-nodes", "chain-of-five-one-loss", "star-loss-at-the-source", "losses-at-random", "local-recovery")
 FEW = [EXAMPLES / f"{name}.toml" for name in NAMES_OF_FEW]
 # crates of tests, or a module of one, whose tests pass whichever allocation is refused
 TESTS = (

@@ -138,11 +138,11 @@ class Rules(ProgramCase):
                     if rule["key"] in CONSTANTS:
                         for value, allowed in ends(rule, top):
                             self.check(top | {rule["key"]: value}, "top", allowed, version, rule["key"], value)
-        for value in (0, 5):
+        for value in (0, 6):
             self.check(self.beside(1) | {"version": value}, "top", False, "version", value)
 
     def test_each_topology_has_the_keys_of_its_table_alone(self) -> None:
-        for version in range(1, 5):
+        for version in range(1, 6):
             tops = [table for at, table in self.tables() if at == version and table["table"] == "top"]
             keys = {rule["key"]: rule for table in tops for rule in table["keys"]}
             for table in tops:
@@ -178,7 +178,7 @@ class Rules(ProgramCase):
                     self.check(top | {rule["key"]: [{}] * rule["longest"]}, "top", True, version, rule["key"])
 
     def test_a_key_that_is_left_out_is_as_it_is_by_default(self) -> None:
-        for version in (3, 4):
+        for version in (3, 4, 5):
             top: Table = {
                 "version": version, "until": 900, "c1": 2000, "c2": 2000, "d1": 1000, "d2": 1000, "nodes": 3,
                 "link": [{"a": 0, "b": 1, "delay": 10}, {"a": 1, "b": 2, "delay": 10}],
@@ -188,7 +188,7 @@ class Rules(ProgramCase):
                 "drop": [{"link": 1, "sender": 0, "count": 2}],
                 "outage": [{"link": 0, "from": 60, "to": 90}],
             }
-            if version == 4:
+            if version >= 4:
                 top["loss"] = [{"link": 1, "rate": 200_000}]
             wanted = self.program.written(text=text_of(top))
             seen = 0

@@ -3,9 +3,9 @@
 
 usage: tests/program/same_bytes.py [--runs N]
 
-The scenario is a tree of 256 nodes with a member on each, of which member 0 draws, and some of whose packets are dropped;
-each run has 64 workers, which in turn share a bag of jobs of 4 members each and are a team with such jobs. Prints how many
-runs there were, and ends with status 1 at the first that differs.
+The scenarios are a tree of 256 nodes with a member on each, of which member 0 draws, and some of whose packets are dropped, and
+the same with local recovery; each run has 64 workers, which in turn share a bag of jobs of 4 members each and are a team with
+such jobs. Prints how many runs there were, and ends with status 1 at the first that differs.
 """
 import argparse
 import itertools
@@ -19,11 +19,13 @@ NODES = 256
 DRAWS = 3
 WORDS = ["--engine", "window", "--workers", "64", "--cut", "4", "--crew"]
 CREWS = ("bag", "team")
+# without and with local recovery
+TOPS = (["version = 1"], ["version = 5", "scope = 3", "widen = 2", "tries = 4"])
 
 
-def scenario() -> bytes:
-    """The text of the scenario. Timers have a random part."""
-    lines = ["version = 1", "until = 4000", "c1 = 2000", "c2 = 2000", "d1 = 1000", "d2 = 1000"]
+def scenario(top: list[str]) -> bytes:
+    """The text of a scenario with these keys. Timers have a random part."""
+    lines = [*top, "until = 4000", "c1 = 2000", "c2 = 2000", "d1 = 1000", "d2 = 1000"]
     lines += ['topology = "tree"', f"size = {NODES}", "delay = 20", "degree = 4"]
     for node in range(NODES):
         role = "receiver" if node else "sender"
@@ -38,13 +40,14 @@ def main() -> None:
     parser = argparse.ArgumentParser(description=__doc__, formatter_class=argparse.RawDescriptionHelpFormatter)
     parser.add_argument("--runs", type=int, default=100)
     options = parser.parse_args()
-    program, text = Program(BUILT), scenario()
-    must = program.written([], text, timeout=LONGEST)
-    crews = itertools.islice(itertools.cycle(CREWS), options.runs)
-    for run, written in enumerate(side_by_side(lambda crew: program.written([*WORDS, crew], text, LONGEST), crews)):
-        if written != must:
+    program, texts = Program(BUILT), [*map(scenario, TOPS)]
+    must = {text: program.written([], text, timeout=LONGEST) for text in texts}
+    ways = [*itertools.islice(itertools.cycle(itertools.product(texts, CREWS)), options.runs)]
+    ends = side_by_side(lambda way: program.written([*WORDS, way[1]], way[0], LONGEST), ways)
+    for run, ((text, _), written) in enumerate(zip(ways, ends)):
+        if written != must[text]:
             sys.exit(f"run {run}: not the bytes of the sequential engine")
-    rows = must.count(b"\n") - 1
+    rows = " and ".join(str(it.count(b"\n") - 1) for it in must.values())
     print(f"{options.runs} runs with 64 workers: the same {rows} rows")
 
 
