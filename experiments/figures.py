@@ -20,6 +20,7 @@ matplotlib.rcParams["font.size"] = 10
 matplotlib.rcParams["axes.titley"] = 1.0  # so that no drawing looks for where a title has to be
 
 import adaptive_figures as rounds  # noqa: E402
+import local_figures  # noqa: E402
 import matplotlib.pyplot as plot  # noqa: E402
 from matplotlib.axes import Axes  # noqa: E402
 from matplotlib.backends.backend_svg import RendererSVG  # noqa: E402
@@ -40,8 +41,9 @@ STEP = 0.025  # from the bar of one line to the next line's, as a part of the ax
 STYLES = ("--", ":", "-.")
 MARKS = "osv^D<>"
 ROUND = [factor * 10**power for power in range(-2, 4) for factor in (1, 1.5, 2, 3, 5, 7)]
+SESSION = "session size (members)"
 LABELS = {
-    "size": "nodes", "members": "session size (members)", "c1": "C1", "c2": "C2", "d1": "D1", "d2": "D2",
+    "size": "nodes", "members": SESSION, "c1": "C1", "c2": "C2", "d1": "D1", "d2": "D2",
     "drop_link": "link that loses", "delay": "delay of a link (ticks)", "back": "delay back of a link (ticks)",
     "degree": "degree of inner nodes", "loss": "probability of a loss on a link", "losers": "losers of a loss",
     "requests": "requests for a loss", "repairs": "repairs for a loss", "left": "members that left with a loss",
@@ -420,9 +422,38 @@ def both_timers(axes: Axes, table: pandas.DataFrame, measure: str) -> float:
                for adaptive, look, shift in looks)
 
 
+def local(tables: list[pandas.DataFrame], words: dict[str, str]) -> Figure:
+    """Who hears what a loss takes, and the longest delay, over the session's size or what `over` names; a column for each table.
+
+    A line for each of to all, in one step, and in two: medians of all runs, with quartiles.
+    """
+    measures, looks = local_figures.MEASURES, ((BLUE, "o", 4), (ORANGE, "s", 7), (GREEN, "^", 4))
+    figure, grid = plot.subplots(len(measures), len(tables), figsize=(1.2 + 5.2 * len(tables), 11.6), squeeze=False, sharey="row")
+    for axes, table in zip(grid.T, tables):
+        over = local_figures.over_of(table, words)
+        for part, column in zip(axes, measures):
+            for mode, look in zip(local_figures.MODES, looks):
+                local_figures.medians(part, local_figures.of_mode(table, mode), over, column, look, mode)
+            part.set_xscale("log")
+            name_ticks(part.xaxis, sorted(table[over].unique()))
+            part.tick_params(labelleft=True)
+        axes[0].set_title(local_figures.told(table))
+        axes[-1].set_xlabel(SESSION if over == "size" else label_of(over))
+    for row, label in zip(grid, measures.values()):
+        row[0].set_ylabel(label)
+    for row in grid[:-1]:
+        row[0].set_yscale("log")
+        name_ticks(row[0].yaxis, [factor * 10**power for power in range(-1, 5) for factor in (1, 2, 5)])
+    grid[-1][0].set_ylim(bottom=0)
+    finish(figure, list(grid.flat), tables, -0.25)
+    for axes in grid[:-1].flat:
+        axes.get_legend().remove()
+    return figure
+
+
 DRAWS = {draw.__name__: draw for draw in (
     over_session_size, lines, requests_in_a_star, chain_of_sure_timers, requests_against_delay, over_rounds,
-    adapted_over_size, over_spacing)}
+    adapted_over_size, over_spacing, local)}
 
 
 def draw(asked: dict[str, Any], svg: str, png: str, *paths: str) -> None:

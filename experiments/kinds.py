@@ -6,5 +6,5 @@ NEEDS = {
     "chain_of_sure_timers": Needs(1, ("drop_link", "delay", "c1", "d1")),
     "requests_against_delay": Needs(2, ("size", "drop_link", "c1", "c2")),
     "over_rounds": Needs(2, ("adaptive", "rounds")), "adapted_over_size": Needs(2, ("adaptive", "rounds", "members")),
-    "over_spacing": Needs(2, ("size", "adaptive", "rounds", "every")),
+    "over_spacing": Needs(2, ("size", "adaptive", "rounds", "every")), "local": Needs(2, ("size", "scope", "steps")),
 }

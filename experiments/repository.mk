@@ -103,4 +103,4 @@ deb: packed-tree ## makes a Debian package of the program and the Python package
 SHOWN = $(shell grep -o 'figures/[a-z0-9_]*\.svg' docs/EXPERIMENTS.md)
 experiments-figures: ## puts the figures of the last `make experiments`, with each CONFIG, where docs/EXPERIMENTS.md shows them
 	install -D -m 644 -t docs/figures \
-		$(foreach results,results results-sparse results-adaptive results-adaptive-ns2,$(wildcard $(SHOWN:%=experiments/$(results)/%)))
+		$(foreach results,results results-sparse results-adaptive results-adaptive-ns2 results-local,$(wildcard $(SHOWN:%=experiments/$(results)/%)))

@@ -24,6 +24,8 @@ MOMENTS = {
     "page-star": ("star-loss-at-one-member", "tick=127&select=loss:0/0/0"),
     "page-tree": ("tree-of-1024-nodes", "tick=112&select=loss:0/0/0"),
     "page-outage": ("outage-in-mid-session", "tick=28&table=links"),
+    "page-scopes": ("local-recovery", "tick=19.5&select=loss:0/0/0"),
+    "page-scopes-sequence": ("local-recovery", "tick=19.5&view=sequence&select=loss:0/0/0"),
     "page-outage-sequence": ("outage-in-mid-session", "tick=85&view=sequence&select=member:2&theme=dark"),
 }
 

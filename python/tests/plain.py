@@ -6,6 +6,7 @@ usage: python/tests/plain.py
 Of each trace of examples/ and tests/scenarios/ tables are computed and compared with those that stand beside it, and each
 scenario is read. Prints a line for each difference, and ends with status 1 where there is one.
 """
+import re
 import sys
 from pathlib import Path
 
@@ -22,8 +23,9 @@ def differences(scenario):
 
     given = load_scenario(scenario)
     for trace in scenario.parent.glob(f"{scenario.stem}.*trace.csv"):
+        seed = re.search(r"\.seed-(\d+)\.trace\.csv$", trace.name)
         with open(trace, encoding="ascii") as lines:
-            made = second(given, read_trace(lines))
+            made = second(given, read_trace(lines), int(seed[1]) if seed else 0)
         for name in TABLES:
             wanted = trace.with_name(trace.name.replace("trace.csv", f"{name}.csv"))
             if wanted.exists() and made[name] != wanted.read_text():

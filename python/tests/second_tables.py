@@ -116,12 +116,36 @@ class OperationsTable:
         return max(done, key=lambda loss: (loss.recovered, -loss.member), default=None)
 
 
-TABLES: dict = {"losses": LossesTable, "operations": OperationsTable, "members": MembersTable, "links": LinksTable}
+class ScopesTable:
+    """A row for each request and repair that was sent: how far it went, what it answers, and how many heard it."""
+
+    header = "time,member,cause,ref,sent,scope,requester,width,heard"
+
+    def __init__(self, given, seed=0):
+        self._sent = []
+        self._heard: Counter = Counter()
+
+    def take(self, step, clocks):
+        row = step.row
+        if step.sent is not None and row.cause in ("ask", "answer"):
+            self._sent.append((row, step.sent))
+        if step.heard is not None:
+            self._heard[step.heard.sender, step.heard.count] += 1
+
+    def rows(self):
+        for row, packet in self._sent:
+            told = (None, None) if packet.scope is None or packet.asked is None else packet.asked
+            yield (row.time, row.member, row.cause, row.ref, row.sent, packet.scope, *told,
+                   self._heard[packet.sender, packet.count])
+
+
+TABLES: dict = {"losses": LossesTable, "operations": OperationsTable, "members": MembersTable, "links": LinksTable,
+                "scopes": ScopesTable}
 
 
 def second(given, rows, seed=0, tables=tuple(TABLES)):
     """The texts of the tables of these names, after every row of the trace of a seed."""
-    made, clocks = {name: TABLES[name](given, seed) for name in tables}, Clocks()
+    made, clocks = {name: TABLES[name](given, seed) for name in tables}, Clocks(given)
     for step in Follower(given).follow(rows):
         clocks.take(step)
         for table in made.values():

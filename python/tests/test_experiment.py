@@ -74,7 +74,7 @@ def test_keys_that_repeat_and_flags():
     ({"experiment": {}}, "there is no 'experiment'"),
     ({"experiments": {"one": {"kind": "chain", "size": 3, "sizes": 4, "seeds": 1}}}, "no key 'sizes'"),
     ({"experiments": {"one": {"kind": "ring", "size": 3, "seeds": 1}}}, "there is no kind 'ring'"),
-    ({"experiments": {"one": {"kind": "chain", "size": 3, "leave": "9:1-2", "seeds": 1}}}, "only: members is 9"),
+    ({"experiments": {"one": {"kind": "chain", "size": 3, "leave": "9:1-2", "seeds": 1}}}, "only: leave: members is 9"),
     ({"experiments": {"one": {"kind": "chain", "size": 3, "outage": "2:1-2", "seeds": 1}}}, "there is no link 2"),
     ({"experiments": {"one": {"kind": "chain", "size": [3, 70000], "seeds": 1}}}, "size-70000: size is 70000"),
     ({"figures": {"f": {"draw": "line", "of": ["one"]}}}, "figure f, draw: there is no 'line'"),
@@ -131,11 +131,12 @@ def test_figure_of_a_metric_is_accepted(tmp_path):
                                                                      "y": y}}}, DRAWS)
 
 
-def test_each_configuration_of_the_repository_is_accepted():
+def test_each_configuration_of_the_repository_is_accepted(monkeypatch):
     import figures
     import kinds
     import yaml
-    for name in ("config.yaml", "small.yaml", "adaptive.yaml", "adaptive-ns2.yaml", "sparse.yaml"):
+    monkeypatch.chdir(ROOT / "experiments")  # where files are that they name
+    for name in ("config.yaml", "small.yaml", "adaptive.yaml", "adaptive-ns2.yaml", "sparse.yaml", "local.yaml"):
         check_config(yaml.safe_load((ROOT / "experiments" / name).read_text()), kinds.NEEDS)
     assert set(kinds.NEEDS) == set(figures.DRAWS)
 

@@ -9,18 +9,21 @@ from matplotlib.transforms import Bbox
 
 import adaptive_figures
 import figures
+import local_figures
 import rounds_table
 
 HEADER = ("kind,adaptive,size,members,drop_link,delay,c1,d1,c2,seed,operation,losers,left,open,requests,repairs,"
-          "least_delay,greatest_delay,last_delay,last_round_trip,every\n")
+          "least_delay,greatest_delay,last_delay,last_round_trip,every,scope,steps,requests_heard,repairs_heard,hearing,"
+          "longest_delay\n")
 ROWS = "".join(
     f"chain,{hops == 1},{size},{size},hops:{hops},1000,2,1,{c2},{seed},0/0/90,3,0,0,{seed},1,{1000 * (hops + 3)},"
-    f"{1000 * (hops + 3)},6000,4000,{500 * c2}\n"
+    f"{1000 * (hops + 3)},6000,4000,{500 * c2},{'least' if seed > 1 else 0},{1 if seed == 2 else 2},{size / seed},{size},"
+    f"{seed},{hops}\n"
     for size in (10, 20) for hops in (1, 2) for c2 in (1, 2) for seed in (1, 2, 3))
 WORDS: dict[str, dict[str, str]] = {
     "over_session_size": {"over": "size"}, "requests_in_a_star": {}, "chain_of_sure_timers": {},
     "requests_against_delay": {}, "lines": {"x": "c2", "y": "ratio", "by": "drop_link"},
-    "over_rounds": {}, "adapted_over_size": {"over": "members"}, "over_spacing": {},
+    "over_rounds": {}, "adapted_over_size": {"over": "members"}, "over_spacing": {}, "local": {},
 }
 LABELS = {
     "over_session_size": ["requests for a loss", "repairs for a loss", "(round trips to the source)", "nodes",
@@ -40,10 +43,12 @@ LABELS = {
                           "srm_lab, adaptive timers, 3 seeds: mean, 95% interval over seeds", "(a)", "(c)"],
     "over_spacing": ["requests for a loss", "repairs for a loss", "ticks from a loss to the next", "1,000", "2,000",
                      "adaptive timers: mean, 95% interval over seeds", "(a) chain of 10 nodes", "(f)"],
+    "local": ["members that hear a request,", "longest delay of a loser", "session size (members)", "(a) 10 nodes", "(h)",
+              "one step: median of the runs", "two steps: quartiles of the runs"],
     "lines": ["C2", "(round trips to the source)", "link that loses hops:2: mean, 95% interval over seeds"],
 }
 TABLES = {"over_session_size": 1, "requests_in_a_star": 2, "chain_of_sure_timers": 1, "requests_against_delay": 2,
-          "lines": 1, "over_rounds": 1, "adapted_over_size": 1, "over_spacing": 2}
+          "lines": 1, "over_rounds": 1, "adapted_over_size": 1, "over_spacing": 2, "local": 2}
 
 
 def test_mean_over_seeds_its_interval_and_quartiles_of_all_losses():
@@ -134,6 +139,23 @@ def test_no_legend_stands_over_data(tmp_path, monkeypatch):
         for axes in figure.axes:
             legend = axes.get_legend()
             assert legend is None or not legend.get_window_extent().overlaps(axes.get_window_extent()), draw
+
+
+def test_local_recovery_has_a_line_for_each_of_its_three_modes(tmp_path):
+    # without a scope steps decide nothing, so that its runs in one step are those in two
+    rows = [("0", 1, 9), ("0", 2, 9), ("0", 2, 11), ("least", 1, 3), ("least", 2, 1), ("least", 2, 2), ("least", 2, 6)]
+    table = pandas.DataFrame([{"size": 100, "scope": scope, "steps": steps, **dict.fromkeys(local_figures.MEASURES, heard)}
+                              for scope, steps, heard in rows])
+    found = {mode: local_figures.of_mode(table, mode)["hearing"].tolist() for mode in local_figures.MODES}
+    assert found == {"to all": [9, 11], "one step": [3], "two steps": [1, 2, 6]}
+    axes = figures.local([table], {}).axes
+    medians = [[line.get_ydata()[0] for line in part.lines] for part in axes]
+    assert medians == [[10, 3, 2]] * 4 and axes[-1].get_xlabel() == "session size (members)"
+    assert local_figures.told(table) == "each node a member"
+    lossy = table.assign(members=30, loss=0.1, burst=1000)
+    assert local_figures.told(lossy) == "30 members on 100 nodes, packets lost in bursts of 1,000 ticks"
+    assert figures.local([lossy], {"over": "loss"}).axes[-1].get_xlabel() == "probability of a loss on a link"
+    figures.plot.close("all")
 
 
 def test_round_of_a_loss_and_means_of_blocks_of_rounds():

@@ -43,6 +43,8 @@ def test_networks_that_were_asked_for_are_kept_and_others_are_made():
     for wrong, told in ((9.0, "size is 9.0"), ([9], "size is .9")):
         with pytest.raises(ScenarioError, match=told):
             scenario.star(wrong)
+    assert scenario.random_tree(9, members=3, seed=2).tree is scenario.random_tree(9, members=8, seed=2).tree
+    assert scenario.star(9).tree is scenario.star(9, members=4, seed=1).tree is not scenario.star(9, delay=7).tree
     first = scenario.chain(1000)
     for delay in range(1, 101):
         scenario.chain(1000, delay=delay)

@@ -83,10 +83,10 @@ def test_what_the_packed_folder_says_is_there(pack):
 @pytest.mark.parametrize("arguments", ["", "--explain"])
 def test_packed_run_explains_a_refusal(pack, arguments, tmp_path):
     folder = Path(str(pack("dist")).removesuffix(".tar.gz"))
-    (tmp_path / "bad.toml").write_text("version = 5\n")
+    (tmp_path / "bad.toml").write_text("version = 6\n")
     done = subprocess.run(["make", "-s", "-C", folder, "run", f"SCENARIO={tmp_path}/bad.toml", f"ARGUMENTS={arguments}"],
                           capture_output=True, text=True, check=False)
-    assert "version is a whole number from 1 to 4" in done.stderr
+    assert "version is a whole number from 1 to 5" in done.stderr
 
 
 def test_notices_name_each_library_of_the_program():

@@ -284,6 +284,98 @@ def test_the_story_of_a_loss(browser, make_page):
     assert "All of them had it by tick 19, 0.625 to 1.25 round trips to the source after finding out." in story
 
 
+def chosen_rule(browser, row):
+    """What the page says of the row of a trace that begins so."""
+    browser.execute_script("""
+        const { trace } = srmPage.model;
+        const row = Array.from(trace.time, (_, at) => trace.fields(at).join(",")).findIndex((it) => it.startsWith(arguments[0]));
+        srmPage.pick({ kind: "row", row });""", row)
+    return browser.execute_script("return document.querySelector('#why .rule').textContent")
+
+
+def local_session(given):
+    """A session without chance in its timers, the first of whose two operations is lost."""
+    return given.constants(c1=1, c2=0, d1=1, d2=0).drawing(0).draw(0).draw(10).ends(1000)
+
+
+def test_a_recovery_in_two_steps(browser, make_page, srm_lab, tmp_path):
+    """The link above member 1 loses, and 4 and 5 are below it: its request and both repairs go one link far."""
+    made = local_session(scenarios.regular_tree(8, degree=3, delay=2)).constants(c1=2).drop(0, 0)
+    path = made.local_recovery(scope={1: 1, 4: 2, 5: 2}).write(tmp_path / "subtree.toml")
+    show(browser, make_page(path), "select=loss:0/0/0")
+    for table in ("trace", "members", "losses", "links"):
+        assert browser.execute_script(f"return srmPage.model.csv('{table}')") == srm_lab(path.read_text(), "--show", table)
+    story = browser.execute_script("return document.querySelector('#why .rule').textContent")
+    for told in ("Member 1 asked first, at tick 16, 1 link far, which suppressed the request of members 4 and 5.",
+                 "Member 0 answered first, at tick 20, 1 link far.",
+                 "In a second step member 1 sent it on, at tick 23, 1 link far.",
+                 "3 of 8 members heard a request, and 6 a repair."):
+        assert told in story
+    tables = browser.execute_script("return Array.from(document.querySelectorAll('#why table'), (it) => it.innerText)")
+    assert "second step" in tables[2] and "first step\t1\t3 members" in tables[3] and "second step\t1\t3 members" in tables[3]
+    assert "as far as the request of member 1, which went 1 link far; that one sends it on" in chosen_rule(browser, "20,0,answer")
+    assert "a tick later it sends it on, as far as the request went" in chosen_rule(browser, "22,1,repair")
+    assert "it sends on 0/0/0, which it asked for, 1 link far" in chosen_rule(browser, "23,1,answer")
+    assert errors(browser) == []
+
+
+def test_a_packet_stops_where_its_scope_ends(browser, make_page, srm_lab, tmp_path):
+    """It is lost nowhere there: no link counts it, and a bar stands where it stops, and no cross."""
+    made = local_session(scenarios.regular_tree(8, degree=3, delay=2)).constants(c1=2).drop(0, 0).outage(1, 15, 99)
+    path = made.local_recovery(scope={1: 1, 4: 2, 5: 2}).write(tmp_path / "subtree.toml")
+    show(browser, make_page(path), "tick=18.5")
+    ended = browser.execute_script("""
+        const { network, trace } = srmPage.model;
+        const request = trace.packets.find((packet) => packet.kind === 1);
+        const { dropped, ended, crossed } = network.fateOf(request);
+        const links = (places) => places.map((at) => network.routeOf(1).link[at]);
+        const places = Array.from(crossed, (_, at) => at);
+        return [links(dropped), links(ended), links(places.filter((at) => crossed[at])).sort()];""")
+    assert ended == [[], [1, 2], [0, 3, 4]]
+    words = "return srmPage.views.network.labels.items.map(({ text }) => text)"
+    assert "scope ends" in browser.execute_script(words) and "dropped" not in browser.execute_script(words)
+    legend = browser.execute_script("return document.getElementById('legend').textContent")
+    browser.execute_script("srmPage.showView('sequence'); document.getElementById('about').click()")
+    assert "repairs answer them in two steps" in browser.execute_script("return document.querySelector('dialog').textContent")
+    ends = browser.execute_script(
+        "return srmPage.views.sequence.hits.filter((hit) => hit.isEnd).map(({ packet }) => packet.kind)")
+    assert "scope ends" in legend and ends.count(1) == 2 and ends.count(2) >= 4
+    show(browser, make_page(EXAMPLES / "two-nodes.toml"))
+    assert "scope ends" not in browser.execute_script("return document.getElementById('legend').textContent")
+    assert errors(browser) == []
+
+
+def test_why_a_holder_answers_or_does_not(browser, make_page, tmp_path):
+    """Members 2, 3 and 4 of a chain lose; 3 answers 4 although it rests. And one that is busy hears a wider request."""
+    chain = local_session(scenarios.chain(5, delay=1)).drop(1, 0).local_recovery(scope=1)
+    show(browser, make_page(chain.write(tmp_path / "chain.toml")))
+    told = chosen_rule(browser, "19,3,request,4:0,plan")
+    assert "does not count, since the repair that it comes from may not reach all who heard this request" in told
+    assert "which goes 1 link far" in told
+    assert "it asks those within 1 link" in chosen_rule(browser, "14,2,ask")
+    nodes = scenarios.chain(3, members=1, source=1, delay=1).member(2).member(0)
+    busy = local_session(nodes).drop(0, 0).drop(1, 0).local_recovery(scope=1).local_recovery(scope={2: 0})
+    show(browser, make_page(busy.write(tmp_path / "busy.toml")), "select=loss:0/0/0")
+    assert "1, then 2" in browser.execute_script("return document.getElementById('why').innerText")
+    told = chosen_rule(browser, "13,0,request,2:0,busy")
+    assert "This request goes further, to all: the timer now answers it, and is due as before." in told
+    assert "set at 13 for member 1" in told and "goes unanswered." in chosen_rule(browser, "15,0,request,2:1,rest")
+    assert errors(browser) == []
+
+
+def test_losses_in_bursts_are_those_of_the_seed(browser, make_page, srm_lab, tmp_path):
+    made = scenarios.chain(4, delay=10).drawing(30, every=50).lose(rate=0.2, burst=70, stream=3)
+    made = made.lose(rate=0.4, link=1, burst=1, first=9)
+    path = made.write(tmp_path / "bursts.toml")
+    show(browser, make_page(path, "--seed", "5"))
+    must = srm_lab(path.read_text(), "--show", "links", "--seed", "5")
+    assert browser.execute_script("return srmPage.model.csv('links')") == must
+    browser.execute_script("srmPage.pick({ kind: 'link', link: 1 })")
+    told = "loses at random20 % in bursts of 70 ticks, 40 % in bursts of 1 tick, from 9"
+    assert told in browser.execute_script("return document.body.textContent")
+    assert errors(browser) == []
+
+
 def span_of(losses, name, member, last):
     """The tick at which the loss of an operation, by all or by one member, is found, and the one at which it ends."""
     some = [it for it in csv.DictReader(io.StringIO(losses))

@@ -125,7 +125,7 @@ def test_schema_completes_each_key(rules, schema):
     newest = rules["versions"][-1]["tables"]
     for table in newest:
         part = table["table"]
-        shown = schema if part == "top" else schema["definitions"][f"version 4 {part}"]
+        shown = schema if part == "top" else schema["definitions"][f"version 5 {part}"]
         assert {rule["key"] for rule in table["keys"]} <= shown["properties"].keys()
         if part != "top":
-            assert schema["properties"][part]["items"] == {"$ref": f"#/definitions/version 4 {part}"}
+            assert schema["properties"][part]["items"] == {"$ref": f"#/definitions/version 5 {part}"}

@@ -18,7 +18,7 @@ import pytest
 from second_tables import second
 from srm_lab import RefusedError, ScenarioError, __version__, read_scenario, run, save, scenario
 from srm_lab.follower import Follower
-from srm_lab.frames import COLUMNS, Text, columns_of, joined
+from srm_lab.frames import COLUMNS, Table, columns_of, joined, packed, rows_of, unpacked
 from srm_lab.limits import MOST_SEED, MOST_TIME
 from srm_lab.tables import read_trace
 from srm_lab.traces import table_text
@@ -73,24 +73,30 @@ OPERATIONS = b"""seed,source,page,number,losers,recovered,left,detected,asked,re
 """
 
 
-def frame_of(name, texts):
-    """A table of these texts."""
-    return joined([columns_of(name, texts)])
+def frame_of(name, *given):
+    """A table of these numbers, scenarios and texts, which the cache gives back as it was."""
+    made = [Table(number, one, rows_of(name, text)) for number, one, text in given]
+    kept = [replace(one, rows=unpacked(name, packed(one.rows))) for one in made]
+    frame, again = (joined(name, [columns_of(name, tables)]) for tables in (made, kept))
+    pandas.testing.assert_frame_equal(frame, again)
+    return frame
 
 
 def test_operations_are_read():
-    frame = frame_of("operations", [Text(7, scenario.chain(5), OPERATIONS), Text(9, scenario.chain(5), OPERATIONS)])
+    frame = frame_of("operations", (7, scenario.chain(5), OPERATIONS), (9, scenario.chain(5), OPERATIONS))
     assert list(frame.columns) == ["scenario", "seed", *COLUMNS["operations"]]
     assert frame["scenario"].tolist() == [7] * 4 + [9] * 4
     assert frame["delay"].tolist() == [5, pandas.NA, pandas.NA, 0] * 2 and frame["round_trip"].tolist()[3] == 4
     assert frame["asked"].tolist()[2:4] == [12, pandas.NA] and set(map(str, frame.dtypes[2:])) == {"Int64"}
-    empty = frame_of("operations", [Text(0, scenario.chain(5), OPERATIONS.splitlines(True)[0])])
+    empty = frame_of("operations", (0, scenario.chain(5), OPERATIONS.splitlines(True)[0]))
     assert len(empty) == 0 and list(empty.columns) == list(frame.columns)
 
 
 def test_the_greatest_numbers_are_read_to_the_last_digit():
     text = b"seed\n%d,1,0,0,%d,%d,-,-\n" % (MOST_SEED, 2**32 - 1, MOST_TIME - 1)
-    one, = frame_of("losses", [Text(0, scenario.chain(2), text)]).to_dict("records")
+    small = b"seed\n7,1,0,0,3,4,5,1/2000\n"  # which the cache has in fewer bytes
+    other, one = frame_of("losses", (0, scenario.chain(2), small), (1, scenario.chain(2), text)).to_dict("records")
+    assert [*other.values()] == [0, 7, 1, 0, 0, 3, 4, 5, 1, 2000, "recovered", 1]
     assert (one["seed"], one["number"], one["detected"]) == (MOST_SEED, 2**32 - 1, MOST_TIME - 1)
     assert one["recovered"] is one["delay"] is pandas.NA and one["round_trip"] == 2 * 1000 and one["node"] == 1
 
@@ -101,7 +107,7 @@ def test_a_broken_table_is_never_read_in_part(row):
     header, *rows = OPERATIONS.splitlines()
     for broken in ([row, *rows], [*rows, row]):
         with pytest.raises(ValueError):
-            frame_of("operations", [Text(0, scenario.chain(5), b"\n".join([header, *broken, b""]))])
+            frame_of("operations", (0, scenario.chain(5), b"\n".join([header, *broken, b""])))
 
 
 def test_losses_have_numbers_and_ends(program):

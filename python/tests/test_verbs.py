@@ -27,6 +27,10 @@ SETS: dict[str, Callable[[], tuple[Scenario, dict]]] = {
     **top(c1=1500, c2=700, d1=300, d2=1, c1_least=10, c2_least=20, d1_least=30, d2_least=40, c1_most=9000, c2_most=9100,
           d1_most=9200, d2_most=9300),
     "backoff": lambda: (CHAIN.constants(backoff=3), {"backoff": 3}),
+    "scope": lambda: (CHAIN.local_recovery(scope=2), {"version": 5, "scope": 2}),
+    "widen": lambda: (CHAIN.local_recovery(scope=2, widen=3), {"widen": 3}),
+    "tries": lambda: (CHAIN.local_recovery(scope=2, tries=4), {"tries": 4}),
+    "steps": lambda: (CHAIN.local_recovery(scope=2, steps=1), {"steps": 1}),
     "nodes": lambda: (scenario.random_tree(5), {"nodes": 5}),
     "topology": lambda: (CHAIN, {"topology": "chain"}),
     "size": lambda: (scenario.star(6), {"topology": "star", "size": 6}),
@@ -54,6 +58,7 @@ SETS: dict[str, Callable[[], tuple[Scenario, dict]]] = {
     "member.join": lambda: (CHAIN.join([3], at=20), {"join": 20}),
     "member.leave": lambda: (CHAIN.leave([3], at=20), {"leave": 20}),
     "member.pages": lambda: (CHAIN.role([3], "late", pages=[5, 6]), {"pages": [5, 6]}),
+    "member.scope": lambda: (CHAIN.local_recovery(scope={3: 2}), {"scope": 2}),
     "draw.member": lambda: (CHAIN.role([3], "sender").draw(3000, member=3), {"member": 3}),
     "draw.page": lambda: (CHAIN.draw(3000, page=8), {"page": 8}),
     "draw.ink": lambda: (CHAIN.draw(3000, ink=77), {"ink": 77}),
@@ -71,6 +76,7 @@ SETS: dict[str, Callable[[], tuple[Scenario, dict]]] = {
     "loss.stream": lambda: (CHAIN.lose(rate=0.01, link=2, stream=5), {"stream": 5}),
     "loss.from": lambda: (CHAIN.lose(rate=0.01, link=2, first=20), {"from": 20}),
     "loss.to": lambda: (CHAIN.lose(rate=0.01, link=2, last=29), {"to": 30}),
+    "loss.burst": lambda: (CHAIN.lose(rate=0.01, link=2, burst=50), {"burst": 50}),
 }
 
 

@@ -7,6 +7,7 @@ if TYPE_CHECKING:
     from .errors import RefusedError, ScenarioError
     from .frames import save
     from .graphs import Delays
+    from .hearing import heard
     from .history import History
     from .interval_plot import plot
     from .reading import load_scenario, read_scenario
@@ -19,11 +20,11 @@ if TYPE_CHECKING:
 __version__ = "0.2.0"
 COMMIT = "$Format:%h$"  # `git archive`, by which all is packed, puts the commit's number here
 __version__ += "" if COMMIT.startswith("$") else f"+{COMMIT}"
-__all__ = ["Delays", "History", "RefusedError", "Runs", "Scenario", "ScenarioError", "Tree", "__version__", "difference",
+__all__ = ["Delays", "History", "RefusedError", "Runs", "Scenario", "ScenarioError", "Tree", "__version__", "difference", "heard",
            "interval", "load_scenario", "paired", "plot", "read_scenario", "run", "save", "scenario", "summarise", "sweep"]
-OF = {"RefusedError": "errors", "ScenarioError": "errors", "save": "frames", "Delays": "graphs", "History": "history",
-      "load_scenario": "reading", "plot": "interval_plot", "read_scenario": "reading", "Runs": "runs", "run": "runs",
-      "Scenario": "scenario", "sweep": "sweeps", "Tree": "tree",
+OF = {"RefusedError": "errors", "ScenarioError": "errors", "save": "frames", "Delays": "graphs", "heard": "hearing",
+      "History": "history", "load_scenario": "reading", "plot": "interval_plot", "read_scenario": "reading", "Runs": "runs",
+      "run": "runs", "Scenario": "scenario", "sweep": "sweeps", "Tree": "tree",
       **dict.fromkeys(("difference", "interval", "paired", "summarise"), "statistics")}  # the module of each name
 
 

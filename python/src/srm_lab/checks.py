@@ -6,7 +6,8 @@ from typing import TYPE_CHECKING, Any
 from . import writing
 from .form import PARTS, are_faultless, check_keys, elements
 from .kept import kept_of
-from .limits import VERSIONS, Limits
+from .limits import VERSIONS, are_within
+from .parts import CONSTANTS, are_in_bursts, have_scopes
 from .repetition import DEFAULTS
 from .rules import check_rules
 from .writing import FIELDS
@@ -15,34 +16,44 @@ if TYPE_CHECKING:
     from .scenario import Scenario
 
 ELEMENTS = {*FIELDS.values()}
+TIMINGS = {*CONSTANTS, "timings"}
 # the attribute of an element that has a key
 ATTRIBUTES = {"from": "first", "to": "end"}
 
 
 def check(given: "Scenario", changed: Collection[str] | None = None) -> None:
     """Refuses a scenario with the first of its faults; of some changed fields only what concerns them."""
-    limits = VERSIONS.get(given.least_version if given.version is None else given.version)
+    version = given.least_version if given.version is None else given.version
     parts = [part for part in PARTS if changed is None or FIELDS.get(part, "tree") in changed]
-    doubtful = [part for part in parts if limits is None or not is_faultless(given, part, limits)]
-    if doubtful or changed is None or not ELEMENTS.issuperset(changed):
+    doubtful = [part for part in parts if version not in VERSIONS or not is_faultless(given, part, version)]
+    if doubtful or changed is None or not (ELEMENTS.issuperset(changed) or _are_constants(given, changed, version)):
         check_keys(writing.keys_of(given, doubtful))
     check_rules(given, changed)
 
 
-def is_faultless(given: "Scenario", part: str, limits: Limits) -> bool:
+def _are_constants(given: "Scenario", changed: Collection[str], version: int) -> bool:
+    """Whether only constants changed that members do not adapt, and it is seen at once that a version has room for them."""
+    return TIMINGS.issuperset(changed) and version in VERSIONS and not given.is_adaptive and are_within(
+        [getattr(given, name) for name in CONSTANTS], 0, VERSIONS[version].constant)
+
+
+def is_faultless(given: "Scenario", part: str, version: int) -> bool:
     """Whether it is seen at once that a version has room for all elements of a part, and that they have no fault."""
+    limits = VERSIONS[version]
     if part == "link":  # no tree has links out of range
         return limits.two_way or given.tree.is_even
     several = getattr(given, FIELDS[part])
     if part == "outage" and not limits.outages or part == "loss" and not limits.losses:
         return not several
+    if not limits.local and (part == "member" and have_scopes(several) or part == "loss" and are_in_bursts(several)):
+        return False
     most = limits.members if part == "member" else limits.elements
-    return len(several) <= most and _are_faultless(several, part, limits)
+    return len(several) <= most and _are_faultless(several, part, version)
 
 
 @kept_of
-def _are_faultless(several: tuple[Any, ...], part: str, limits: Limits) -> bool:
-    return are_faultless(len(several), lambda key: column_of(several, key), elements(limits)[part])
+def _are_faultless(several: tuple[Any, ...], part: str, version: int) -> bool:
+    return are_faultless(len(several), lambda key: column_of(several, key), elements(VERSIONS[version])[part])
 
 
 def column_of(several: Collection[Any], key: str) -> list[Any]:

@@ -7,6 +7,7 @@ from collections.abc import Callable, Iterator, Sequence
 from contextlib import contextmanager
 from dataclasses import replace
 from functools import cache
+from operator import attrgetter
 
 from . import __version__, graphs, losses, tree
 from .errors import ScenarioError
@@ -152,7 +153,7 @@ def build(options: argparse.Namespace) -> Scenario:
     scenario = replace(Scenario(made, members, options.until, seed=options.seed), **constants(options, len(nodes)))
     lossy = in_rounds if options.rounds is not None else with_drops
     with as_options():
-        found = disturbed(lossy(scenario, options, rng), options).check()
+        found = disturbed(local(lossy(scenario, options, rng), options), options).check()
         if found.drops and not options.any_packet:
             losses.check_that_data_is_lost(found.settled, [drop.count for drop in found.drops])
     return found
@@ -207,6 +208,21 @@ def with_drops(scenario: Scenario, options: argparse.Namespace, rng: random.Rand
                                 for count in options.drop_packet or [0]])
 
 
+def local(scenario: Scenario, options: argparse.Namespace) -> Scenario:
+    """The scenario with local recovery as the command line has it."""
+    scope = options.scope
+    if scope == "least":
+        lossy = {*map(attrgetter("link"), (*scenario.settled.drops, *scenario.settled.outages))}
+        if len(lossy) != 1:
+            raise ScenarioError("--scope least goes by the link that loses: say --drop-link")
+        scope = scenario.least_scopes(lossy.pop())
+    elif scope is not None:
+        if not scope.isdigit():
+            raise ScenarioError(f"--scope {scope}: say how many links, or least")
+        scope = int(scope)
+    return scenario.local_recovery(scope, options.widen, options.tries, options.steps)
+
+
 def disturbed(scenario: Scenario, options: argparse.Namespace) -> Scenario:
     """The scenario with its members that join late and leave, its outages, and its losses at random."""
     for text in options.join:
@@ -215,7 +231,11 @@ def disturbed(scenario: Scenario, options: argparse.Namespace) -> Scenario:
         scenario = scenario.leave(*counted("--leave", text))
     for text in options.outage:
         scenario = scenario.outage(*outage(text))
-    return scenario if options.loss is None else scenario.lose(rate=options.loss)
+    if options.loss is None:
+        if options.burst is not None or options.spare_draws:
+            raise ScenarioError("--burst and --spare-draws need --loss")
+        return scenario
+    return scenario.lose(rate=options.loss, burst=options.burst, spares_draws=options.spare_draws)
 
 
 def common_options() -> Parser:
@@ -241,7 +261,8 @@ def common_options() -> Parser:
     add("--every", type=int, help=f"ticks from a draw to the next (default {EVERY}, in rounds as many as 64 rounds of "
         "requests and repairs take)")
     add("--start", type=int, default=0, help="tick of the first draw (default 0)")
-    add("--drop-link", metavar="LINK", help="a number, adjacent (to the source), random, or hops:H")
+    add("--drop-link", metavar="LINK", help="a number, adjacent (to the source), random, hops:H, or losers:FEW-MANY, of which "
+        "the number is drawn first (losers: 3 to a tenth of the members)")
     add("--drop-packet", type=int, action="append", metavar="COUNT", help="lose this packet; repeatable (default 0)")
     add("--drop-every", type=int, metavar="K", help="lose packets 0, K, 2 K and so on")
     add("--lose-operations", type=int, metavar="K", help="lose operations 0, K, 2 K and so on, whatever else the source "
@@ -250,6 +271,14 @@ def common_options() -> Parser:
         "round, and an outage of one tick loses the first of the two")
     add("--any-packet", action="store_true", help="the lost packets may be repairs of the source")
     add("--loss", type=float, metavar="RATE", help="each link loses each packet that comes to it with this probability")
+    add("--burst", type=int, metavar="TICKS", help="with --loss: in each slot of so many ticks a link loses all or nothing")
+    add("--spare-draws", action="store_true", help="with --loss: a link begins once the last draw has come to it, so that only "
+        "requests, repairs and session messages are lost")
+    add("--scope", metavar="HOPS", help="how many links the first request of a member goes (default 0: to all), or least: of "
+        "those behind --drop-link as far as they all are, and one that answers")
+    add("--widen", type=int, metavar="HOPS", help="how many links more for each backoff (default 0)")
+    add("--tries", type=int, metavar="N", help="a request with so many backoffs goes to all (default 1)")
+    add("--steps", type=int, choices=(1, 2), help="in how many steps a repair answers a request with a scope (default 2)")
     add("--outage", action="append", default=[], metavar="LINK:FIRST-LAST", help="a link is out; repeatable")
     add("--join", action="append", default=[], metavar="N:FIRST-LAST", help="N receivers join in these ticks; "
         "repeatable")

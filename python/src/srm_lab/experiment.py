@@ -12,7 +12,7 @@ AGENTS = ("srm_lab", "ns2")
 TOP = ("program", "python", "results", "experiments", "figures")
 FIGURE = ("draw", "of", "x", "y", "by", "over")
 LISTED = ("join", "leave", "outage", "drop_packet")
-FLAGS = ("adaptive", "any_packet", "no_session")
+FLAGS = ("adaptive", "any_packet", "no_session", "spare_draws")
 NAME = ("source", "page", "number")
 # what the recovery of an operation took, with the least and greatest delays of those that recovered, and of the last one
 COLUMNS = ("losers", "left", "open", "requests", "repairs", "least_delay", "greatest_delay", "last_delay", "last_round_trip")

@@ -10,6 +10,7 @@ class Flight:
         self.packet, self.given, self.seed = packet, given, seed
         self._parents = given.tree.parents(node)
         self._distances = given.tree.distances(node)
+        self._hops = given.tree.hops(node)
         self._hosts = {member.node for member in given.members}
         self._hearers = {node, *(given.members[member].node for member in packet.heard)}
         self._dropping = given.drops_of.get((packet.sender, packet.count), frozenset())
@@ -17,6 +18,10 @@ class Flight:
     def time_at(self, node: int) -> int:
         """When it is at a node, or would be if nothing dropped it."""
         return self.packet.time + self._distances[node]
+
+    def is_within(self, node: int) -> bool:
+        """Whether its scope goes as far as a node."""
+        return self.packet.scope is None or self._hops[node] <= self.packet.scope
 
     def before(self, node: int) -> int | None:
         """The last node with a member before this one on its way, or None at the sender's."""
@@ -37,12 +42,12 @@ class Flight:
     def taken_at(self, node: int) -> float | None:
         """The middle of its time on the first link of its way to a node that drops it, or None where none does."""
         taken = None
-        near = self._parents[node]
+        far, near = node, self._parents[node]
         while near is not None:
             before, link = near
-            if self._takes(link, self.time_at(before)):
+            if self.is_within(far) and self._takes(link, self.time_at(before)):
                 taken = self.time_at(before) + self.given.tree.links[link].delay_from(before) / 2
-            near = self._parents[before]
+            far, near = before, self._parents[before]
         return taken
 
     def _takes(self, link: int, at: int) -> bool:

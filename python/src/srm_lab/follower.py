@@ -4,6 +4,7 @@ from collections.abc import Iterator
 from dataclasses import dataclass, field
 
 from .errors import ScenarioError
+from .marks import Asked
 from .scenario import Scenario
 from .tables import Row
 
@@ -17,7 +18,8 @@ class Packet:
     """A packet: who sent it when, what it is about, and when which member heard it.
 
     `name` is (source, page, number), and None for a session message, which has the highest number of each page that it
-    lists in `listed`, by (source, page).
+    lists in `listed`, by (source, page). It goes `scope` links, or to all where that is None; a repair answers what was
+    `asked`. `Clocks` finds both.
     """
 
     sender: int
@@ -27,6 +29,8 @@ class Packet:
     name: Name | None = None
     listed: dict[tuple[int, int], int] = field(default_factory=dict)
     heard: dict[int, int] = field(default_factory=dict)
+    scope: int | None = None
+    asked: Asked | None = None
 
 
 @dataclass

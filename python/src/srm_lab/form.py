@@ -6,7 +6,7 @@ from typing import Any
 
 from .errors import ScenarioError, perhaps
 from .limits import VERSIONS, Limits, are_within
-from .parts import CONSTANTS, LIMITS, ROLES
+from .parts import CONSTANTS, LIMITS, LOCAL, ROLES
 from .repetition import DEFAULTS, copy_of, times_of, total
 
 Check = Callable[[object], str | None]
@@ -78,16 +78,18 @@ def elements(limits: Limits) -> dict[str, dict[str, Key]]:
     at = Key(Number(0, limits.time))
     delay = Number(1, limits.delay)
     back = {"back": Key(delay, False)} if limits.two_way else {}
+    scope = {"scope": Key(Number(0, limits.hops), False)} if limits.local else {}
+    burst = {"burst": Key(Number(1, limits.time), False)} if limits.local else {}
     keys = {
         "member": {"node": node, "role": Key(word(*ROLES)), "stream": Key(Number(0, limits.stream)),
                    "join": Key(Number(0, limits.time), False), "leave": Key(Number(1, limits.time), False),
-                   "pages": Key(array(limits.pages, Number(0, limits.page)), False)},
+                   "pages": Key(array(limits.pages, Number(0, limits.page)), False), **scope},
         "draw": {"member": member, "page": Key(Number(0, limits.page)), "ink": Key(Number(0, limits.ink)), "at": at},
         "session": {"member": member, "at": at},
         "drop": {"link": link, "sender": member, "count": Key(Number(0, limits.count))},
         "outage": {"link": link, "from": at, "to": Key(Number(1, limits.time))},
         "loss": {"link": link, "rate": Key(Number(1, limits.rate)), "stream": Key(Number(0, limits.stream), False),
-                 "from": replace(at, needed=False), "to": Key(Number(1, limits.time), False)},
+                 "from": replace(at, needed=False), "to": Key(Number(1, limits.time), False), **burst},
     }
     repetition = {"times": Key(Number(1, limits.elements), False), "every": Key(Number(0, limits.time), False)}
     return {"link": {"a": node, "b": node, "delay": Key(delay), **back},
@@ -101,6 +103,9 @@ def top(limits: Limits, table: dict[str, Any]) -> dict[str, Key]:
             **dict.fromkeys(CONSTANTS, constant)}
     if limits.adaptive:
         keys |= adaptive(limits, table)
+    if limits.local:
+        keys |= {"scope": Key(Number(0, limits.hops), False), "widen": Key(Number(0, limits.hops), False),
+                 "tries": Key(Number(1, limits.tries), False), "steps": Key(Number(1, limits.steps), False)}
     if "topology" in table:
         keys["topology"] = Key(word("chain", "star", "tree", *(["parents"] if limits.large else [])))
     if limits.large and table.get("topology") == "parents":
@@ -194,6 +199,8 @@ def _hint(key: str, table: dict[str, Any]) -> str:
         return " before version 3"
     if key == "loss":
         return " before version 4"
+    if key in LOCAL and "version" in table or key == "scope" and "role" in table or key == "burst" and "rate" in table:
+        return " before version 5"
     return ""
 
 

@@ -14,8 +14,8 @@ from .timer import Timer
 class History:
     """All of a run, from its rows in order.
 
-    `packets` are by `sender:count`; `losses` and `timers` in the order in which they began; `joins` and `leaves` have
-    the tick of each member that joined or left.
+    `packets` are by `sender:count`; `losses` and `timers` in the order in which they began, and `set_in` has how many
+    timers each row set; `joins` and `leaves` have the tick of each member that joined or left.
     """
 
     def __init__(self, given: Scenario, rows: Iterable[Row]):
@@ -24,15 +24,18 @@ class History:
         self.packets: dict[str, Packet] = {}
         self.losses: list[Loss] = []
         self.timers: list[Timer] = []
+        self.set_in: list[int] = []
         self.joins: dict[int, int] = {}
         self.leaves: dict[int, int] = {}
-        follower, clocks = Follower(given), Clocks()
+        follower, clocks = Follower(given), Clocks(given)
         for step in follower.follow(iter(rows)):
             row = step.row
             self.rows.append(row)
             clocks.take(step)
             self.losses += [one for one in clocks.begun if isinstance(one, Loss)]
-            self.timers += [one for one in clocks.begun if isinstance(one, Timer)]
+            timers = [one for one in clocks.begun if isinstance(one, Timer)]
+            self.timers += timers
+            self.set_in.append(len(timers))
             if step.heard is not None:
                 step.heard.heard[row.member] = row.time
             if step.sent is not None:

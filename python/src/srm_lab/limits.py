@@ -11,8 +11,8 @@ from .errors import ScenarioError
 class Limits:
     """What one version of the format has room for, and what it has: links with two delays, outages, adaptive timers.
 
-    `large` says whether it has networks by parents, and elements that stand for several, and `losses` whether links lose
-    packets at random.
+    `large` says whether it has networks by parents, and elements that stand for several, `losses` whether links lose
+    packets at random, and `local` whether members recover locally, and such losses come in bursts.
     """
 
     nodes: int
@@ -22,6 +22,7 @@ class Limits:
     adaptive: bool = False
     large: bool = False
     losses: bool = False
+    local: bool = False
     elements: int = 4096
     pages: int = 256
     page: int = 65_535
@@ -32,6 +33,9 @@ class Limits:
     count: int = 2**32 - 1
     stream: int = 2**63 - 1
     rate: int = 1_000_000
+    hops: int = 65_535
+    tries: int = 10
+    steps: int = 2
     bytes: int = 1_048_576
 
 
@@ -42,6 +46,7 @@ VERSIONS = {
               constant=1_024_000),
 }
 VERSIONS[4] = replace(VERSIONS[3], losses=True)
+VERSIONS[5] = replace(VERSIONS[4], local=True)
 NEWEST = VERSIONS[max(VERSIONS)]
 MOST_NODES = NEWEST.nodes
 MOST_DELAY = NEWEST.delay

@@ -11,8 +11,8 @@ from itertools import pairwise
 from typing import TYPE_CHECKING, Protocol
 
 from .errors import ScenarioError
-from .losses import arrival, bernoulli, check_that_data_is_lost, drawn, first_request, links_in_use
-from .parts import Draw, Drop, Outage
+from .losses import arrival, bernoulli, check_that_data_is_lost, drawn, first_request, last_draws, links_in_use
+from .parts import Draw, Drop, Outage, RandomLoss
 
 if TYPE_CHECKING:
     from .scenario import Scenario
@@ -70,6 +70,21 @@ class ListedLosses:
 
     def check(self, given: "Scenario") -> None:
         """Nothing else is lost by a drop."""
+
+
+@dataclass(frozen=True)
+class OfRecovery:
+    """Losses at random, each of which begins once the last draw has come to its link: so they take no operation."""
+
+    losses: tuple[RandomLoss, ...]
+
+    def added_to(self, given: "Scenario") -> "Scenario":
+        last = last_draws(given)
+        made = (replace(one, first=max(one.first, 1 + last.get(one.link, -1))) for one in self.losses)
+        return replace(given, random_losses=(*given.random_losses, *made))
+
+    def check(self, given: "Scenario") -> None:
+        """It loses what was asked for, whatever else is lost."""
 
 
 @dataclass(frozen=True)

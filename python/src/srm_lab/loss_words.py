@@ -1,6 +1,7 @@
 """The words by which losses at random decide, as docs/MODEL.md has them."""
 MASK = 2**64 - 1
 GOLDEN = 0x9e3779b97f4a7c15
+NOBODY = 65_535  # stands for the sender in the word of a burst, since no member has this number
 
 
 def mixed(word: int) -> int:
@@ -11,7 +12,7 @@ def mixed(word: int) -> int:
 
 
 def loss_word(seed: int, stream: int, link: int, sender: int, count: int) -> int:
-    """The word of 32 bits of a sender's packet at a link, for a seed and a stream."""
+    """The word of 32 bits of a sender's packet at a link, or of NOBODY's burst, for a seed and a stream."""
     word = mixed((seed + GOLDEN) & MASK)
     for part in (stream, link * 65536 + sender, count):
         word = mixed(word ^ part)

@@ -37,7 +37,11 @@ def link_of(choice: str, given: "Scenario", rng: random.Random, sender: int = 0)
 
 
 def choose_link(choice: str, tree: Tree, source: int, nodes: list[int], rng: random.Random) -> int:
-    """The link of a choice: a number, `adjacent`, `random`, or `hops:H` (its far end is H links from the source)."""
+    """The link of a choice: a number, `adjacent`, `random`, `hops:H` (its far end is H links from the source) or `losers`.
+
+    One with `losers:N`, or `losers:FEW-MANY`, members behind it is chosen by their number first: each number that a link
+    has is as likely. Of `losers` alone it is 3 to a tenth of the members, or the next that a link has.
+    """
     depth = links_in_use(tree, source, nodes)
     if choice.isdigit():
         link = int(choice)
@@ -52,11 +56,40 @@ def choose_link(choice: str, tree: Tree, source: int, nodes: list[int], rng: ran
             raise ScenarioError(f"hops:{text} is no number of links")
         wanted = sorted(link for link, hops in depth.items() if hops == int(text))
         told = f"no link {text} links from the source is on the way to another member"
+    elif choice == "losers" or choice.startswith("losers:"):
+        behind = members_behind(tree, source, nodes)
+        few, many = losers_told(choice, 1 + len(nodes), behind.values())
+        numbers = sorted({number for number in behind.values() if few <= number <= many})
+        number = rng.choice(numbers) if numbers else None
+        wanted = sorted(link for link, count in behind.items() if count == number)
+        told = f"no link has {few if few == many else f'{few} to {many}'} members behind it"
     else:
-        raise ScenarioError(f"{choice!r} is no choice of a link: say a number, adjacent, random or hops:H")
+        raise ScenarioError(f"{choice!r} is no choice of a link: say a number, adjacent, random, hops:H or losers:FEW-MANY")
     if not wanted:
         raise ScenarioError(told)
     return rng.choice(wanted)
+
+
+def losers_told(choice: str, members: int, numbers: Iterable[int]) -> tuple[int, int]:
+    """The least and the greatest number of losers that a choice of a link allows; `numbers` are those that links have."""
+    if choice == "losers":
+        return 3, max(members // 10, min((number for number in numbers if number >= 3), default=3))
+    few, dash, many = choice.removeprefix("losers:").partition("-")
+    if not few.isdigit() or dash and not many.isdigit():
+        raise ScenarioError(f"{choice} tells no number of members: say losers, losers:N or losers:FEW-MANY")
+    return int(few), int(many if dash else few)
+
+
+def members_behind(tree: Tree, source: int, nodes: Iterable[int]) -> dict[int, int]:
+    """How many of these nodes are behind each link, seen from the source, of the links that have some."""
+    found: dict[int, int] = {}
+    counts = Counter(nodes)
+    for node, near in reversed(tree.parents(source).items()):
+        if near is not None and counts[node]:
+            parent, link = near
+            found[link] = counts[node]
+            counts[parent] += counts[node]
+    return found
 
 
 def arrival(tree: Tree, source: int, link: int) -> int:
@@ -87,6 +120,39 @@ def losers(tree: Tree, source: int, nodes: Iterable[int], link: int) -> list[int
         if near is not None and (near[1] == link or near[0] in behind):
             behind.add(node)
     return [node for node in nodes if node in behind]
+
+
+def least_scopes(given: "Scenario", link: int, sender: int) -> dict[int, int]:
+    """Of each member behind a link, as a sender sees it, the least scope that reaches all of them and one that answers.
+
+    All that lose are behind the link, and whoever answers is before it. Of a tree's nodes none is farther from any other
+    than one of the two that are farthest from each other.
+    """
+    within("link", link, 0, len(given.tree.links) - 1)
+    within("sender", sender, 0, len(given.members) - 1)
+    nodes = [member.node for member in given.members]
+    behind = losers(given.tree, nodes[sender], nodes, link)
+    if not behind:
+        return {}
+    answering = {one.node for one in given.members if one.role != "listener"} - {*behind}
+    near = min(given.tree.links[link][:2], key=given.tree.hops(nodes[sender]).__getitem__)
+    before = given.tree.hops(near)
+    outside = min(map(before.__getitem__, answering))
+    one = max(behind, key=before.__getitem__)
+    other = max(behind, key=given.tree.hops(one).__getitem__)
+    ends = given.tree.hops(one), given.tree.hops(other)
+    asking = {member: node for member, node in enumerate(nodes) if node in {*behind} and given.members[member].role != "listener"}
+    return {member: max(ends[0][node], ends[1][node], before[node] + outside) for member, node in asking.items()}
+
+
+def last_draws(given: "Scenario") -> dict[int, int]:
+    """For each link the tick at which the last draw comes to it."""
+    found: dict[int, int] = {}
+    for sender in sorted({draw.member for draw in given.draws}):
+        way, last = given.tree.distances(given.members[sender].node), drawn(given, sender)[-1].at
+        for place, link in enumerate(given.tree.links):
+            found[place] = max(found.get(place, 0), last + min(way[link.a], way[link.b]))
+    return found
 
 
 def drawn(given: "Scenario", sender: int) -> list[Draw]:

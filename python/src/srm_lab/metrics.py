@@ -9,7 +9,7 @@ from .errors import ScenarioError
 if TYPE_CHECKING:
     from .scenario import Scenario
 
-TABLES = ("losses", "operations", "members", "links", "timers")
+TABLES = ("losses", "operations", "scopes", "members", "links", "timers")
 
 
 def function_of(text: str) -> Callable[..., Any]:

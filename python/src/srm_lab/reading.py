@@ -9,7 +9,7 @@ from .errors import ScenarioError, spelled
 from .form import check_keys
 from .limits import NEWEST
 from .link import Link
-from .parts import CONSTANTS, LIMITS, Draw, Drop, Member, Outage, RandomLoss, Session
+from .parts import CONSTANTS, LIMITS, LOCAL, Draw, Drop, Member, Outage, RandomLoss, Session
 from .repetition import APART, expanded
 from .rules import check_rules
 from .scenario import Scenario
@@ -62,13 +62,13 @@ def from_table(table: dict[str, Any], comments: list[str] | None = None) -> Scen
         members=tuple(Member(**{**one, **({"pages": tuple(one["pages"])} if "pages" in one else {})})
                       for one in parts["member"]),
         until=table["until"],
-        **{name: table[name] for name in (*CONSTANTS, *LIMITS, "backoff") if name in table},
+        **{name: table[name] for name in (*CONSTANTS, *LIMITS, "backoff", *LOCAL) if name in table},
         draws=tuple(Draw(**one) for one in parts["draw"]),
         sessions=tuple(Session(**one) for one in parts["session"]),
         drops=tuple(Drop(**one) for one in parts["drop"]),
         outages=tuple(Outage(one["link"], one["from"], one["to"]) for one in parts["outage"]),
-        random_losses=tuple(RandomLoss(one["link"], one["rate"], one.get("stream", 0), one.get("from", 0), one.get("to"))
-                            for one in parts["loss"]),
+        random_losses=tuple(RandomLoss(one["link"], one["rate"], one.get("stream", 0), one.get("from", 0), one.get("to"),
+                                       one.get("burst")) for one in parts["loss"]),
         version=table["version"],
         comments=tuple(line for line in comments if line not in told or not line),
     )

@@ -5,13 +5,16 @@ from typing import TYPE_CHECKING
 
 from .errors import ScenarioError
 from .kept import kept_of
-from .parts import Draw, RandomLoss
+from .parts import Draw, Member, RandomLoss
 
 if TYPE_CHECKING:
     from .scenario import Scenario
 
 
 def _members(given: "Scenario") -> None:
+    nodes, last = _places(given.members)
+    if max(nodes, default=0) < given.tree.nodes and given.tree.hub not in nodes and last < given.end:
+        return
     taken: dict[int, int] = {}
     hub = given.tree.hub
     for place, member in enumerate(given.members):
@@ -30,6 +33,8 @@ def _members(given: "Scenario") -> None:
             raise fault("leave", f"is {member.leave}, and has to be after it joins at {member.join}")
         if member.pages is not None and member.role != "late":
             raise fault("pages", f"are given, and its role is {member.role}: only a late member has wanted pages")
+        if member.scope is not None and member.role == "listener":
+            raise fault("scope", "is given, and its role is listener, which never asks")
         taken[member.node] = place
 
 
@@ -110,6 +115,16 @@ def _losses(given: "Scenario") -> None:
         if loss.end is not None and loss.first >= loss.end:
             raise ScenarioError(f"loss {place}: `from` is {loss.first}, and has to be below `to`, {loss.end}",
                                 "loss", place, "from")
+
+
+@kept_of
+def _places(members: tuple[Member, ...]) -> tuple[list[int], float]:
+    """The nodes of members and when the last of them joins, which is never where one of them does not fit by itself."""
+    nodes = [member.node for member in members]
+    fits = len(set(nodes)) == len(nodes) and all(
+        (member.leave is None or member.join < member.leave) and (member.pages is None or member.role == "late")
+        and (member.scope is None or member.role != "listener") for member in members)
+    return nodes, max((member.join for member in members), default=-1) if fits else math.inf
 
 
 @kept_of

@@ -20,7 +20,7 @@ import tqdm
 
 from . import __version__, shown
 from .errors import RefusedError, ScenarioError, perhaps, spelled, verbs_spelled
-from .frames import COLUMNS, Columns, Frames, Text, columns_of, joined, save
+from .frames import COLUMNS, Columns, Frames, Rows, Table, columns_of, joined, packed, rows_of, save, unpacked
 from .limits import MOST_SEED, within
 from .page.cut import Cut
 from .page.shown import Page, page_of
@@ -29,7 +29,7 @@ from .statistics import Statistic, evaluated, summarise
 from .timers import COLUMNS as TIMERS, timers_of
 from .traces import find_program, nobody, table_text, trace_of, version_of
 
-LAYOUT = 2  # of what the cache keeps; a cache of another layout is not read
+LAYOUT = 3  # of what the cache keeps; a cache of another layout is not read
 CACHE = "cache"
 MOST_IN_CHUNK = 16
 MOST_WORKERS = 1024
@@ -55,25 +55,25 @@ class Asked:
         if self.cache is None:
             return None
         words = json.dumps([LAYOUT, table, given.digest(), *seeds, self.digest, *self.options])
-        return self.cache / f"{hashlib.sha256(words.encode()).hexdigest()}.csv"
+        return self.cache / f"{hashlib.sha256(words.encode()).hexdigest()}.rows"
 
 
 def perform(given: Scenario, seeds: Sequence[int], asked: Asked, workers: int,
-            made: Callable[[int], None]) -> dict[str, bytes]:
-    """The tables of runs of one scenario as they are written, the seed in front: of the cache, or by so many workers.
+            made: Callable[[int], None]) -> dict[str, Rows]:
+    """The tables of runs of one scenario, the seed in front: of the cache, or by so many workers.
 
     Each table is a process of the program, and all are side by side: to read a trace takes longer than several runs.
     `made` is told, as the first table comes, how many of the runs are made.
     """
-    def make(name: str) -> bytes:
+    def make(name: str) -> Rows:
         place = asked.place(given, name, seeds)
         if place is not None and place.exists():
-            return place.read_bytes()
+            return unpacked(name, place.read_bytes())
         tell = made if name == asked.tables[0] else nobody
-        found = (timers_text(given, seeds, asked, workers, tell) if name == "timers" else
-                 table_text(given.plain_text, name, seeds, asked.program, asked.options, workers, tell))
+        found = rows_of(name, timers_text(given, seeds, asked, workers, tell) if name == "timers" else
+                        table_text(given.plain_text, name, seeds, asked.program, asked.options, workers, tell))
         if place is not None:
-            keep(place, found)
+            keep(place, packed(found))
         return found
 
     own = {name: make(name) for name in asked.tables if name == "timers"}  # before there are threads: it may fork
@@ -97,11 +97,11 @@ def timers_text(given: Scenario, seeds: Sequence[int], asked: Asked, workers: in
     return b"".join(parts)
 
 
-def keep(place: Path, text: bytes) -> None:
+def keep(place: Path, rows: bytes) -> None:
     """Puts a table into the cache at once, so that no half of one is ever read."""
     place.parent.mkdir(parents=True, exist_ok=True)
     with tempfile.NamedTemporaryFile(dir=place.parent, suffix=".part", delete=False) as part:
-        part.write(text)
+        part.write(rows)
     os.replace(part.name, place)
 
 
@@ -121,7 +121,7 @@ def perform_all(make: Callable[[int], Scenario], jobs: Sequence[Job], asked: Ask
 
     def work(place: int) -> tuple[list[str], dict[str, Columns]]:
         sharing = several if place < len(chunks) - rest else rest
-        digests, texts = [], []
+        digests, tables = [], []
         for number, seeds in chunks[place]:
             given = first if number == jobs[0][0] else make(number)
             digests.append(given.digest())
@@ -134,8 +134,8 @@ def perform_all(make: Callable[[int], Scenario], jobs: Sequence[Job], asked: Ask
                 if said is not None:
                     fault.add_note(f"refused at {said(number)}")
                 raise
-            texts.append({name: Text(number, given, text) for name, text in found.items()})
-        return digests, {name: columns_of(name, [one[name] for one in texts]) for name in asked.tables}
+            tables.append({name: Table(number, given, rows) for name, rows in found.items()})
+        return digests, {name: columns_of(name, [one[name] for one in tables]) for name in asked.tables}
 
     digests: dict[int, str] = {}
     parts, made = [], 0
@@ -145,7 +145,7 @@ def perform_all(make: Callable[[int], Scenario], jobs: Sequence[Job], asked: Ask
             parts.append(tables)
             made += sum(len(seeds) for _, seeds in chunk)
             move(bar, 0, made)
-    return {name: joined([one[name] for one in parts]) for name in asked.tables}, [digests[one] for one in sorted(digests)]
+    return {name: joined(name, [one[name] for one in parts]) for name in asked.tables}, [digests[one] for one in sorted(digests)]
 
 
 def chunks_of(jobs: Sequence[Job], several: int) -> Iterator[Sequence[Job]]:

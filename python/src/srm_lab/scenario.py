@@ -10,7 +10,7 @@ ticks. All random choices are those of the scenario's seed, of each verb its own
 """
 import hashlib
 import random
-from collections.abc import Callable, Collection, Iterable
+from collections.abc import Callable, Collection, Iterable, Mapping
 from dataclasses import dataclass, field, replace
 from decimal import Decimal
 from functools import cached_property
@@ -24,8 +24,9 @@ from .errors import ScenarioError, perhaps, spelled, verbs_spelled
 from .graphs import Delays
 from .kept import kept, kept_of
 from .limits import MOST_NUMBERS, MOST_SEED, MOST_TIME, NEWEST, VERSIONS, Limits, within
-from .loss_rules import EveryOperation, EveryPacket, ListedLosses, Rounds, Rule
-from .parts import CONSTANTS, LIMITS, Draw, Drop, Member, Outage, RandomLoss, Session, drawn_evenly, losses_alike
+from .loss_rules import EveryOperation, EveryPacket, ListedLosses, OfRecovery, Rounds, Rule
+from .parts import (CONSTANTS, LIMITS, LOCAL, Draw, Drop, Member, Outage, RandomLoss, Session, are_in_bursts, drawn_evenly,
+                    have_scopes, losses_alike)
 from .timing import BACKOFF, Timing
 from .tree import Tree
 
@@ -42,9 +43,11 @@ class Scenario:
     """What a run is given. Constants are in thousandths; members adapt each from its least to its greatest value.
 
     Where `until` is None, the end leaves time for 64 rounds of asking and repairing after the last draw, session
-    message or join. Where `version` is None, the first version of the format that has room is written.
+    message or join. Where `version` is None, the first version of the format that has room is written. A request goes
+    `scope` links, unless its member has a scope of its own, and `widen` more for each backoff; one with `tries` backoffs goes
+    to all, as where the scope is 0. Repairs for requests with a scope are made in one or two `steps`.
     `comments` are the lines in front of the file; the names of nodes stand there as well. `rules` are losses that are
-    told by a rule; in `settled` stand the drops, outages and draws that they come to.
+    told by a rule; in `settled` stand the drops, outages, losses at random and draws that they come to.
     """
 
     tree: Tree
@@ -71,6 +74,10 @@ class Scenario:
     d1_most: int | None = None
     d2_most: int | None = None
     backoff: int = 2
+    scope: int = LOCAL["scope"]
+    widen: int = LOCAL["widen"]
+    tries: int = LOCAL["tries"]
+    steps: int = LOCAL["steps"]
     rules: tuple[Rule, ...] = ()
     timings: tuple[Timing, ...] = field(default=(), repr=False, compare=False)  # what verbs said of the constants
 
@@ -83,11 +90,11 @@ class Scenario:
 
     @cached_property
     def settled(self) -> "Scenario":
-        """This scenario with the drops, outages and draws that its rules of losses come to, in place of the rules."""
+        """This scenario with the draws, and what links lose, that its rules of losses come to, in place of the rules."""
         if not self.rules:
             return self
         made = loss_rules.settled(self._bare, self.rules)
-        parts = {name: getattr(made, name) for name in ("draws", "drops", "outages")}
+        parts = {name: getattr(made, name) for name in ("draws", "drops", "outages", "random_losses")}
         made = self._bare._with(**{name: part for name, part in parts.items() if part is not getattr(self, name)})
         for rule in self.rules:
             rule.check(made)
@@ -128,19 +135,26 @@ class Scenario:
         return given or max(self.c1, self.c2, self.d1, self.d2) > VERSIONS[2].constant
 
     @cached_property
+    def is_local(self) -> bool:
+        """Whether only a version with local recovery has room for what it says of scopes."""
+        return any(getattr(self, name) != value for name, value in LOCAL.items()) or have_scopes(self.members)
+
+    def scope_of(self, member: int) -> int:
+        """How many links the first request of a member goes, and 0 where it goes to all."""
+        own = self.members[member].scope
+        return self.scope if own is None else own
+
+    @cached_property
     def least_version(self) -> int:
         """The first version of the format that has room for this scenario."""
         if self.rules:
             return self.settled.least_version
-        for version, limits in VERSIONS.items():
-            fits = self._fits(limits) and (limits.large or "parent" not in self.tree.shorthand)
-            two_way = limits.two_way or self.tree.is_even and "back" not in self.tree.shorthand
-            timers = limits.adaptive or not self.is_adaptive
-            outages = limits.outages or not self.outages
-            losses = limits.losses or not self.random_losses
-            if fits and two_way and timers and outages and losses:
-                return version
-        return max(VERSIONS)
+        needs = {"large": "parent" in self.tree.shorthand, "losses": bool(self.random_losses), "outages": bool(self.outages),
+                 "adaptive": self.is_adaptive, "two_way": not self.tree.is_even or "back" in self.tree.shorthand,
+                 "local": self.is_local or are_in_bursts(self.random_losses)}
+        wanted = [name for name, needed in needs.items() if needed]
+        return next((version for version, limits in VERSIONS.items()
+                     if all(getattr(limits, name) for name in wanted) and self._fits(limits)), max(VERSIONS))
 
     @property
     def is_large(self) -> bool:
@@ -201,6 +215,17 @@ class Scenario:
     def round_trip(self, a: int, b: int) -> int:
         """The distance from one member to another and back, in ticks."""
         return self.tree.round_trips(self.members[b].node)[self.members[a].node]
+
+    def hops(self, a: int, b: int) -> int:
+        """How many links are between two members."""
+        return self.tree.hops(self.members[a].node)[self.members[b].node]
+
+    def least_scopes(self, link: int, sender: int = 0) -> dict[int, int]:
+        """Of each member behind a link, as a sender sees it, the least scope that reaches all of them and one more member.
+
+        It is what `local_recovery` takes: requests for what the link loses go just far enough to be answered.
+        """
+        return losses.least_scopes(self, link, sender)
 
     # ---- its text --------------------------------------------------------------
 
@@ -309,8 +334,27 @@ class Scenario:
     def _timed(self, timing: Timing) -> "Scenario":
         return self._with(timings=(*self.timings, timing), **timing.keys(len(self.members)))
 
+    def local_recovery(self, scope: int | Mapping[int, int] | None = None, widen: int | None = None, tries: int | None = None,
+                       steps: int | None = None) -> "Scenario":
+        """Lets requests and repairs go only some links far, so that those who lost nothing need not hear them.
+
+        A member's first request goes `scope` links, or to all where that is 0; of a dict, such as `least_scopes` gives,
+        each of its members has its own. A backoff lets it go `widen` links further, and a request with `tries` backoffs,
+        1 to 10, goes to all. With `steps=1` a repair goes as far as the request did and the way between both members
+        besides; with `steps=2` it goes as far as the request, whose member then sends it on as far. What is not named
+        stays as it is.
+        """
+        whole = None if isinstance(scope, Mapping) else scope
+        given = {"scope": whole, "widen": widen, "tries": tries, "steps": steps}
+        changes: dict[str, Any] = {name: value for name, value in given.items() if value is not None}
+        if isinstance(scope, Mapping):
+            own = iter(scope.values())
+            changes["members"] = _changed(self.members, _numbers("members", scope),
+                                          lambda member: replace(member, scope=next(own)))
+        return self._with(**changes) if changes else self
+
     def in_version(self, version: int) -> "Scenario":
-        """Writes the scenario in this version of the format, 1 to 4, in place of the first that has room for it."""
+        """Writes the scenario in this version of the format, 1 to 5, in place of the first that has room for it."""
         return self._with(version=version)
 
     def ends(self, until: int) -> "Scenario":
@@ -402,25 +446,30 @@ class Scenario:
 
     def lose(self, rate: float | None = None, every: int | None = None, link: int | str | None = None,
              packets: int | None = None, seed: int | None = None, sender: int | None = None,
-             any_packet: bool = False, stream: int = 0, first: int = 0, last: int | None = None) -> "Scenario":
+             any_packet: bool = False, stream: int = 0, first: int = 0, last: int | None = None,
+             burst: int | None = None, spares_draws: bool = False) -> "Scenario":
         """Loses packets by a rule: at random with a `rate`, or every K-th of a sender.
 
         A `rate` is the probability, in at most six decimals, with which a link loses each packet that comes to it from
         tick `first` to tick `last`, both in it, or to the end: data, requests, repairs and session messages alike. This
         is a loss of version 4, by which each run of a scenario loses packets of its own: the run's seed and the `stream`
-        decide. Losses of one link and one stream take the same packets, as far as their rates go. For one `sender`, for
-        the first `packets` of each, and in a scenario of version 1 to 3 it is a list of drops instead: each link on the
-        way from a sender to another member drops each packet of that sender with this probability, the same in all runs.
+        decide. Losses of one link and one stream take the same packets, as far as their rates go. In a `burst` of so many
+        ticks a link loses all packets or none. With `spares_draws` each link begins once the last draw has come to it, so
+        that requests, repairs and session messages alone are lost. For one `sender`, for the first `packets` of each, and in
+        a scenario of version 1 to 3 it is a list of drops instead: each link on the way from a sender to another member
+        drops each packet of that sender with this probability, the same in all runs.
 
         With `every` a link drops the packets 0, K, 2 K and so on of the `sender`, by default member 0. `link` says which
-        one: a number, `adjacent` to the sender, `random`, or `hops:H` away from it; with a rate all links do where none
-        is named. A packet counts among all that its sender sends; the first `packets` may be dropped, by default as many
-        as it draws. Every K-th has to be data: where a repair might come in place of it the scenario is not written, unless
-        `any_packet` allows it. See `lose_operations` for draws that last longer than the first recovery.
+        one: a number, `adjacent` to the sender, `random`, `hops:H` away from it, or one with so many members behind it, as
+        `losers:N`, or `losers:FEW-MANY`, of which it is drawn first how many; `losers` alone are 3 to a tenth of the
+        members, or the next number that a link has. With a rate all links lose where none is named. A packet counts among
+        all that its sender sends; the first `packets` may be dropped, by default as many as it draws. Every K-th has to be
+        data: where a repair might come in place of it the scenario is not written, unless `any_packet` allows it. See
+        `lose_operations` for draws that last longer than the first recovery.
         """
         if (rate is None) == (every is None):
             raise ScenarioError("lose: give either a rate or every")
-        has_place = bool(stream or first or last is not None)
+        has_place = bool(stream or first or last is not None or burst is not None or spares_draws)
         if sender is not None:
             within("sender", sender, 0, max(0, len(self.members) - 1))
         one = sender or 0
@@ -431,13 +480,14 @@ class Scenario:
             if named is None:
                 raise ScenarioError("lose: every needs a link")
             if has_place:
-                raise ScenarioError("lose: stream, first and last go with a rate")
+                raise ScenarioError("lose: stream, first, last, burst and spares_draws go with a rate")
             return self._ruled(EveryPacket(named, within("every", every, 1, NEWEST.elements), one, packets, any_packet))
         if sender is None and packets is None and (self.version not in VERSIONS or VERSIONS[self.version].losses):
-            return self._lossy(_probability(rate), named, stream, first, last)
+            found = self._at_random(_probability(rate), named, stream, first, last, burst)
+            return self._ruled(OfRecovery(found)) if spares_draws else self._with(random_losses=self.random_losses + found)
         if has_place:
-            raise ScenarioError("lose: stream, first and last are of losses at random, which know no sender and no packets, "
-                                "and which only version 4 has")
+            raise ScenarioError("lose: stream, first, last, burst and spares_draws are of losses at random, which know no "
+                                "sender and no packets, and which only versions from 4 on have")
         return self._ruled(ListedLosses(_probability(rate), named, sender, packets, self._seed(seed)))
 
     def lose_operations(self, every: int, link: int | str, seed: int | None = None, sender: int = 0) -> "Scenario":
@@ -452,15 +502,17 @@ class Scenario:
         number = losses.link_of(str(link), self, self._rng("lose", seed), sender)
         return self._ruled(EveryOperation(number, within("every", every, 1, MOST_NUMBERS), sender))
 
-    def _lossy(self, rate: float, link: int | None, stream: int, first: int, last: int | None) -> "Scenario":
-        """Lets a link lose packets at random, or all links."""
+    def _at_random(self, rate: float, link: int | None, stream: int, first: int, last: int | None,
+                   burst: int | None) -> tuple[RandomLoss, ...]:
+        """Losses at random of a link, or of all links."""
         share = _millionths(rate)
         end = None if last is None else within("last", last, 0, MOST_TIME) + 1
         within("stream", stream, 0, NEWEST.stream)
         within("first", first, 0, MOST_TIME)
+        if burst is not None:
+            burst = within("burst", burst, 1, MOST_TIME)
         links = range(len(self.tree.links)) if link is None else range(link, link + 1)
-        made = losses_alike(links, share, stream, first, end) if share else ()
-        return self._with(random_losses=self.random_losses + made)
+        return losses_alike(links, share, stream, first, end, burst) if share else ()
 
     def outage(self, link: int, first: int, last: int) -> "Scenario":
         """Lets a link drop each packet that comes to it from tick `first` to tick `last`, both in it."""
@@ -494,7 +546,7 @@ def _at_ticks(members: tuple[Member, ...], verb: str, which: int | Iterable[int]
     rng = random.Random(f"{verb} {seed}")
     stays = {"join": 0, "leave": None}[verb]
     free = [place for place, one in enumerate(members) if one.role != "sender" and getattr(one, verb) == stays]
-    return _changed(members, _chosen(which, free, rng), lambda member: replace(member, **{verb: _tick(at, rng)}))
+    return _changed(members, _chosen(verb, which, free, rng), lambda member: replace(member, **{verb: _tick(at, rng)}))
 
 
 def _changed(members: tuple[Member, ...], places: list[int], change: Callable[[Member], Member]) -> tuple[Member, ...]:
@@ -519,11 +571,11 @@ def _tick(at: Ticks, rng: random.Random) -> int:
     return rng.randint(first, last)
 
 
-def _chosen(members: int | Iterable[int], free: list[int], rng: random.Random) -> list[int]:
+def _chosen(verb: str, members: int | Iterable[int], free: list[int], rng: random.Random) -> list[int]:
     """The members that are named, or so many of the free ones."""
     if not isinstance(members, int):
         return _numbers("members", members)
-    return sorted(rng.sample(free, within("members", members, 0, len(free))))
+    return sorted(rng.sample(free, within(f"{verb}: members", members, 0, len(free))))
 
 
 def _numbers(what: str, given: int | Iterable[int]) -> list[int]:
@@ -578,7 +630,13 @@ def regular_tree(nodes: int, degree: int = 4, members: Members = "all", source: 
 def random_tree(nodes: int, members: Members = "all", source: int | str = "first", delay: int = DELAY,
                 seed: int = 0) -> Scenario:
     """A random labelled tree: each one of this size has the same chance. See `on` for the other words."""
-    return on(trees.random_labelled(nodes, delay, random.Random(f"tree {seed}")), members, source, seed)
+    return on(_random_labelled(nodes, delay, seed), members, source, seed)
+
+
+@kept(attrgetter("nodes"))
+def _random_labelled(nodes: int, delay: int, seed: int) -> Tree:
+    """The tree of a seed, on which sessions of several sizes may be."""
+    return trees.random_labelled(nodes, delay, random.Random(f"tree {seed}"))
 
 
 @spelled

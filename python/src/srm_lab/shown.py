@@ -31,8 +31,9 @@ def line_of(given: "Scenario") -> str:
     if given.random_losses:
         told.append(f"losses at random on {counted(len({one.link for one in given.random_losses}), 'link')}")
     constants = " ".join(f"{name}={getattr(given, name) / 1000:g}" for name in CONSTANTS)
-    end = "" if given.until is None else f", until {given.until:,}"
-    return f"{', '.join(told)}; {constants}{', adaptive timers' if given.is_adaptive else ''}{end}"
+    more = [*(["adaptive timers"] if given.is_adaptive else []), *(["local recovery"] if given.is_local else []),
+            *([] if given.until is None else [f"until {given.until:,}"])]
+    return ", ".join([f"{', '.join(told)}; {constants}", *more])
 
 
 def scenario_html(given: "Scenario") -> str:
@@ -56,12 +57,13 @@ def losses_html(given: "Scenario") -> str:
 
 def loss_rows(given: "Scenario") -> Iterator[LossRow]:
     """A row for each rule by which links lose packets: at random, in outages, or by number."""
-    rules: dict[tuple[int, int, int, int | None], list[int]] = {}
+    rules: dict[tuple[int, int, int, int | None, int | None], list[int]] = {}
     for one in given.random_losses:
-        rules.setdefault((one.rate, one.stream, one.first, one.end), []).append(one.link)
-    for (rate, stream, first, end), links in rules.items():
+        rules.setdefault((one.rate, one.stream, one.first, one.end, one.burst), []).append(one.link)
+    for (rate, stream, first, end, burst), links in rules.items():
+        what = "at random" if burst is None else f"in bursts of {counted(burst, 'tick')}"
         own = f", stream {stream}" if stream else ""
-        yield links_told(given, links), f"{rate / 10_000:g}% of all packets, at random{own}", time_told(first, end)
+        yield links_told(given, links), f"{rate / 10_000:g}% of all packets, {what}{own}", time_told(first, end)
     for link, outages in given.outages_of.items():
         yield links_told(given, [link]), "all packets", outages_told(outages)
     drops: dict[tuple[int, int], list[int]] = {}

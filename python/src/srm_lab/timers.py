@@ -16,7 +16,7 @@ def timers_of(given: Scenario, rows: Iterable[Row]) -> Iterator[tuple]:
     `how` is `expired`, `backed off` (a request timer that was set anew), `stopped`, or `running` at the end of the run.
     No row of the trace is kept.
     """
-    clocks, timers = Clocks(), []
+    clocks, timers = Clocks(given), []
     for step in Follower(given).follow(iter(rows)):
         clocks.take(step)
         timers += [one for one in clocks.begun if isinstance(one, Timer)]

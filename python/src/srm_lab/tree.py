@@ -5,9 +5,11 @@ from collections.abc import Callable, Iterable, Iterator
 from dataclasses import dataclass, field, replace
 from functools import cached_property
 from heapq import heappop, heappush
+from operator import attrgetter
 from typing import Any
 
 from .errors import ScenarioError, verbs_spelled
+from .kept import kept
 from .limits import MOST_DELAY, MOST_NODES, VERSIONS, are_within, within
 from .link import Link
 
@@ -130,6 +132,10 @@ class Tree:
         """For each node the distance from the root to it and back, in ticks."""
         return self._sums("round trips", root, lambda node, link: link.delay + link.back)
 
+    def hops(self, root: int) -> dict[int, int]:
+        """For each node how many links are between the root and it."""
+        return self._sums("hops", root, lambda node, link: 1)
+
     def _sums(self, what: str, root: int, ticks: Callable[[int, Link], int]) -> dict[int, int]:
         """For each node the sum of the ticks of each link from the root to it."""
         def summed() -> dict[int, int]:
@@ -211,6 +217,10 @@ def _even(ends: Iterable[tuple[int, int]], delay: int) -> tuple[Link, ...]:
     return tuple(Link.both_ways(a, b, delay) for a, b in ends)
 
 
+_kept = kept(attrgetter("nodes"))
+
+
+@_kept
 def chain(size: int, delay: int) -> Tree:
     """Nodes in a row: link i joins nodes i and i + 1."""
     within("size", size, 1, MOST_NODES)
@@ -218,6 +228,7 @@ def chain(size: int, delay: int) -> Tree:
     return Tree(size, links, {"topology": "chain", "size": size, "delay": delay})
 
 
+@_kept
 def star(size: int, delay: int) -> Tree:
     """A hub, node 0, which hosts nobody, with a link to each other node."""
     within("size", size, 1, MOST_NODES)
@@ -225,6 +236,7 @@ def star(size: int, delay: int) -> Tree:
     return Tree(size, links, {"topology": "star", "size": size, "delay": delay})
 
 
+@_kept
 def bounded_degree(size: int, degree: int, delay: int) -> Tree:
     """A tree, numbered breadth first, in which each inner node has this degree, as far as the nodes last."""
     within("size", size, 1, MOST_NODES)

@@ -10,7 +10,7 @@ from .form import PARTS
 from .kept import kept_of
 from .limits import NEWEST
 from .link import Link
-from .parts import CONSTANTS, LIMITS, Member, RandomLoss
+from .parts import CONSTANTS, LIMITS, LOCAL, Member, RandomLoss
 from .repetition import APART, folded
 
 if TYPE_CHECKING:
@@ -47,6 +47,7 @@ def keys_of(given: "Scenario", wanted: Collection[str] = PARTS) -> dict[str, Any
     top |= {name: getattr(given, name) for name in CONSTANTS}
     top |= {name: value for name in LIMITS if (value := getattr(given, name)) is not None}
     top |= {"backoff": given.backoff} if given.backoff != 2 else {}
+    top |= {name: value for name, default in LOCAL.items() if (value := getattr(given, name)) != default}
     top |= given.tree.shorthand or {"nodes": given.tree.nodes}
     return top | {part: [*map(ELEMENTS[part], several)] for part in PARTS
                   if part in wanted and (several := _several(given, part))}
@@ -75,14 +76,17 @@ def _member(one: Member) -> dict[str, Any]:
         keys["leave"] = one.leave
     if one.pages is not None:
         keys["pages"] = list(one.pages)
+    if one.scope is not None:
+        keys["scope"] = one.scope
     return keys
 
 
 def _loss(one: RandomLoss) -> dict[str, Any]:
     """The keys of a loss at random, without those that have their defaults."""
     keys: dict[str, Any] = {"link": one.link, "rate": one.rate}
-    if one.stream or one.first or one.end:
-        keys |= {key: value for key, value in (("stream", one.stream), ("from", one.first), ("to", one.end)) if value}
+    if one.stream or one.first or one.end or one.burst:
+        own = (("stream", one.stream), ("from", one.first), ("to", one.end), ("burst", one.burst))
+        keys |= {key: value for key, value in own if value}
     return keys
 
 

@@ -58,7 +58,8 @@ class Document:
             "members": members,
             "drops": sorted({(it.link, it.sender, it.count) for it in given.drops}),
             "outages": [[it.link, it.first, it.end] for it in given.outages],
-            "losses": [[it.link, it.rate, str(it.stream), it.first, it.end] for it in given.random_losses],
+            "losses": [[it.link, it.rate, str(it.stream), it.first, it.end, it.burst] for it in given.random_losses],
+            "steps": given.steps,
             "names": self.names,
             "told": None if self.part.names is None else [int(name in self.part.names) for name in self.names],
             "timers": self.lengths is not None,
@@ -97,6 +98,9 @@ class Document:
                            for packet in self.packets],
             "packetTime": list(steps(packet.time for packet in self.packets)),
             "packetRow": [1 + sent_at.get(id(packet), -1) for packet in self.packets],
+            "packetScope": [packet.scope or 0 for packet in self.packets],
+            "packetRequester": [0 if packet.asked is None else 1 + packet.asked.requester for packet in self.packets],
+            "packetWidth": [0 if packet.asked is None else packet.asked.width or 0 for packet in self.packets],
         }
 
     def _timer_lengths(self) -> list[int]:

@@ -7,7 +7,7 @@ from ..errors import ScenarioError
 
 ASSETS = Path(__file__).parent / "assets"
 # in the order in which later files use what earlier ones define
-SCRIPTS = ("codes", "decode", "spans", "losses", "network", "trace", "history", "states", "tables", "moments",
+SCRIPTS = ("codes", "decode", "spans", "losses", "network", "recovery", "trace", "history", "states", "tables", "moments",
            "reasons", "model", "elements", "geometry", "surface", "vector_context", "theme", "layout", "marks", "labels",
            "player", "address", "selection", "filters", "rules", "story", "refs", "lanes", "why_member", "why_loss",
            "why", "sprites", "small_members", "network_packets", "network_view", "sequence_scope", "sequence_packets",

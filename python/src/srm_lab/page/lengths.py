@@ -31,7 +31,7 @@ class Lengths:
     def _span(self, timer: Any, event: Event) -> tuple[int, int]:
         """The least and the greatest length of a timer."""
         if timer.kind == "repair":
-            return self._scaled("d", 1, timer.member, event.packet.sender)
+            return self._scaled("d", 1, timer.member, timer.set_for)
         key = timer.member, tuple(timer.name)
         backoffs = min(self.attempts[key], MOST_BACKOFFS)
         self.attempts[key] += 1

@@ -6,7 +6,6 @@ from typing import Any
 from ..history import History
 
 Name = tuple[int, ...]
-TIMER_RESULTS = ("back", "plan")
 
 
 @dataclass
@@ -30,7 +29,7 @@ class Event:
 def events_of(history: History) -> Iterator[Event]:
     """The rows of a history in order, each with its packet, the names that it lost and the timers that it set.
 
-    A history lists losses and timers in the order of the rows that brought them, and a row tells how many of each.
+    A history lists losses and timers in the order of the rows that brought them.
     """
     losses, timers = iter(history.losses), iter(history.timers)
     for number, row in enumerate(history.rows):
@@ -38,7 +37,7 @@ def events_of(history: History) -> Iterator[Event]:
         event.packet = history.packets[row.ref] if ":" in row.ref else None
         event.name = name_of(row, event.packet)
         event.lost = [tuple(next(losses).name) for _ in range(row.lost)]
-        event.timers = [next(timers) for _ in range(row.lost + sets_a_timer(row))]
+        event.timers = [next(timers) for _ in range(history.set_in[number])]
         event.sent = history.packets[row.sent] if row.sent != "-" else None
         yield event
 
@@ -48,8 +47,3 @@ def name_of(row: Any, packet: Any) -> Name | None:
     if packet is not None:
         return None if packet.name is None else tuple(packet.name)
     return tuple(map(int, row.ref.split("/"))) if "/" in row.ref else None
-
-
-def sets_a_timer(row: Any) -> bool:
-    """Whether a row sets a timer beside those of the names that it lost."""
-    return row.result in TIMER_RESULTS or row.cause == "ask" and row.result == "sent"

@@ -142,7 +142,8 @@ class App {
   }
 
   _legendEntries() {
-    return this.view === "sequence" ? sequenceLegend(this.theme) : networkLegend(this.theme, this.model.network);
+    const { network, isLocal } = this.model;
+    return this.view === "sequence" ? sequenceLegend(this.theme, isLocal) : networkLegend(this.theme, network, isLocal);
   }
 
   /** Saves the shown view as a picture, `svg` or `png`. */
@@ -159,11 +160,12 @@ class App {
 
   /** Selects something, or nothing. A row is gone to as well. */
   pick(what) {
-    this.selection = what ? selected(what) : null;
-    if (this.selection?.kind === "row") {
+    const wanted = what ? selected(what) : null;
+    if (wanted?.kind === "row") {
       this.player.pause();
-      this.player.seekRow(this.selection.row + 1);
+      this.player.seekRow(wanted.row + 1);
     }
+    this.selection = wanted;
     this._showSelection();
   }
 

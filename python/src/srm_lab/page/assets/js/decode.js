@@ -1,4 +1,4 @@
-// From the text in the page to the scenario and the trace's columns. docs/PAGE.md tells the encoding.
+// From the text in the page to the scenario and the trace's columns, as page/document.py writes them.
 
 /** The bytes of a text in base 64. */
 function bytesOf(text) {

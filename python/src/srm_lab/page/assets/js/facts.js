@@ -44,7 +44,7 @@ function cutWords(cut, moments) {
 }
 
 /** The run's description, for a dialog. */
-function aboutOf({ about, network }) {
+function aboutOf({ about, network, isLocal }) {
   const [c1, c2, d1, d2] = about.constants.map((constant) => constant / 1000);
   const told = about.comments.join(" ");
   return [
@@ -55,6 +55,8 @@ function aboutOf({ about, network }) {
     element("p", {}, `Request timers are drawn from ${c1} to ${c1 + c2} times half the round trip to the source, repair `
       + `timers from ${d1} to ${d1 + d2} times half the round trip to the requester. Each backoff doubles a request `
       + "timer's interval."),
+    isLocal ? element("p", {}, "Members recover locally: some requests and repairs go a number of links only, and repairs "
+      + `answer them in ${about.steps === 1 ? "one step" : "two steps"}.`) : null,
     element("p", { class: "soft" }, "Made from a scenario and a trace of srm_lab, which simulates loss recovery in SRM "
       + "(Floyd, Jacobson, Liu, McCanne and Zhang, 1997). The page holds d3, whose licence stands in its source."),
   ];

@@ -11,6 +11,7 @@ class History {
     this.trace = trace;
     this.network = network;
     this.constants = about.constants;
+    this.steps = about.steps;
     this.lengths = about.timers ? lengths : null;
     this.nextLength = 0;
     this.losses = [];
@@ -57,10 +58,17 @@ class History {
     if (result === RESULT.fixed) this._recover(row, member, name);
     if (result === RESULT.fresh || result === RESULT.fixed || (cause === CAUSE.draw && isSent)) this._gain(row, member, name);
     if (result === RESULT.back) this._backOff(row, member, name, "backed off");
-    if (result === RESULT.plan) this._plan(row, member, name);
+    if (result === RESULT.plan) this._plan(row, member, name, this._asked(row));
+    if (result === RESULT.busy) this._takeOver(row, member, name);
     if (cause === CAUSE.ask && isSent) this._backOff(row, member, name, "expired");
-    if (cause === CAUSE.answer && isSent) this._answered(row, member, name, "expired");
-    if (cause === CAUSE.repair && result !== RESULT.skip) this._answered(row, member, name, "stopped");
+    if (cause === CAUSE.answer && isSent) this._answer(row, member, name);
+    if (cause === CAUSE.repair && result !== RESULT.skip) this._hearRepair(row, member, name);
+  }
+
+  /** Who asks in a row that hears a request, and how far. */
+  _asked(row) {
+    const { sender, scope } = this.trace.packets[this.trace.packet[row]];
+    return { requester: sender, width: scope };
   }
 
   _gain(row, member, name) {
@@ -93,20 +101,29 @@ class History {
     loss.timers.push(timer);
   }
 
-  /** Sets a repair timer for the member whose request arrives. */
-  _plan(row, member, name) {
+  /** Sets a repair timer for a request; as a second step for one of the member's own. */
+  _plan(row, member, name, asked) {
     const [, , d1, d2] = this.constants;
-    const requester = this.trace.packets[this.trace.packet[row]].sender;
     const timer = this._timer(row, member, name, KIND.repair);
-    timer.requester = requester;
-    [timer.least, timer.most] = spanOf(this.network.half(member, requester), d1, d2);
+    Object.assign(timer, asked, { isSecond: asked.requester === member });
+    [timer.least, timer.most] = spanOf(this.network.half(member, asked.requester), d1, d2);
     this.repairAt[member].set(name, timer);
+  }
+
+  /** A wider request takes over a repair timer that is pending for a narrower one. */
+  _takeOver(row, member, name) {
+    const timer = this.repairAt[member].get(name);
+    const asked = this._asked(row);
+    if (!timer || timer.isSecond || asked.width <= timer.width) return;
+    timer.takenOver.push({ row, requester: timer.requester, width: timer.width });
+    Object.assign(timer, asked);
   }
 
   _timer(row, member, name, kind) {
     const length = this.lengths ? this.lengths[this.nextLength++] : null;
     const timer = {
       member, name, kind, set: row, length, least: 0, most: 0, end: -1, how: "pending", backoffs: 0, requester: -1,
+      width: Infinity, isSecond: false, takenOver: [],
     };
     this.timers.push(timer);
     return timer;
@@ -117,24 +134,47 @@ class History {
     timer.how = how;
   }
 
-  /** A repair was sent or heard: a repair timer ends, and the name rests. A listener keeps neither. */
-  _answered(row, member, name, how) {
-    if (this.network.members[member].role === "listener") return;
+  /** A member repairs: its timer ends, and it rests. */
+  _answer(row, member, name) {
     const timer = this.repairAt[member].get(name);
-    if (timer) this._end(timer, row, how);
+    if (timer) this._end(timer, row, "expired");
     this.repairAt[member].delete(name);
-    const source = this.trace.names[name][0];
-    const other = member !== source ? source : timer?.requester ?? this.trace.packets[this.trace.packet[row]].sender;
-    this._rest(row, member, name, 3 * this.network.half(member, other));
+    this._rest(row, name, timer, this.trace.packets[this.trace.sent[row]]);
   }
 
-  _rest(row, member, name, ticks) {
+  /** A repair is heard: the member rests, a timer for a request that it serves ends, and the member may send it on. */
+  _hearRepair(row, member, name) {
+    if (this.network.members[member].role === "listener") return;
+    const packet = this.trace.packets[this.trace.packet[row]];
+    const timer = this.repairAt[member].get(name);
+    const before = this.restAt[member].get(name);
+    const rest = this._rest(row, name, timer, packet);
+    if (timer && serves(this.network, rest.mark, member, timer)) {
+      this._end(timer, row, "stopped");
+      this.repairAt[member].delete(name);
+    }
+    if (this.steps === 2 && packet.scope < Infinity && packet.requester === member && !this.repairAt[member].has(name)
+      && !this.isAtRest(before, row, packet)) this._plan(row, member, name, { requester: member, width: packet.width });
+  }
+
+  /** Whether a member is at rest for a request, by a rest that was on as a row came. */
+  isAtRest(rest, row, asked) {
+    return rest !== undefined && this.trace.time[row] < rest.to && serves(this.network, rest.mark, rest.member, asked);
+  }
+
+  /** A member rests: after a repair that it sent or heard, and as its timer, if one was pending, has it. */
+  _rest(row, name, timer, packet) {
+    const member = this.trace.member[row];
+    const source = this.trace.names[name][0];
+    const other = member !== source ? source : timer?.requester ?? packet.sender;
     const last = this.restAt[member].get(name);
     if (last) last.cut = row;
     const from = this.trace.time[row];
-    const rest = { member, name, begin: row, from, to: from + ticks, cut: -1 };
+    const to = from + 3 * this.network.half(member, other);
+    const rest = { member, name, begin: row, from, to, cut: -1, mark: markOf(this.network, packet, member) };
     this.restAt[member].set(name, rest);
     this.rests.push(rest);
+    return rest;
   }
 
   /** A member leaves: its losses, timers and rests end with it. */

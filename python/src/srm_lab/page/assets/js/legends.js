@@ -14,8 +14,8 @@ function showCensus(box, states) {
   for (const count of box.querySelectorAll("[data-state]")) setText(count, grouping(census[count.dataset.state]));
 }
 
-/** The network's legend: the roles that the run has, the states, drops. */
-function networkLegend(theme, network) {
+/** The network's legend: the roles that the run has, the states, drops, and ends of scopes. */
+function networkLegend(theme, network, isLocal) {
   const has = new Set(network.members.map((member) => member.role));
   const roles = ["sender", "receiver", "late", "listener"].filter((role) => has.has(role)).map((role) => ({
     told: role,
@@ -29,17 +29,24 @@ function networkLegend(theme, network) {
   const states = STATES.map((word, state) => ({
     told: STATE_WORDS[word], state, draw: (context, x, y) => drawMember(context, theme, "receiver", state, x, y, 5.5),
   }));
-  return [...roles, ...states, { told: "packet dropped", draw: (context, x, y) => cross(context, x, y, 5, theme.cross) }];
+  return [...roles, ...states, { told: "packet dropped", draw: (context, x, y) => cross(context, x, y, 5, theme.cross) },
+    ...scopeLegend(theme, isLocal)];
+}
+
+/** What stands in a legend for the end of a scope, where some packets have one. */
+function scopeLegend(theme, isLocal) {
+  return isLocal ? [{ told: "scope ends", draw: (context, x, y) => endBar(context, theme, KIND.repair, [x, y], 0, 5) }] : [];
 }
 
 /** The sequence's legend. */
-function sequenceLegend(theme) {
+function sequenceLegend(theme, isLocal) {
   return [
     { told: "lacked", draw: (context, x, y) => lossBar(context, theme, x - 5, 0, 10, 2 * y, false) },
     { told: "timer set", draw: (context, x, y) => timerSetMark(context, theme, KIND.request, x, y) },
     { told: "expired", draw: (context, x, y) => timerEndMark(context, theme, KIND.request, "expired", x, y) },
     { told: "stopped or set anew", draw: (context, x, y) => timerEndMark(context, theme, KIND.request, "stopped", x, y) },
     { told: "packet dropped", draw: (context, x, y) => cross(context, x, y, 4.5, theme.cross) },
+    ...scopeLegend(theme, isLocal),
     { told: "left", draw: (context, x, y) => cross(context, x, y, 4.5, theme.ink, 2) },
     { told: "timers in the colour of what they send" },
   ];

@@ -1,6 +1,8 @@
 // Losses at random: which packets a link loses. Words of 64 bits are of type bigint.
 
 const WHOLE_RATE = 1000000;
+// stands for the sender of what comes in a burst
+const NOBODY = 65535;
 
 /** The output function of SplitMix64 (Steele, Lea and Flood 2014). */
 function mixed(word) {
@@ -9,10 +11,10 @@ function mixed(word) {
   return second ^ (second >> 31n);
 }
 
-/** A loss of a link, from a tick up to below another: it takes packets whose words are below a bound. */
+/** A loss of a link, from a tick up to below another: it takes packets, or all in a burst, whose words are below a bound. */
 class RandomLoss {
-  constructor([link, rate, stream, from, to], start) {
-    Object.assign(this, { link, rate, from, to: to ?? Infinity });
+  constructor([link, rate, stream, from, to, burst], start) {
+    Object.assign(this, { link, rate, from, to: to ?? Infinity, burst });
     this.bound = Number((BigInt(rate) << 32n) / BigInt(WHOLE_RATE));
     this.start = mixed(start ^ BigInt(stream));
     this.starts = new Map();
@@ -26,14 +28,16 @@ class RandomLoss {
 
   /** Whether it takes a packet that comes to the link at a tick. */
   takes(packet, tick) {
-    return this.from <= tick && tick < this.to && this.word(packet) < this.bound;
+    const one = this.burst ? { sender: NOBODY, count: Math.floor(tick / this.burst) } : packet;
+    return this.from <= tick && tick < this.to && this.word(one) < this.bound;
   }
 
   /** What it says, in words. */
   get told() {
     const to = this.to < Infinity ? ` to ${grouping(this.to)}` : "";
     const when = this.from > 0 || to ? `, from ${grouping(this.from)}${to}` : "";
-    return `${this.rate / (WHOLE_RATE / 100)} %${when}`;
+    const bursts = this.burst ? ` in bursts of ${counted(this.burst, "tick")}` : "";
+    return `${this.rate / (WHOLE_RATE / 100)} %${bursts}${when}`;
   }
 }
 

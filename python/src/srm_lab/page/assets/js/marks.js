@@ -53,6 +53,14 @@ function cross(context, x, y, r, colour, width = 2.5) {
   strokeLine(context, [[x - r, y + r], [x + r, y - r]], colour, width, []);
 }
 
+/** A bar across a way, where a packet goes no further. */
+function endBar(context, theme, kind, [x, y], turn, r) {
+  const [across, down] = [-r * Math.sin(turn), r * Math.cos(turn)];
+  const ends = [[x - across, y - down], [x + across, y + down]];
+  strokeLine(context, ends, theme.paper, 6, []);
+  strokeLine(context, ends, theme.kinds[kind], 3, []);
+}
+
 /** Fills a bar for the time in which an operation is lacked. */
 function lossBar(context, theme, x, y, wide, tall, isChosen) {
   context.fillStyle = theme.lost;

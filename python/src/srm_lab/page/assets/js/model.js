@@ -28,6 +28,11 @@ class Model {
     return this.trace.packets.find((packet) => packet.kind === KIND.data)?.sender ?? 0;
   }
 
+  /** Whether some request or repair goes a number of links only. */
+  get isLocal() {
+    return this.trace.packets.some((packet) => packet.scope < Infinity);
+  }
+
   /** A table's text as the program writes it. */
   csv(name) {
     switch (name) {

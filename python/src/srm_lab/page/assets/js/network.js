@@ -5,6 +5,7 @@ class Route {
   constructor(network, root) {
     this.root = root;
     this.distance = new Float64Array(network.nodes).fill(Infinity);
+    this.hops = new Int32Array(network.nodes);
     this.edgeTo = new Int32Array(network.nodes).fill(-1);
     const edges = this._walk(network, root);
     this._keep(edges, network);
@@ -19,6 +20,7 @@ class Route {
       for (const { node: far, link, delay } of network.near[near]) {
         if (this.distance[far] < Infinity) continue;
         this.distance[far] = this.distance[near] + delay;
+        this.hops[far] = this.hops[near] + 1;
         edges.push({ near, far, link });
         order.push(far);
       }
@@ -39,6 +41,7 @@ class Route {
     this.end = Float64Array.from(kept, (edge) => this.distance[edge.far]);
     kept.forEach((edge, at) => { this.edgeTo[edge.far] = at; });
     this.longest = this.end.reduce((most, end) => Math.max(most, end), 0);
+    this.deepest = this.far.reduce((most, node) => Math.max(most, this.hops[node]), 0);
   }
 }
 
@@ -91,6 +94,11 @@ class Network {
     return this.routeOf(from).distance[this.memberNodes[to]];
   }
 
+  /** How many links are between a member that sends something and another. */
+  hops(from, to) {
+    return this.routeOf(from).hops[this.memberNodes[to]];
+  }
+
   /** How long a packet takes from a member to another and another one back. */
   roundTrip(member, other) {
     const node = this.memberNodes[other];
@@ -140,23 +148,25 @@ class Network {
   }
 
   /**
-   * What became of a packet on its way: null where no link took it out; else `dropped`, the route's places at which one
-   * did, and `crossed`, which has a 1 for each place that it crossed.
+   * What became of a packet on its way: null where it came to all; else `dropped`, the route's places at which a link took
+   * it out, `ended`, those before which its scope ended, and `crossed`, which has a 1 for each place that it crossed.
    */
   fateOf(packet) {
     const drops = this.drops.get(`${packet.sender}:${packet.count}`);
     const route = this.routeOf(packet.sender);
-    if (!drops && !this.isLossy(packet.time, packet.time + route.longest)) return null;
+    if (!drops && packet.scope >= route.deepest && !this.isLossy(packet.time, packet.time + route.longest)) return null;
     const crossed = new Uint8Array(route.link.length);
     const dropped = [];
+    const ended = [];
     for (let at = 0; at < route.link.length; at++) {
       const before = route.edgeTo[route.near[at]];
       if (before >= 0 && !crossed[before]) continue;
       const [link, tick] = [route.link[at], packet.time + route.begin[at]];
-      if (drops?.has(link) || this.isOut(link, tick) || this.losses.take(link, packet, tick)) dropped.push(at);
+      if (route.hops[route.near[at]] >= packet.scope) ended.push(at);
+      else if (drops?.has(link) || this.isOut(link, tick) || this.losses.take(link, packet, tick)) dropped.push(at);
       else crossed[at] = 1;
     }
-    return dropped.length ? { dropped, crossed } : null;
+    return dropped.length || ended.length ? { dropped, ended, crossed } : null;
   }
 }
 

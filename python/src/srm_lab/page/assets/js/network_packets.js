@@ -1,4 +1,4 @@
-// The packets of the network's picture: those that are on a link, and those that a link took out.
+// The packets of the network's picture: those that are on a link, those that a link took out, and where scopes end.
 
 const MOST_LABELLED_PACKETS = 8;
 const MOST_EDGED = 150;
@@ -62,6 +62,7 @@ class NetworkPackets {
       if (isOn && (!fate || fate.crossed[at])) this._move(packet, at, (age - begin[at]) / (end[at] - begin[at]));
     }
     for (const at of fate?.dropped ?? []) this._dropped(context, packet, at, age);
+    for (const at of fate?.ended ?? []) this._ended(context, packet, at, age, at === fate.ended[0]);
   }
 
   /** Where a packet is, a part of the way along a place of its route: from rim to rim, so that it hides no number. */
@@ -99,6 +100,21 @@ class NetworkPackets {
     drawPacket(context, view.theme, packet.kind, x, y, r);
     cross(context, x, y, r + 3, view.theme.cross, 3);
     if (view.radius >= 4 && this.lanes[packet.id] === 0) view.note(context, near[at], far[at], 1, "dropped");
+  }
+
+  /** A packet that goes no further: a bar across the link that it does not take, beside the node to which it came. */
+  _ended(context, packet, at, age, isFirst) {
+    const { view } = this;
+    const { near, far, begin, end } = this.network.routeOf(packet.sender);
+    const since = age - begin[at];
+    if (since < 0 || since > Math.max(end[at] - begin[at], 1)) return;
+    const turn = Math.atan2(view.y[far[at]] - view.y[near[at]], view.x[far[at]] - view.x[near[at]]);
+    const r = Math.max(4, Math.min(9, view.radius * 0.7));
+    const place = this._on(packet, at, 0);
+    endBar(context, view.theme, packet.kind, place, turn, r);
+    if (!isFirst || view.radius < 4) return;
+    const style = { font: `bold 12px ${TEXT_FONT}`, colour: view.theme.kinds[packet.kind] };
+    view.labels.add(context, "scope ends", placesAround(place, view.isSteep(near[at], far[at]), 1, 2 * r), style);
   }
 
   /** The operations that packets are about, above them, or left of them on steep links; where several meet, once. */

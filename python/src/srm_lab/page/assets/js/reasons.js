@@ -32,6 +32,7 @@ class Reasons {
       planned: membersWith(RESULT.plan),
       busy: membersWith(RESULT.busy),
       resting: membersWith(RESULT.rest),
+      heard: heard.length,
       droppedAt: this.droppedAt(packet),
     };
   }
@@ -52,7 +53,18 @@ class Reasons {
     const stopped = this.history.timers
       .filter((timer) => timer.kind === KIND.repair && timer.name === this.name && rows.has(timer.end))
       .map((timer) => timer.member);
-    return { packet, fixed, stopped, duplicates: heard.length - fixed.length, droppedAt: this.droppedAt(packet) };
+    return { packet, fixed, stopped, heard: heard.length, duplicates: heard.length - fixed.length,
+      step: stepOf(packet, this.history.steps), droppedAt: this.droppedAt(packet) };
+  }
+
+  /** Whether some request or repair went a number of links only. */
+  get isLocal() {
+    return [...this.requests, ...this.repairs].some(({ packet }) => packet.scope < Infinity);
+  }
+
+  /** The members that heard packets. */
+  hearersOf(packets) {
+    return new Set(packets.flatMap(({ packet }) => Array.from(this.trace.hearersOf(packet), (row) => this.trace.member[row])));
   }
 
   /** The links at which a packet was dropped. */

@@ -56,7 +56,7 @@ class Rules {
       case RESULT.rest: return [this._rest(row, name)];
       case RESULT.busy: return [this._busy(row, name)];
       case RESULT.plan:
-        return [`It holds ${name}, no rest is on, and no repair timer is pending: it sets one for the requester.`,
+        return [`It holds ${name}, ${this._noRest(row)}, and no repair timer is pending: it sets one for the requester.`,
           this._timer(row, KIND.repair)];
       case RESULT.hold: return [this._hold(row, name)];
       case RESULT.back:
@@ -90,14 +90,46 @@ class Rules {
     const rest = this._restAt(row);
     const until = rest ? ` until tick ${grouping(rest.to)}` : "";
     return `It holds ${name}, but sent or heard a repair of it a short while ago: the name rests${until}, and the request `
-      + "goes unanswered.";
+      + `goes unanswered.${rest ? this._serving(rest, this._asked(row)) : ""}`;
+  }
+
+  /** Why no rest keeps a member from planning a repair. */
+  _noRest(row) {
+    const rest = this._restAt(row);
+    if (!rest || this.trace.time[row] >= rest.to) return "no rest is on";
+    const to = scopeInWords(this._asked(row).width);
+    return `its rest up to ${grouping(rest.to)} does not count, since the repair that it comes from may not reach all who heard `
+      + `this request, which goes ${to}`;
+  }
+
+  /** Who asks in a row that hears a request, and how far. */
+  _asked(row) {
+    const { sender, scope } = this.trace.packets[this.trace.packet[row]];
+    return { requester: sender, width: scope };
+  }
+
+  /** How the repair that a rest comes from serves a request; nothing where it went to all. */
+  _serving(rest, asked) {
+    const { mark, member } = rest;
+    if (mark.left === Infinity) return "";
+    const repair = `repair ${this.trace.packetText(mark.packet)}`;
+    return covers(this.network, mark, member, asked) ? ` The ${repair} reaches all who may have heard this request.`
+      : ` The ${repair} was meant for a request of member ${asked.requester} that went at least as far.`;
   }
 
   _busy(row, name) {
     const timer = this._timerAt(row, KIND.repair);
     const told = timer
-      ? ` It was set at ${grouping(this.trace.time[timer.set])} for member ${timer.requester}${this._due(timer)}.` : "";
-    return `It holds ${name}, and its repair timer is pending already, which stays as it is.${told}`;
+      ? ` It was set at ${grouping(this.trace.time[timer.set])} for member ${this._firstAsked(timer)}${this._due(timer)}.` : "";
+    const isTaken = timer?.takenOver.some((it) => it.row === row);
+    if (!isTaken) return `It holds ${name}, and its repair timer is pending already, which stays as it is.${told}`;
+    return `It holds ${name}, and its repair timer is pending already. This request goes further, `
+      + `${scopeInWords(this._asked(row).width)}: the timer now answers it, and is due as before.${told}`;
+  }
+
+  /** For whom a repair timer was set. */
+  _firstAsked(timer) {
+    return timer.takenOver.length ? timer.takenOver[0].requester : timer.requester;
   }
 
   _hold(row, name) {
@@ -111,11 +143,31 @@ class Rules {
   _sentCase(row, name) {
     switch (this.trace.cause[row]) {
       case CAUSE.ask:
-        return [`Its request timer expired, and it still lacks ${name}: it asks all members, and backs off.`,
+        return [`Its request timer expired, and it still lacks ${name}: it asks ${this._whom(row)}, and backs off.`,
           this._timer(row, KIND.request)];
-      case CAUSE.answer: return [`Its repair timer expired: it sends ${name} to all. ${this._restBegins(row)}`];
+      case CAUSE.answer: return [`Its repair timer expired: ${this._answer(row, name)} ${this._restBegins(row)}`];
       case CAUSE.draw: return ["It draws the next operation of its page, holds it, and sends it as data."];
       default: return ["It tells of each page that it knows the highest number."];
+    }
+  }
+
+  /** Whom a request asks. */
+  _whom(row) {
+    const { scope } = this.trace.packets[this.trace.sent[row]];
+    return scope === Infinity ? "all members" : `those within ${counted(scope, "link")}`;
+  }
+
+  /** How far a repair goes, and why. */
+  _answer(row, name) {
+    const { scope, requester, width, sender } = this.trace.packets[this.trace.sent[row]];
+    const asked = `the request of member ${requester}, which went ${scopeInWords(width)}`;
+    switch (stepOf(this.trace.packets[this.trace.sent[row]], this.history.steps)) {
+      case STEP.all: return `it sends ${name} to all.`;
+      case STEP.one:
+        return `it sends ${name} ${scopeInWords(scope)}, which is as far as ${asked}, and the `
+          + `${counted(scope - width, "link")} between both.`;
+      case STEP.first: return `it sends ${name} ${scopeInWords(scope)}, as far as ${asked}; that one sends it on.`;
+      default: return `it sends on ${name}, which it asked for, ${scopeInWords(scope)}, as far as its request went: the second step.`;
     }
   }
 
@@ -132,22 +184,33 @@ class Rules {
 
   _heardRepair(row) {
     if (this._isListener(row)) return [];
-    const ended = this._timersOf(row, KIND.repair).some((timer) => timer.end === row);
-    return [`${this._restBegins(row)}${ended ? " Its own repair timer ends: the repair is sent already." : ""}`];
+    const timers = this._timersOf(row, KIND.repair);
+    const ended = timers.some((timer) => timer.end === row);
+    const stays = timers.find((timer) => timer.set < row && (timer.end < 0 || timer.end > row));
+    return [
+      `${this._restBegins(row)}${ended ? " Its own repair timer ends: the repair is sent already." : ""}`,
+      stays && !stays.isSecond ? "Its own repair timer stays: this repair may not reach all who heard the request of member "
+        + `${stays.requester}.` : "",
+      stays?.isSecond ? "It sends the repair on itself already: its second step stays." : "",
+      timers.some((timer) => timer.set === row && timer.isSecond)
+        ? "The repair answers its own request: a tick later it sends it on, as far as the request went." : "",
+    ];
   }
 
   _restBegins(row) {
     const rest = this._restsOf(row).find((it) => it.begin === row);
     if (!rest) return "";
     const ticks = counted(rest.to - rest.from, "tick");
-    return `The name rests for ${ticks}, up to ${grouping(rest.to)}: requests for it go unanswered.`;
+    const which = rest.mark.left === Infinity ? "requests for it" : "requests for it that this repair serves";
+    return `The name rests for ${ticks}, up to ${grouping(rest.to)}: ${which} go unanswered.`;
   }
 
   _sent(row) {
     const packet = this.trace.packets[this.trace.sent[row]];
     const links = this.network.linksThatTookOut(packet);
     const dropped = links.length ? ` It is dropped at ${links.length > 1 ? "links" : "link"} ${ranges(links)}.` : "";
-    return `It sends its packet ${this.trace.packetText(packet)} to all members.${dropped}`;
+    const far = packet.scope === Infinity ? "to all members" : scopeInWords(packet.scope);
+    return `It sends its packet ${this.trace.packetText(packet)} ${far}.${dropped}`;
   }
 
   /** The timer that a row set. */

@@ -34,7 +34,9 @@ class SequencePackets {
       if (way.y1 < view.top - 40 || way.y0 > view.surface.height) continue;
       this._line(packet, way, this._shift(near, member, way.begin), row);
     }
-    for (const at of this.network.fateOf(packet)?.dropped ?? []) this._dropped(packet, route, at, behind);
+    const fate = this.network.fateOf(packet);
+    for (const at of fate?.dropped ?? []) this._dropped(packet, route, at, behind);
+    for (const at of fate?.ended ?? []) this._ended(packet, route, at, behind);
   }
 
   /** For each node of the route the last shown member before it (`before`), and up to it (`upTo`), or null. */
@@ -105,6 +107,23 @@ class SequencePackets {
     strokeLine(context, ends, view.theme.kinds[packet.kind], 1.6, DASHES[packet.kind]);
     cross(context, x, y, 5, view.theme.cross, 2.5);
     view.hits.push({ ax: way.x0, ay: way.y0 + shift, x, y, row: packet.row, packet, link: route.link[at] });
+    this.left--;
+  }
+
+  /** A packet that goes no further: its line to where its scope ends, and a bar across it. */
+  _ended(packet, route, at, behind) {
+    const { view, context } = this;
+    const before = behind.upTo.get(route.near[at]);
+    const nearest = this._nearestBehind(route, at);
+    if (before === null || nearest === null) return;
+    const way = this._way(packet, route, before, nearest);
+    if (way.y1 < view.top - 40 || way.y0 > view.surface.height) return;
+    const part = Math.max((packet.time + route.begin[at] - way.begin) / (way.end - way.begin), Math.min(0.3, 14 / view.step));
+    const shift = this._shift(before, nearest, way.begin);
+    const [x, y] = [way.x0 + part * (way.x1 - way.x0), way.y0 + part * (way.y1 - way.y0) + shift];
+    strokeLine(context, [[way.x0, way.y0 + shift], [x, y]], view.theme.kinds[packet.kind], 1.6, DASHES[packet.kind]);
+    endBar(context, view.theme, packet.kind, [x, y], Math.atan2(way.y1 - way.y0, way.x1 - way.x0), 5);
+    view.hits.push({ ax: way.x0, ay: way.y0 + shift, x, y, row: packet.row, packet, isEnd: true });
     this.left--;
   }
 

@@ -330,6 +330,6 @@ class SequenceView {
     const hit = nearestOf(this.hits ?? [], far, 7);
     if (!hit) return null;
     const kind = hit.link === undefined && hit.row >= 0 ? "row" : "packet";
-    return { kind, row: hit.row, packet: hit.packet?.id, link: hit.link, timer: hit.timer };
+    return { kind, row: hit.row, packet: hit.packet?.id, link: hit.link, timer: hit.timer, isEnd: hit.isEnd };
   }
 }

@@ -8,7 +8,8 @@ const tripsText = d3.format(".3~f");
 /** The story of an operation's loss: sentences. */
 function storyOf(reasons) {
   if (!reasons.losses.length) return ["Nobody lost it."];
-  return [lossSentence(reasons), requestSentence(reasons), repairSentence(reasons), recoverySentence(reasons)].filter(Boolean);
+  return [lossSentence(reasons), requestSentence(reasons), repairSentence(reasons), secondStepSentence(reasons),
+    recoverySentence(reasons), hearingSentence(reasons)].filter(Boolean);
 }
 
 function lossSentence({ losses, trace }) {
@@ -22,16 +23,39 @@ function requestSentence({ requests }) {
   const { packet, suppressed } = first;
   const heldBack = suppressed.length ? `, which suppressed the request of ${membersInWords(suppressed)}` : "";
   const more = requests.length > 1 ? `; ${counted(requests.length - 1, "more request")} followed` : "";
-  return `Member ${packet.sender} asked first, at tick ${grouping(packet.time)}${heldBack}${more}.`;
+  return `Member ${packet.sender} asked first, at tick ${grouping(packet.time)}${farInWords(packet)}${heldBack}${more}.`;
 }
 
 function repairSentence({ repairs, plans, requests }) {
   if (!repairs.length) return requests.length ? "Nobody answered." : "";
   const [{ packet }] = repairs;
-  const planners = Array.from(new Set(plans.map((plan) => plan.member)));
+  const planners = Array.from(new Set(plans.filter((plan) => !plan.isSecond).map((plan) => plan.member)));
   const planned = planners.length > 1 ? `${capital(membersInWords(planners))} planned a repair, and member` : "Member";
-  const more = repairs.length > 1 ? `; ${counted(repairs.length - 1, "more repair")} followed` : "";
-  return `${planned} ${packet.sender} answered first, at tick ${grouping(packet.time)}${more}.`;
+  const later = repairs.slice(1).filter(({ step }) => step !== STEP.second).length;
+  const more = later ? `; ${counted(later, "more repair")} followed` : "";
+  return `${planned} ${packet.sender} answered first, at tick ${grouping(packet.time)}${farInWords(packet)}${more}.`;
+}
+
+/** Who sent a repair on. */
+function secondStepSentence({ repairs }) {
+  const second = repairs.filter(({ step }) => step === STEP.second).map(({ packet }) => packet);
+  if (!second.length) return "";
+  const sender = membersInWords(Array.from(new Set(second.map((packet) => packet.sender))));
+  return `In a second step ${sender} sent it on, ${ticksInWords(second.map((packet) => packet.time))}${farInWords(second[0])}.`;
+}
+
+/** How many members heard what the recovery took, where not all were to. */
+function hearingSentence(reasons) {
+  if (!reasons.isLocal) return "";
+  const { requests, repairs, history } = reasons;
+  const all = grouping(history.network.members.length);
+  const asked = `${grouping(reasons.hearersOf(requests).size)} of ${all} members heard a request`;
+  return repairs.length ? `${asked}, and ${grouping(reasons.hearersOf(repairs).size)} a repair.` : `${asked}.`;
+}
+
+/** How far a packet went that did not go to all. */
+function farInWords({ scope }) {
+  return scope === Infinity ? "" : `, ${scopeInWords(scope)}`;
 }
 
 function recoverySentence(reasons) {

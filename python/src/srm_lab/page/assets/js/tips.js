@@ -32,7 +32,7 @@ class Tips {
 }
 
 /** What lies under a pointer: a member, a link, an event, a packet or a timer. */
-function tipText({ kind, member, link, row, packet, timer }, { states, network, trace, history }, rules) {
+function tipText({ kind, member, link, row, packet, timer, isEnd }, { states, network, trace, history }, rules) {
   if (kind === "member") {
     const { role, node } = network.members[member];
     return `Member ${member}, ${role} at node ${node}\n${STATE_WORDS[STATES[states.of(member)]]}`;
@@ -43,6 +43,6 @@ function tipText({ kind, member, link, row, packet, timer }, { states, network, 
   if (packet === undefined) return event;
   const it = trace.packets[packet];
   const name = it.name >= 0 ? ` of ${trace.nameText(it.name)}` : "";
-  const told = link === undefined ? event : `dropped at link ${link}`;
+  const told = isEnd ? `goes no further: it is sent ${scopeInWords(it.scope)}` : link === undefined ? event : `dropped at link ${link}`;
   return `${KINDS[it.kind]}${name}, packet ${trace.packetText(it)}, sent at ${grouping(it.time)}\n${told}`;
 }

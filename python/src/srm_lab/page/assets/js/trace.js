@@ -27,6 +27,9 @@ class Trace {
       name: columns.packetName[id] - 1,
       time,
       row: columns.packetRow[id] - 1,
+      scope: columns.packetScope[id] || Infinity,
+      requester: columns.packetRequester[id] - 1,
+      width: columns.packetWidth[id] || Infinity,
     }));
     this.sent = new Int32Array(this.length).fill(-1);
     for (const packet of this.packets) if (packet.row >= 0) this.sent[packet.row] = packet.id;

@@ -74,11 +74,18 @@ class Why {
       listOf([
         ["sent", "at tick ", refs.sendingOf(packet), " by member ", refs.member(packet.sender)],
         packet.name >= 0 ? ["operation", refs.name(packet.name)] : null,
+        packet.scope < Infinity ? ["goes", this._reach(packet)] : null,
         ["dropped", ...(links.length ? ["at ", ...refs.links(links)] : ["nowhere"])],
         ["heard by", counted(hearers.length, "member")],
         ...results.map(([result, rows]) => [result, refs.members(rows.map((row) => trace.member[row]))]),
       ]),
     ];
+  }
+
+  /** How far a packet goes, and as which step of a recovery. */
+  _reach(packet) {
+    const step = stepOf(packet, this.model.history.steps);
+    return scopeInWords(packet.scope) + (packet.kind === KIND.repair ? `, ${STEPS[step]}` : "");
   }
 
   _link(link) {

@@ -54,15 +54,22 @@ class WhyLoss {
     const { refs } = this;
     const { requests } = reasons;
     if (!requests.length) return [];
-    const heads = ["tick", "member", "packet", "suppressed", "backed off", "ignored by", "made plan",
+    const heads = ["tick", "member", "packet", "links far", "heard by", "suppressed", "backed off", "ignored by", "made plan",
       "plan already", "rested", "dropped at"];
     const lines = requests.map((request) => [
       refs.sendingOf(request.packet), refs.member(request.packet.sender), refs.packet(request.packet),
+      ...this._reach(reasons, request),
       ...[request.suppressed, request.backedOff.filter((member) => !request.suppressed.includes(member)), request.ignored,
         request.planned, request.busy, request.resting].map((it) => refs.members(it)),
       refs.links(request.droppedAt),
     ]);
     return [element("h3", {}, `Who asked: ${counted(requests.length, "request")}`), smallTable(heads, lines)];
+  }
+
+  /** How many links a packet went, and how many members heard it; of an operation all of whose packets went to all, nothing. */
+  _reach(reasons, { packet, heard }) {
+    if (!reasons.isLocal) return ["", ""];
+    return [packet.scope === Infinity ? "to all" : grouping(packet.scope), counted(heard, "member")];
   }
 
   _plans(reasons) {
@@ -74,19 +81,29 @@ class WhyLoss {
       const expiry = this.model.history.expiryOf(plan);
       const how = plan.how === "expired" ? "answered at " : `${plan.how} at `;
       const end = plan.end < 0 ? "pending at the end" : [how, refs.row(plan.end)];
-      return [refs.member(plan.member), refs.row(plan.set), refs.member(plan.requester),
+      return [refs.member(plan.member), refs.row(plan.set), this._answered(plan),
         spanText(plan.least, plan.most), expiry === null ? "unknown" : grouping(expiry), end];
     });
     return [element("h3", {}, `Who planned a repair: ${counted(plans.length, "timer")}`), smallTable(heads, lines)];
+  }
+
+  /** For whom a repair was planned: in a second step for all who heard the request, or for one after the other. */
+  _answered(plan) {
+    const { refs } = this;
+    if (plan.isSecond) return "second step";
+    const before = plan.takenOver.flatMap(({ requester }) => [refs.member(requester), ", then "]);
+    return [...before, refs.member(plan.requester)];
   }
 
   _repairs(reasons) {
     const { refs } = this;
     const { repairs } = reasons;
     if (!repairs.length) return [];
-    const heads = ["tick", "member", "packet", "recovered", "stopped the timers of", "heard in vain", "dropped at"];
+    const heads = ["tick", "member", "packet", "how", "links far", "heard by", "recovered", "stopped the timers of", "heard in vain",
+      "dropped at"];
     const lines = repairs.map((repair) => [
       refs.sendingOf(repair.packet), refs.member(repair.packet.sender), refs.packet(repair.packet),
+      reasons.isLocal ? STEPS[repair.step] : "", ...this._reach(reasons, repair),
       refs.members(repair.fixed), refs.members(repair.stopped), counted(repair.duplicates, "member"),
       refs.links(repair.droppedAt),
     ]);

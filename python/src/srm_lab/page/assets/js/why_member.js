@@ -80,7 +80,7 @@ class WhyMember {
     const known = (tick) => (tick === null ? "unknown" : grouping(tick));
     return [
       refs.name(timer.name),
-      isRequest ? "ask" : ["repair for ", refs.member(timer.requester)],
+      isRequest ? "ask" : timer.isSecond ? "send the repair on" : ["repair for ", refs.member(timer.requester)],
       refs.row(timer.set),
       spanText(timer.least, timer.most),
       known(history.expiryOf(timer)),
@@ -95,9 +95,18 @@ class WhyMember {
     const rests = (history.restsOf.get(member) ?? []).filter((rest) => rest.begin < states.rows
       && states.tick < rest.to && (rest.cut < 0 || rest.cut >= states.rows));
     if (!rests.length) return [];
-    const heads = ["operation", "since", "answers no request before"];
-    const lines = rests.map((rest) => [this.refs.name(rest.name), this.refs.row(rest.begin), grouping(rest.to)]);
+    const heads = ["operation", "since", "answers no request before", "but such as"];
+    const lines = rests.map((rest) => [this.refs.name(rest.name), this.refs.row(rest.begin), grouping(rest.to),
+      this._unserved(rest)]);
     return [element("h3", {}, "Rests"), smallTable(heads, lines)];
+  }
+
+  /** Which requests a member answers in spite of a rest. */
+  _unserved({ mark, member }) {
+    if (mark.left === Infinity) return "";
+    const own = mark.requester === member ? "" : `, unless they are of member ${mark.requester} and at most `
+      + `${counted(mark.width, "link")} wide`;
+    return `go beyond ${counted(mark.left, "link")} from here${own}`;
   }
 
   _lanes(member, role) {
