@@ -69,7 +69,11 @@ fn a_scenario_answers_how_members_recover(rt: HostRuntime) -> Result<(), Fail> {
         (5, "widen = 0\ntries = 1\nsteps = 2\n", (0, 1, 2)),
     ] {
         let s = scenario(rt.alloc(), version, lines)?.share()?;
-        assert_eq!(rt; (s.widen(), s.tries(), s.steps()), want, "version {version}: {lines}");
+        assert_eq!(rt;
+            (s.widen(), s.tries(), s.steps()),
+            want,
+            "version {version}: {lines}"
+        );
     }
     Ok(())
 }
@@ -103,10 +107,21 @@ fn a_loss_in_bursts_takes_whole_slots(rt: HostRuntime) -> Result<(), Fail> {
 #[test]
 fn the_longest_burst_takes_all_or_nothing(rt: HostRuntime) -> Result<(), Fail> {
     let all = "loss = [{ link = 0, rate = 500000, burst = 1099511627776 }]\n";
-    for (seed, want) in [(0, true), (1, true), (2, false), (3, false), (4, true), (6, true)] {
+    for (seed, want) in [
+        (0, true),
+        (1, true),
+        (2, false),
+        (3, false),
+        (4, true),
+        (6, true),
+    ] {
         let s = scenario(rt.alloc(), 5, all)?.with_seed(seed);
         for (count, at) in [(0, 0), (9, 36), (70_000, 199)] {
-            assert_eq!(rt; takes_out(&s, count, 0, at), want, "seed {seed}, packet {count} at {at}");
+            assert_eq!(rt;
+                takes_out(&s, count, 0, at),
+                want,
+                "seed {seed}, packet {count} at {at}"
+            );
         }
     }
     Ok(())

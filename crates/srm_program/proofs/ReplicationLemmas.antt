@@ -93,8 +93,28 @@ rows_are_lines Scopes p net rows totals =
     let d = decimal_is_plain in
     let t = time_is_plain in
     let l = local_is_plain in
-    mapped_lines _ (λ e. (d _, (d _, (cause_is_plain _, (name_is_plain _, (packet_is_plain _, (t _, (l (λ k. k.requester) _,
-    (l (λ k. k.width) _, (d _, tt)))))))))) _
+    mapped_lines _ (λ e. (
+      d _,
+      (
+        d _,
+        (
+          cause_is_plain _,
+          (
+            name_is_plain _,
+            (
+              packet_is_plain _,
+              (
+                t _,
+                (
+                  l (λ k. k.requester) _,
+                  (l (λ k. k.width) _, (d _, tt)),
+                ),
+              ),
+            ),
+          ),
+        ),
+      ),
+    )) _
 
 pub columns_are_line : (show : Show) → IsLine (columns_shown show)
 columns_are_line Trace = (refl, (refl, (refl, (refl, (refl, (refl, (refl, tt)))))))
