@@ -147,8 +147,8 @@ impl<M: Participant> Cell<M> {
         }
     }
 
-    /// As [`Cell::step`], where the row is put behind others: a row is large, and so is made once where it is to stand. Tells whether
-    /// there was an event.
+    /// As [`Cell::step`], where the row is put behind others: a row is large, and is made where it is to stand. Tells whether there was
+    /// an event.
     ///
     /// # Errors
     /// As of [`Cell::step`]. Nothing is known of the rows then.

@@ -60,7 +60,7 @@ impl CompactBody {
     /// A copy of what a packet of this sender carries. Only those of session messages and of repairs with a scope allocate.
     ///
     /// # Errors
-    /// Memory was refused, of which only these want any.
+    /// Memory for a box was refused.
     pub(crate) fn new(alloc: Global, sender: u16, body: &Body) -> Result<Self, AllocError>
         ensures sender { IfOk result (λ b. sender_of b ≡ sender) }
         ensures body { IfOk result (λ b. body_of b ≡ body.now) }

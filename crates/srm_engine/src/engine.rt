@@ -190,8 +190,8 @@ impl<'a, M: Participant> Engine<'a, M> {
 
     // Every member to which a packet, of which this is the spread, has a flight is handed it.
     fn deliver(&mut self, packet: &Packet, spread: &Spread) -> Result<(), AllocError>
-        requires spread { IsSpread self.old.session.net.now self.old.session.scenario.now.drops packet.now.id packet.now.sent (scope_of packet.now.body)
-            spread.now }
+        requires spread { IsSpread self.old.session.net.now self.old.session.scenario.now.drops packet.now.id packet.now.sent
+            (scope_of packet.now.body) spread.now }
         requires may { MayDeliver M.plain packet.now self.old }
         ensures session { self.new.session ≡ self.old.session }
         ensures tally { self.new.tally ≡ self.old.tally }

@@ -63,7 +63,7 @@ serves f (Some k) who (Some width) = is_meant f k who width || is_around f k who
 abbrev pub rests_for : ℕ → Fixed → Resting → ℕ → Option ℕ → Bool
 rests_for at f rest who width = nat_lt at rest.until && serves f rest.mark who width
 
--- whether a repair by this member is a duplicate, after such a rest: the member rests for the request that it answers,
+-- whether a repair by that member is a duplicate, after such a rest: this member rests for the request that it answers,
 -- and it is no second step
 abbrev pub is_duplicate : ℕ → Fixed → Resting → ℕ → Option Local → Bool
 is_duplicate at f rest who None = rests_for at f rest who None

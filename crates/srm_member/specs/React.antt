@@ -197,7 +197,7 @@ abbrev pub with_mark : Name → Option Mark → MemberState → MemberState
 with_mark n None m = record m { marks = without n m.marks }
 with_mark n (Some k) m = record m { marks = put name_cmp n k m.marks }
 
--- after a repair by this member, with this mark
+-- after a repair by that member, with this mark
 abbrev pub with_rest : ℕ → Name → ℕ → Option Mark → MemberState → MemberState
 with_rest at n who mark m = with_mark n mark (record m { rests = put name_cmp n (at + 3 * base m n who) m.rests })
 
@@ -229,14 +229,14 @@ with_timer_ended at n mark r m =
     then record m { repairs = without n m.repairs; repair_interval = interval_after_timer at r m }
     else m
 
--- a repair by this member is a duplicate after such a rest, or is not
+-- a repair by that member is a duplicate after such a rest, or is not
 abbrev pub with_duplicate_repair : ℕ → Resting → ℕ → Option Local → MemberState → MemberState
 with_duplicate_repair at rest who local m = record m {
   repair_interval =
       if is_duplicate at m.fixed rest who local then hear_duplicate m.repair_interval else m.repair_interval;
 }
 
--- a repair by this member ends a pending repair timer or, where there is none, may be a duplicate
+-- a repair by that member ends a pending repair timer or, where there is none, may be a duplicate
 abbrev pub with_repair_seen :
     ℕ → Name → ℕ → Option Local → Resting → Option Repairing → MemberState → MemberState
 with_repair_seen at n who local rest (Some r) m = with_timer_ended at n (mark_from m.fixed who local) r m

@@ -34,11 +34,14 @@ pub fn worked_triplings()
 /// Starts and averages of members that see a loss and then a later one, as worked by hand.
 pub fn worked_intervals()
     ensures alone { let i = narrow 2000 500 2000 asked_alone in (i.start ≡ 1950) × (i.average_delay ≡ Some 1000) }
-    ensures alone_again { let i = narrow 2000 500 2000 asked_alone_twice in (i.start ≡ 1900) × (i.average_duplicates ≡ Some 0) × (i.average_delay ≡ Some 993) }
+    ensures alone_again { let i = narrow 2000 500 2000 asked_alone_twice in
+        (i.start ≡ 1900) × (i.average_duplicates ≡ Some 0) × (i.average_delay ≡ Some 993) }
     ensures answers { let i = narrow 1500 500 2000 answered_together in (i.start ≡ 1450) × (i.average_delay ≡ Some 750) }
-    ensures answers_again { let i = narrow 1500 500 2000 answered_together_twice in (i.start ≡ 1400) × (i.average_duplicates ≡ Some 1000) × (i.average_delay ≡ Some 743) }
+    ensures answers_again { let i = narrow 1500 500 2000 answered_together_twice in
+        (i.start ≡ 1400) × (i.average_duplicates ≡ Some 1000) × (i.average_delay ≡ Some 743) }
     ensures hears_answers { let i = narrow 1500 500 2000 heard_both_answer in (i.start ≡ 1600) × (i.average_delay ≡ Some 625) }
     ensures asks { let i = narrow 1000 500 2000 asked_together in (i.start ≡ 950) × (i.average_delay ≡ Some 500) }
-    ensures asks_again { let i = narrow 1000 500 2000 asked_together_twice in (i.start ≡ 900) × (i.average_duplicates ≡ Some 1000) × (i.average_delay ≡ Some 493) }
+    ensures asks_again { let i = narrow 1000 500 2000 asked_together_twice in
+        (i.start ≡ 900) × (i.average_duplicates ≡ Some 1000) × (i.average_delay ≡ Some 493) }
     ensures hears_requests { let i = narrow 1000 500 2000 heard_both_ask in (i.start ≡ 1100) × (i.average_delay ≡ Some 500) }
 {}

@@ -236,7 +236,7 @@ impl Net {
     }
 
     /// Whether a packet of this scope, in hops, that is sent at the tick `sent` reaches member `m`: the member is within the scope, and no
-    /// link of the way from its sender is listed for it, or out when it comes there. It reaches its sender.
+    /// link of the way from its sender [takes it out](Drops::takes_out) when it comes there. It reaches its sender.
     pub fn reaches(
         &self,
         drops: &Drops,
@@ -258,8 +258,8 @@ impl Net {
     }
 
     /// Whether a packet of this scope that is sent at the tick `sent` crosses a link: the link is on the way from its sender to some
-    /// member, present or not, as far as the scope goes, and neither it nor an earlier link of that way is listed for the packet, or out
-    /// when it comes there.
+    /// member, present or not, as far as the scope goes, and neither it nor an earlier link of that way
+    /// [takes it out](Drops::takes_out) when it comes there.
     pub fn crosses(
         &self,
         drops: &Drops,
@@ -277,8 +277,8 @@ impl Net {
     }
 
     /// Whether a packet of this scope that is sent at the tick `sent` is dropped at a link: the link is on the way from its sender to some
-    /// member, present or not, as far as the scope goes, it is listed for the packet, or out when it comes there, and no earlier link of
-    /// that way is.
+    /// member, present or not, as far as the scope goes, and is the first of that way that [takes it out](Drops::takes_out) when it
+    /// comes there.
     pub fn drops_at(
         &self,
         drops: &Drops,

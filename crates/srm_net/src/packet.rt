@@ -47,11 +47,11 @@ pub struct Heard {
 /// What a repair that answers a request with a scope carries besides (Floyd et al. 1997, local recovery).
 #[derive(Clone, Copy, Debug, PartialEq, Eq)]
 pub struct Local {
-    /// How many hops the repair goes.
+    /// How many hops the repair goes: 1 to 131,069, the width plus the hops to the requester at most.
     pub scope: u32,
     /// The member whose request it answers.
     pub requester: u16,
-    /// The width: the scope of that request, in hops.
+    /// The width: the scope of that request, 1 to 65,535 hops.
     pub width: u16,
 }
 
@@ -69,7 +69,7 @@ pub enum Body {
     Request {
         /// The name that is asked for.
         name: Name,
-        /// How many hops it goes, from 1; none: to all.
+        /// How many hops it goes, 1 to 65,535; none: to all.
         scope: Option<u16>,
     },
     /// A drawing operation, sent again by whoever holds it.

@@ -27,7 +27,8 @@ impl Model for Spread {
 
     ghost Value = { PlainSpread };
 
-    ghost view = { λ s. record { sender = s.sender; scope = s.scope; comes = comes_in s.nodes s.arrivals; arrivals = s.arrivals; hops = s.hops } };
+    ghost view = { λ s.
+        record { sender = s.sender; scope = s.scope; comes = comes_in s.nodes s.arrivals; arrivals = s.arrivals; hops = s.hops } };
 }
 
 impl Spread {
@@ -56,7 +57,8 @@ impl Spread {
         arrivals: Vec<Option<u64>>,
         hops: Option<Sequence<u16>>,
     ) -> Self
-        ensures { result ≡ record { sender = sender; scope = scope; comes = map is_some arrivals.items; arrivals = Some arrivals.items; hops = hops } }
+        ensures { result
+            ≡ record { sender = sender; scope = scope; comes = map is_some arrivals.items; arrivals = Some arrivals.items; hops = hops } }
     {
         Spread {
             sender,

@@ -53,8 +53,8 @@ fn scopes_of(alloc: Global, rows: &[Row]) -> Result<MemberScopes, AllocError>
     Ok(all)
 }
 
-/// The same of orderly rows, as those of every run are, of which this was kept of each member, as
-/// [`FindScopes`](crate::find_scopes::FindScopes) keeps it.
+/// The same of orderly rows, as those of every run are, from what [`FindScopes`](crate::find_scopes::FindScopes) kept of each
+/// member's rows.
 ///
 /// # Errors
 /// `NoMemory`, also where a count would be too great for its number.

@@ -26,7 +26,7 @@ pub struct Draft {
     pub constants: Constants,
     /// How far they are adapted.
     pub room: Room,
-    /// How members ask again, and how repairs come back, where requests have scopes.
+    /// The numbers of local recovery.
     pub recovery: Recovery,
     /// The topology that the table names.
     pub topology: Option<Topology>,

@@ -48,7 +48,7 @@ pub(crate) struct Numbers {
     pub(crate) room: Room,
     /// The scope of members for which none is given: 0 to 65,535 hops.
     pub(crate) scope: u16,
-    /// How members ask again, and how repairs come back, where requests have scopes.
+    /// The numbers of local recovery.
     pub(crate) recovery: Recovery,
 }
 

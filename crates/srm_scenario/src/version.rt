@@ -25,7 +25,8 @@ impl Version {
 
     /// The version of this number. Where there is none of this number, it is the first.
     pub fn of(number: u64) -> Version
-        ensures { result ≡ (if number == 5 then Five else if number == 4 then Four else if number == 3 then Three else if number == 2 then Two else One) }
+        ensures { result ≡ (if number == 5 then Five else if number == 4 then Four else if number == 3 then Three
+            else if number == 2 then Two else One) }
     {
         match number {
             5 => Version::Five,

@@ -1,4 +1,5 @@
-//! Worked scenarios, whose whole traces and crossings the checker computes from the definitions; of some, what their members end with, or the constants of their timers at the end.
+//! Worked scenarios, whose whole traces and crossings the checker computes from the definitions; of some, what their members end with, or
+//! the constants of their timers at the end.
 #![tactic(auto)]
 
 ghost use Rattle.std.specs.Prelude.{◌≡◌};
