@@ -11,7 +11,7 @@ use Rattle.srm_cell.specs.Setting.{setting_of}
 use Rattle.srm_interfaces.specs.Watches.{KeepMembers}
 use Rattle.srm_interfaces.specs.declared.watch_sink.WatchSink.{WatchSink}
 use Rattle.srm_interfaces.specs.WatchSinks.{TakesIn, kept_in, watch_in}
-use Rattle.srm_options.specs.declared.options.Engine.TheVariants.{Step, Window}
+use Rattle.srm_options.specs.declared.options.Engine.TheVariants.{Window}
 use Rattle.srm_options.specs.declared.options.Options.{Options}
 use Rattle.srm_options.specs.declared.options.Show.{Show}
 use Rattle.srm_options.specs.declared.options.Show.TheVariants.{Trace, Members, Losses, Operations, Links, Timers, Scopes}

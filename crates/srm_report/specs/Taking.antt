@@ -1,5 +1,5 @@
 -- What takes in rows, after those before, and how that composes over calls.
-use Rattle.std.specs.Prelude.{◌≡◌, List, [], ◌++◌}
+use Rattle.std.specs.Prelude.{List, [], ◌++◌}
 use Rattle.std.proofs.Common.{sym, subst, append_assoc, append-nil}
 use Rattle.srm_member.specs.declared.row.Row.{Row}
 

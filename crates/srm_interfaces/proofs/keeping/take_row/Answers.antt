@@ -1,4 +1,4 @@
-use Rattle.std.proofs.Common.{List, [], ◌∷◌, ◌++◌, get_or, subst, arith}
+use Rattle.std.proofs.Common.{List, ◌++◌, get_or, subst, arith}
 use Rattle.srm_member.specs.declared.row.Row.{Row}
 use Rattle.srm_interfaces.proofs.WatchLemmas.{of_later, one_more_row}
 use Rattle.srm_interfaces.proofs.keeping.take_row.Goals as goal

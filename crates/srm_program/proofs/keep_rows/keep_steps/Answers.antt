@@ -1,6 +1,5 @@
-use Rattle.std.proofs.Common.{◌≡◌, ◌∙◌}
+use Rattle.std.proofs.Common.{◌∙◌}
 use Rattle.std.proofs.lemmas.Result.{err_from_is_err_and}
-use Rattle.srm_options.specs.declared.options.Engine.TheVariants.{Window}
 use Rattle.srm_program.proofs.KeptTables.{steps_kept, steps_refused}
 use Rattle.srm_program.proofs.keep_rows.keep_steps.Goals as goal
 

@@ -1,9 +1,9 @@
-use Rattle.std.proofs.Common.{◌≡◌, ◌∙◌, [], ◌∷◌, Option, None, Some, codes, decimal, refl, ap, sym, subst}
+use Rattle.std.proofs.Common.{[], ◌∷◌, codes, decimal, refl, ap, sym, subst}
 use Rattle.srm_net.specs.declared.packet.Local.{Local}
 use Rattle.srm_report.specs.Lines.{line_written}
 use Rattle.srm_report.specs.Rows.{or_dash}
 use Rattle.srm_report.proofs.LineLemmas.{HasFields, line_is_row, no_field, field, decimal_is_plain, name_is_plain, packet_is_plain}
-use Rattle.srm_report.proofs.LineLemmas.{cause_is_plain, local_is_plain, time_is_plain}
+use Rattle.srm_report.proofs.LineLemmas.{cause_is_plain, local_is_plain}
 use Rattle.srm_report.proofs.scope_lines.put_entry.Goals.{in-None, in-Some}
 use Rattle.srm_report.proofs.scope_lines.put_entry.Goals as goal
 

@@ -1,4 +1,4 @@
-use Rattle.std.proofs.Common.{◌≡◌, ◌∙◌, [], ap, List, ℕ, subst}
+use Rattle.std.proofs.Common.{◌≡◌, ◌∙◌, ap, List, ℕ, subst}
 use Rattle.std.specs.List.{count_by}
 use Rattle.std.specs.Result.{IfOk}
 use Rattle.srm_report.specs.KeptScopes.{HearMore}
