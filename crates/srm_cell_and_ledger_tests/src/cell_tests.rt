@@ -112,10 +112,10 @@ fn cell_of(alloc: Global, drops: &Arc<AtomicU64>, script: Vec<Mark>) -> Result<C
 }
 
 // What came of an event, and which packet was sent.
-type Outcome = (Told, Option<PacketId>);
+type RowSeen = (Told, Option<PacketId>);
 
 // What came of the cell's next event, if it has one before this tick.
-fn step_before(alloc: Global, cell: &mut Cell, till: u32) -> Result<Option<Outcome>, CellFault> {
+fn step_before(alloc: Global, cell: &mut Cell, till: u32) -> Result<Option<RowSeen>, CellFault> {
     let Some(row) = cell.step(alloc, u64::from(till))? else {
         return Ok(None);
     };
@@ -133,7 +133,7 @@ fn ended_number(alloc: Global, cell: Cell) -> Result<u16, CellFault> {
 }
 
 // When a cell's next event is, what came of it, and how often the box was dropped after it.
-type Step = (Option<u64>, Result<Option<Outcome>, CellFault>, u64);
+type StepSeen = (Option<u64>, Result<Option<RowSeen>, CellFault>, u64);
 
 // Asserts what comes of steps of a cell, each before a tick.
 fn expect_steps(
@@ -141,7 +141,7 @@ fn expect_steps(
     alloc: Global,
     cell: &mut Cell,
     drops: &AtomicU64,
-    steps: &[(u32, Step)],
+    steps: &[(u32, StepSeen)],
 ) {
     for (till, expected) in steps {
         let next_time = cell.next_time();
@@ -151,7 +151,7 @@ fn expect_steps(
     }
 }
 
-const LEAVE_AND_REPORT: [(u32, Step); 3] = [
+const LEAVE_AND_REPORT: [(u32, StepSeen); 3] = [
     (3, (Some(3), Ok(None), 0)),
     (4, (Some(3), Ok(Some((Told::Parted, None))), 1)),
     (5, (Some(4), Err(CellFault::Spent), 1)),

@@ -26,7 +26,7 @@ pub(crate) struct Found {
 
 /// What a search is in.
 #[derive(Clone, Copy)]
-enum State {
+enum SearchState {
     /// The beginning of a line outside all values.
     LineStart,
     /// A line that begins a table or an element.
@@ -43,7 +43,7 @@ struct Search<'a> {
     text: &'a [u8],
     target: Target<'a>,
     found: Found,
-    state: State,
+    state: SearchState,
     /// Whether the lines are those of the target's table.
     inside: bool,
     /// Whether no table or element was begun yet.
@@ -78,7 +78,7 @@ pub(crate) fn locate(text: &[u8], tokens: &[Token], target: Target) -> Found {
             key: None,
             value: None,
         },
-        state: State::LineStart,
+        state: SearchState::LineStart,
         inside: target.array.is_none(),
         at_top: true,
         begun: 0,
@@ -117,10 +117,10 @@ impl Search<'_> {
     // Takes the next token.
     fn take(&mut self, token: Token) {
         match self.state {
-            State::LineStart => self.line_start(token),
-            State::Header => self.header(token),
-            State::Key => self.after_key(token),
-            State::Value => self.value(token),
+            SearchState::LineStart => self.line_start(token),
+            SearchState::Header => self.header(token),
+            SearchState::Key => self.after_key(token),
+            SearchState::Value => self.value(token),
         }
     }
 
@@ -147,13 +147,13 @@ impl Search<'_> {
     fn line_start(&mut self, token: Token) {
         match token.kind {
             TokenKind::Open => {
-                self.state = State::Header;
+                self.state = SearchState::Header;
                 self.header = until(None, token);
                 self.brackets = 1;
                 self.key = None;
             }
             TokenKind::Word => {
-                self.state = State::Key;
+                self.state = SearchState::Key;
                 self.key = Some(until(None, token));
                 self.value = None;
             }
@@ -174,7 +174,7 @@ impl Search<'_> {
 
     // Ends such a line.
     fn end_header(&mut self) {
-        self.state = State::LineStart;
+        self.state = SearchState::LineStart;
         self.at_top = false;
         self.inside = false;
         let Some(name) = self.key else {
@@ -197,7 +197,7 @@ impl Search<'_> {
         match token.kind {
             TokenKind::Word => self.key = Some(until(self.key, token)),
             TokenKind::Equals => {
-                self.state = State::Value;
+                self.state = SearchState::Value;
                 self.depth = 0;
                 self.place = 0;
                 self.inner_key = None;
@@ -207,7 +207,7 @@ impl Search<'_> {
                     None => false,
                 };
             }
-            TokenKind::LineEnd => self.state = State::LineStart,
+            TokenKind::LineEnd => self.state = SearchState::LineStart,
             _ => {}
         }
     }
@@ -233,7 +233,7 @@ impl Search<'_> {
 
     // Ends a line with a key and its value.
     fn end_line(&mut self) {
-        self.state = State::LineStart;
+        self.state = SearchState::LineStart;
         if let (true, Some(key), Some(value)) = (self.inside, self.key, self.value) {
             if self.is(key, self.target.key) {
                 self.keep(key, value);

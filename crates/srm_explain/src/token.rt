@@ -31,7 +31,7 @@ pub(crate) struct Token {
 
 /// What a scanner is in.
 #[derive(Clone, Copy)]
-enum State {
+enum ScanState {
     /// Between tokens.
     Between,
     /// A comment.
@@ -50,7 +50,7 @@ enum State {
 #[derive(Drop)]
 struct Scanner {
     tokens: Vec<Token>,
-    state: State,
+    state: ScanState,
 }
 
 /// The tokens of a text, which may be no TOML.
@@ -60,7 +60,7 @@ struct Scanner {
 pub(crate) fn tokens_of(alloc: Global, text: &[u8]) -> Result<Vec<Token>, AllocError> {
     let mut scanner = Scanner {
         tokens: Vec::new(alloc),
-        state: State::Between,
+        state: ScanState::Between,
     };
     for (at, byte) in text.iter().enumerate() {
         scanner.take(at, *byte)?;
@@ -74,12 +74,12 @@ impl Scanner {
     // Takes the byte at this offset.
     fn take(&mut self, at: usize, byte: u8) -> Result<(), AllocError> {
         match self.state {
-            State::Between => self.begin(at, byte),
-            State::Comment => self.comment(at, byte),
-            State::Bare(start) => self.bare(start, at, byte),
-            State::Opening(quote, start, count) => self.opening(quote, start, count, at, byte),
-            State::Line(quote, start, escaped) => self.line(quote, start, escaped, at, byte),
-            State::Lines(quote, start, escaped, count) => {
+            ScanState::Between => self.begin(at, byte),
+            ScanState::Comment => self.comment(at, byte),
+            ScanState::Bare(start) => self.bare(start, at, byte),
+            ScanState::Opening(quote, start, count) => self.opening(quote, start, count, at, byte),
+            ScanState::Line(quote, start, escaped) => self.line(quote, start, escaped, at, byte),
+            ScanState::Lines(quote, start, escaped, count) => {
                 self.lines(
                     Long {
                         quote,
@@ -96,7 +96,7 @@ impl Scanner {
 
     // Puts a token.
     fn put(&mut self, kind: TokenKind, start: usize, end: usize) -> Result<(), AllocError> {
-        self.state = State::Between;
+        self.state = ScanState::Between;
         self.tokens.push(Token { kind, start, end })?;
         Ok(())
     }
@@ -108,7 +108,7 @@ impl Scanner {
 
     // Takes a byte between tokens.
     fn begin(&mut self, at: usize, byte: u8) -> Result<(), AllocError> {
-        self.state = State::Between;
+        self.state = ScanState::Between;
         match byte {
             b'[' | b'{' => self.mark(TokenKind::Open, at),
             b']' | b'}' => self.mark(TokenKind::Close, at),
@@ -117,15 +117,15 @@ impl Scanner {
             b'\n' => self.mark(TokenKind::LineEnd, at),
             b' ' | b'\t' | b'\r' => Ok(()),
             b'#' => {
-                self.state = State::Comment;
+                self.state = ScanState::Comment;
                 Ok(())
             }
             b'"' | b'\'' => {
-                self.state = State::Opening(byte, at, 1);
+                self.state = ScanState::Opening(byte, at, 1);
                 Ok(())
             }
             _ => {
-                self.state = State::Bare(at);
+                self.state = ScanState::Bare(at);
                 Ok(())
             }
         }
@@ -160,10 +160,10 @@ impl Scanner {
         byte: u8,
     ) -> Result<(), AllocError> {
         if byte == quote && count >= 2 {
-            self.state = State::Lines(quote, start, false, 0);
+            self.state = ScanState::Lines(quote, start, false, 0);
             Ok(())
         } else if byte == quote {
-            self.state = State::Opening(quote, start, 2);
+            self.state = ScanState::Opening(quote, start, 2);
             Ok(())
         } else if count >= 2 {
             self.put(TokenKind::Word, start, at)?;
@@ -190,7 +190,7 @@ impl Scanner {
             return self.put(TokenKind::Word, start, at.saturating_add(1));
         }
         let escapes = byte == b'\\' && quote == b'"' && !escaped;
-        self.state = State::Line(quote, start, escapes);
+        self.state = ScanState::Line(quote, start, escapes);
         Ok(())
     }
 
@@ -198,7 +198,7 @@ impl Scanner {
     fn lines(&mut self, long: Long, at: usize, byte: u8) -> Result<(), AllocError> {
         if byte == long.quote && !long.escaped {
             let count = long.count.saturating_add(1);
-            self.state = State::Lines(long.quote, long.start, false, count);
+            self.state = ScanState::Lines(long.quote, long.start, false, count);
             return Ok(());
         }
         if long.count >= 3 {
@@ -206,7 +206,7 @@ impl Scanner {
             return self.begin(at, byte);
         }
         let escapes = byte == b'\\' && long.quote == b'"' && !long.escaped;
-        self.state = State::Lines(long.quote, long.start, escapes, 0);
+        self.state = ScanState::Lines(long.quote, long.start, escapes, 0);
         Ok(())
     }
 }

@@ -8,7 +8,7 @@ ghost use Rattle.srm_ledger.specs.Seats.{totals_of, ReadsAreIn};
 
 pub use crate::fault::{LedgerFault, NotWhole, ShareFull, SplitFault};
 use crate::kind::Kind;
-use crate::rule::{Add, Both, Halves, Holding, Read, SumsOfShares};
+use crate::rule::{Adds, BothSeats, Holding, Read, SeatHalves, SumsOfShares};
 pub use crate::seat::{SHARE_MOST, Seat, WHOLE};
 use crate::totals::Totals;
 use crate::words::{add_each, copy_words, fit, raise_each, word_of};
@@ -99,7 +99,7 @@ impl Ledger {
         if n > SHARE_MOST - share {
             return Err(ShareFull);
         }
-        self.table.shared.fetch_add::<Add>(&mut seat.hold, word, n);
+        self.table.shared.fetch_add::<Adds>(&mut seat.hold, word, n);
         seat.shares[word] = share + n;
         Ok(())
     }
@@ -146,7 +146,7 @@ impl Ledger {
             weight,
             mut hold,
         } = seat;
-        let new_hold = self.table.shared.split_seat::<Halves>(&mut hold);
+        let new_hold = self.table.shared.split_seat::<SeatHalves>(&mut hold);
         let half = weight / 2;
         let first = Seat {
             shares,
@@ -190,7 +190,7 @@ impl Ledger {
             weight: other_weight,
             hold: other,
         } = second;
-        self.table.shared.join_seat::<Both>(&mut hold, other);
+        self.table.shared.join_seat::<BothSeats>(&mut hold, other);
         // This read of the spare word shows that the weights of two seats are no more than the whole.
         self.table.shared.load::<Read>(&mut hold, 0);
         add_each(&mut shares, &other_shares);

@@ -27,9 +27,9 @@ impl TableRule<(), Holding, usize> for SumsOfShares {
 }
 
 /// An addition to one word.
-pub(crate) struct Add;
+pub(crate) struct Adds;
 
-impl Play<(), Holding> for Add {
+impl Play<(), Holding> for Adds {
     ghost use Rattle.srm_ledger.specs.Tally.{adds};
 
     ghost then = { adds };
@@ -45,9 +45,9 @@ impl Play<(), Holding> for Read {
 }
 
 /// A seat in two halves.
-pub(crate) struct Halves;
+pub(crate) struct SeatHalves;
 
-impl Split<Holding> for Halves {
+impl Split<Holding> for SeatHalves {
     ghost use Rattle.srm_ledger.specs.Tally.{first_half, second_half};
 
     ghost left = { first_half };
@@ -56,9 +56,9 @@ impl Split<Holding> for Halves {
 }
 
 /// Two seats in one.
-pub(crate) struct Both;
+pub(crate) struct BothSeats;
 
-impl Join<Holding> for Both {
+impl Join<Holding> for BothSeats {
     ghost use Rattle.srm_ledger.specs.Tally.{joined_holding, spent};
 
     ghost both = { joined_holding };

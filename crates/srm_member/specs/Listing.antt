@@ -1,12 +1,12 @@
 -- Distances and hops as lists.
 use Rattle.std.specs.Prelude.{ℕ, List}
-use Rattle.srm_member.specs.declared.distances.Source.{Source}
-use Rattle.srm_member.specs.declared.distances.Source.TheVariants.{Listed, Told}
+use Rattle.srm_member.specs.declared.distances.DistanceSource.{DistanceSource}
+use Rattle.srm_member.specs.declared.distances.DistanceSource.TheVariants.{Listed, Told}
 use Rattle.srm_member.specs.declared.hops.HopSource.{HopSource}
 use Rattle.srm_member.specs.declared.hops.HopSource.TheVariants as hops
 
 -- the distances of either source, a list or the half round trips of a network
-abbrev pub listed : Source → List ℕ
+abbrev pub listed : DistanceSource → List ℕ
 listed (Listed ds) = ds
 listed (Told ds) = ds
 

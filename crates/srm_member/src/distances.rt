@@ -7,7 +7,7 @@ use std::marker::Model;
 
 // Where the distances come from.
 #[derive(Debug, Drop)]
-enum Source {
+enum DistanceSource {
     Listed(Sequence<u64>),
     Told(HalfRounds),
 }
@@ -17,7 +17,7 @@ enum Source {
 /// They are half the round trips in a network, which are told on demand, or a list.
 #[derive(Debug, Drop)]
 pub struct Distances {
-    source: Source,
+    source: DistanceSource,
 }
 
 impl Model for Distances {
@@ -35,8 +35,11 @@ impl Distances {
         ensures { result ≡ slice_get self.now member }
     {
         match &self.source {
-            Source::Listed(distances) => distances.as_slice().get(usize::from(member)).copied(),
-            Source::Told(distances) => distances.get(member),
+            DistanceSource::Listed(distances) => distances
+                .as_slice()
+                .get(usize::from(member))
+                .copied(),
+            DistanceSource::Told(distances) => distances.get(member),
         }
     }
 }
@@ -46,7 +49,7 @@ impl From<Sequence<u64>> for Distances {
 
     fn from(distances: Sequence<u64>) -> Self {
         Distances {
-            source: Source::Listed(distances),
+            source: DistanceSource::Listed(distances),
         }
     }
 }
@@ -56,7 +59,7 @@ impl From<HalfRounds> for Distances {
 
     fn from(distances: HalfRounds) -> Self {
         Distances {
-            source: Source::Told(distances),
+            source: DistanceSource::Told(distances),
         }
     }
 }

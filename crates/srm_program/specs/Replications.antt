@@ -17,7 +17,7 @@ use Rattle.srm_report.specs.Tables.{lines_of, table_lines}
 use Rattle.srm_program.specs.declared.fault.LabFault.{LabFault}
 use Rattle.srm_program.specs.declared.fault.LabFault.TheVariants.{NoMemory, CountFull, WriteFault}
 use Rattle.srm_report.specs.declared.outlet.Outlet as outlet
-use Rattle.srm_program.specs.declared.replications.Span.{Span}
+use Rattle.srm_program.specs.declared.replications.ShownRuns.{ShownRuns}
 use Rattle.srm_program.specs.Reports.{columns_shown, rows_of_run, failures_after_run}
 use Rattle.srm_program.specs.Runs.{MayShareBag}
 
@@ -90,7 +90,7 @@ TellsReplications a old new (Err NoMemory) =
 TellsReplications a old new (Err f) = ⊥
 
 -- the runs of a scenario on its network that a span asks for
-abbrev pub series_of : PlainScenario → Network → Span → Series
+abbrev pub series_of : PlainScenario → Network → ShownRuns → Series
 series_of p net span = record {
   scenario = p;
   network = net;

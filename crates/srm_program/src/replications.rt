@@ -83,7 +83,7 @@ pub struct Seeds {
 
 // Which runs are shown, and what of each.
 #[derive(Clone, Copy)]
-pub(crate) struct Span {
+pub(crate) struct ShownRuns {
     pub show: Show,
     // The first seed.
     pub first: u64,
@@ -154,7 +154,7 @@ fn lead<W: Work<u64, Result<Vec<u8>, LabFault>> + Copy, J: Naming, R: Wait, O: O
     rt: &R,
     alloc: Global,
     relay: Relay<W, u64, Result<Vec<u8>, LabFault>, J>,
-    span: Span,
+    span: ShownRuns,
     outlet: &mut O,
 ) -> Result<(), LabFault>
     requires ready { (seed : ℕ) → W.ready relay.work seed }
@@ -195,7 +195,7 @@ fn lead_waiting<W: Work<u64, Result<Vec<u8>, LabFault>> + Copy, J: Naming, R: Wa
     rt: &R,
     alloc: Global,
     waiting: &mut Option<Relay<W, u64, Result<Vec<u8>, LabFault>, J>>,
-    span: Span,
+    span: ShownRuns,
     outlet: &mut O,
 ) -> Result<(), LabFault>
     requires waiting { (l : _) × (waiting.old ≡ Some l) × ((seed : ℕ) → W.ready l.work seed) × (l.under_way ≡ []) }
@@ -221,7 +221,7 @@ fn lead_beside<
     threads: usize,
     bench: &Bench<W, u64, Result<Vec<u8>, LabFault>, J>,
     relay: Relay<W, u64, Result<Vec<u8>, LabFault>, J>,
-    span: Span,
+    span: ShownRuns,
     outlet: &mut O,
 ) -> Result<(), LabFault>
     requires ready { (seed : ℕ) → W.ready relay.work seed }
@@ -264,7 +264,7 @@ fn by_team<
     opened: Opened<W, u64>,
     work: W,
     workers: u8,
-    span: Span,
+    span: ShownRuns,
     outlet: &mut O,
 ) -> Result<(), LabFault>
     requires history { opened ≡ J.book }
@@ -321,7 +321,7 @@ pub fn replicate<R: Threads + Wait + Sync, O: Outlet>(
         net,
         options,
     };
-    let span = Span {
+    let span = ShownRuns {
         show: options.show,
         first: seeds.first,
         end: seeds.first + u64::from(seeds.count),

@@ -9,7 +9,7 @@ use Rattle.srm_net.specs.Network.{IsNetwork}
 use Rattle.srm_net.specs.Paths.{drop_cmp}
 use Rattle.srm_scenario.specs.declared.parts.Constants.{Constants}
 use Rattle.srm_scenario.specs.declared.parts.Room.{Room}
-use Rattle.srm_scenario.specs.declared.parts.Recovery.{Recovery}
+use Rattle.srm_scenario.specs.declared.parts.LocalRecovery.{LocalRecovery}
 use Rattle.srm_scenario.specs.declared.parts.MemberSpec.{MemberSpec}
 use Rattle.srm_scenario.specs.declared.parts.DrawSpec.{DrawSpec}
 use Rattle.srm_scenario.specs.declared.parts.SessionSpec.{SessionSpec}
@@ -32,7 +32,7 @@ pub record AreConstants (c : Constants) (room : Room) : Type 0 where
 
 -- a backoff widens scopes by at most as much as the greatest scope has, a request has no scope after 1 to 10 backoffs,
 -- and repairs go in one step or in two
-pub record IsRecovery (r : Recovery) : Type 0 where
+pub record IsRecovery (r : LocalRecovery) : Type 0 where
   pub widen : r.widen ≤ greatest_scope
   pub some_tries : 1 ≤ r.tries
   pub few_tries : r.tries ≤ most_tries

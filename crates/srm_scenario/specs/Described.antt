@@ -12,7 +12,7 @@ use Rattle.srm_net.specs.declared.link.OutageSpec.{OutageSpec}
 use Rattle.srm_net.specs.declared.link.LossSpec.{LossSpec}
 use Rattle.srm_scenario.specs.declared.parts.Constants.{Constants}
 use Rattle.srm_scenario.specs.declared.parts.Room.{Room}
-use Rattle.srm_scenario.specs.declared.parts.Recovery.{Recovery}
+use Rattle.srm_scenario.specs.declared.parts.LocalRecovery.{LocalRecovery}
 use Rattle.srm_scenario.specs.declared.parts.MemberSpec.{MemberSpec}
 use Rattle.srm_scenario.specs.declared.parts.DrawSpec.{DrawSpec}
 use Rattle.srm_scenario.specs.declared.parts.SessionSpec.{SessionSpec}
@@ -339,7 +339,7 @@ room_of ms = record {
   backoff = unwrap_or (optional_number (codes "backoff") ms) 2;
 }
 
-abbrev pub recovery_of : Members → Recovery
+abbrev pub recovery_of : Members → LocalRecovery
 recovery_of ms = record {
   widen = number (codes "widen") ms;
   tries = unwrap_or (optional_number (codes "tries") ms) 1;

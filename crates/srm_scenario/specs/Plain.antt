@@ -1,5 +1,5 @@
 -- A scenario as one plain record, its network, and the members' scripts.
-use Rattle.std.specs.Prelude.{ℕ, ◌+◌, List, [], ◌∷◌, ◌++◌, map, Option, Some, None, ◌==◌, if◌then◌else◌, length}
+use Rattle.std.specs.Prelude.{ℕ, ◌+◌, List, [], ◌∷◌, ◌++◌, map, Option, Some, None, ◌==◌, if◌then◌else◌}
 use Rattle.std.specs.declared.cmp.Ordering.{Ordering}
 use Rattle.std.specs.Ordering.{nat_cmp}
 use Rattle.std.specs.Cmp.Lexicographic.{slice_cmp}
@@ -18,7 +18,7 @@ use Rattle.srm_net.specs.Paths.{drop_cmp}
 use Rattle.srm_scenario.specs.declared.mark.Mark.{Mark}
 use Rattle.srm_scenario.specs.declared.parts.Constants.{Constants}
 use Rattle.srm_scenario.specs.declared.parts.Room.{Room}
-use Rattle.srm_scenario.specs.declared.parts.Recovery.{Recovery}
+use Rattle.srm_scenario.specs.declared.parts.LocalRecovery.{LocalRecovery}
 use Rattle.srm_scenario.specs.declared.parts.MemberSpec.{MemberSpec}
 use Rattle.srm_scenario.specs.declared.parts.DrawSpec.{DrawSpec}
 use Rattle.srm_scenario.specs.declared.parts.SessionSpec.{SessionSpec}
@@ -30,7 +30,7 @@ pub record PlainScenario : Type 0 where
   pub until : ℕ
   pub constants : Constants
   pub room : Room
-  pub recovery : Recovery
+  pub recovery : LocalRecovery
   pub nodes : ℕ
   pub links : List LinkSpec
   pub members : List MemberSpec

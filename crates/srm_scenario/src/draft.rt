@@ -9,7 +9,7 @@ use crate::element::read_elements;
 use crate::entry::{MemberEntry, read_members};
 use crate::fault::{Part, ScenarioFault};
 use crate::parents::given_links;
-use crate::parts::{Constants, DrawSpec, Recovery, Room, SessionSpec};
+use crate::parts::{Constants, DrawSpec, LocalRecovery, Room, SessionSpec};
 use crate::repeated::read_repeated;
 use crate::top::top_of;
 use crate::topology::Topology;
@@ -27,7 +27,7 @@ pub struct Draft {
     /// How far they are adapted.
     pub room: Room,
     /// The numbers of local recovery.
-    pub recovery: Recovery,
+    pub recovery: LocalRecovery,
     /// The topology that the table names.
     pub topology: Option<Topology>,
     /// How many nodes there are.

@@ -33,7 +33,7 @@ pub struct Room {
 /// How members ask again with a scope, and how repairs come back (Floyd et al. 1997, VII.B, of local recovery). It decides only where
 /// a member's requests have a scope.
 #[derive(Clone, Copy, Debug, PartialEq, Eq)]
-pub struct Recovery {
+pub struct LocalRecovery {
     /// By how many hops each backoff widens the scope of a request: 0 to 65,535 (this project's own).
     pub widen: u16,
     /// From how many backoffs on a request has no scope: 1 to 10 (this project's own).

@@ -9,7 +9,7 @@ ghost use Rattle.srm_scenario.specs.Pages.{wants_page};
 use crate::fault::ScenarioFault;
 use crate::lists::Lists;
 use crate::mark::Mark;
-use crate::parts::{Constants, MemberSpec, Recovery, Room};
+use crate::parts::{Constants, LocalRecovery, MemberSpec, Room};
 use crate::script::script_of;
 use crate::scripts::scripts_of;
 use srm_net::drops::Drops;
@@ -28,7 +28,7 @@ pub struct Scenario {
     pub(crate) until: u64,
     pub(crate) constants: Constants,
     pub(crate) room: Room,
-    pub(crate) recovery: Recovery,
+    pub(crate) recovery: LocalRecovery,
     pub(crate) nodes: u16,
     pub(crate) lists: Arc<Lists>,
     pub(crate) drops: Drops,

@@ -10,7 +10,7 @@ ghost use Rattle.srm_scenario.specs.LookUps.{HasNumbers, HasShape, HasArrays};
 use crate::delays::Delays;
 use crate::form::Form;
 use crate::key::Key;
-use crate::parts::{Constants, Recovery, Room};
+use crate::parts::{Constants, LocalRecovery, Room};
 use crate::rules::top_rules;
 use crate::table::{array, fits_rules, has_key, number, number_or, optional_number, says};
 use crate::topology::Topology;
@@ -49,7 +49,7 @@ pub(crate) struct Numbers {
     /// The scope of members for which none is given: 0 to 65,535 hops.
     pub(crate) scope: u16,
     /// The numbers of local recovery.
-    pub(crate) recovery: Recovery,
+    pub(crate) recovery: LocalRecovery,
 }
 
 /// The first values of the constants of timers, in range or not; 0 where there is none.
@@ -100,11 +100,11 @@ fn room_of(table: &Table) -> Room
 }
 
 /// How members ask again, and how repairs come back.
-fn recovery_of(table: &Table) -> Recovery
+fn recovery_of(table: &Table) -> LocalRecovery
     requires { fits_rules (rules_of_top (table_view table.now)) (table_view table.now) ≡ true }
     ensures { result ≡ recovery_of (table_view table.now) }
 {
-    Recovery {
+    LocalRecovery {
         widen: number(table, Key::Widen) as u16,
         tries: optional_number(table, Key::Tries).unwrap_or(1) as u16,
         steps: optional_number(table, Key::Steps).unwrap_or(2) as u16,

@@ -4,7 +4,7 @@ ghost use Rattle.srm_team.specs.Rules.{Agree};
 
 use crate::batch::Batch;
 use crate::book::Book;
-use crate::law::{Add, Law, Nothing};
+use crate::law::{Add, Law, NoGain};
 use crate::naming::Naming;
 use logbook::{Offer, Seen};
 use std::marker::{Model, PhantomData};
@@ -70,15 +70,15 @@ impl<W, T, J: Naming> Front<W, T, J> {
     {
         let number = self.lists;
         let mut seen = self.seen.again();
-        let mut offer: Offer<Batch<W, T>, u64, Law, Nothing> = seen.plain::<
-            Nothing,
+        let mut offer: Offer<Batch<W, T>, u64, Law, NoGain> = seen.plain::<
+            NoGain,
             Batch<W, T>,
             Add,
         >(batch);
         let mut pen = seen.no_pen();
         let found = book
             .head
-            .compare_exchange::<Add, Nothing>(number, number + 1, &mut seen, &mut offer, &mut pen);
+            .compare_exchange::<Add, NoGain>(number, number + 1, &mut seen, &mut offer, &mut pen);
         if found != number {
             return None;
         }

@@ -24,9 +24,9 @@ impl<W, T> Rule<Batch<W, T>, u64> for Law {
 }
 
 /// What a caller gains by a step: nothing.
-pub struct Nothing;
+pub struct NoGain;
 
-impl<W, T> Gain<Batch<W, T>, u64> for Nothing {
+impl<W, T> Gain<Batch<W, T>, u64> for NoGain {
     ghost use base.Fml.{ftrue};
 
     ghost after = { λ names about answer. ftrue };

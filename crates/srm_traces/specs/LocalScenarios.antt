@@ -3,7 +3,7 @@ use Rattle.std.specs.Prelude.{ℕ, List, [], ◌∷◌}
 use Rattle.srm_net.specs.declared.role.Role.TheVariants.{Sender, Receiver}
 use Rattle.srm_scenario.specs.declared.parts.DrawSpec.{DrawSpec}
 use Rattle.srm_scenario.specs.declared.parts.MemberSpec.{MemberSpec}
-use Rattle.srm_scenario.specs.declared.parts.Recovery.{Recovery}
+use Rattle.srm_scenario.specs.declared.parts.LocalRecovery.{LocalRecovery}
 use Rattle.srm_scenario.specs.Plain.{PlainScenario}
 use Rattle.srm_traces.specs.Scenarios.{member, draw, drop, link, chain_links, star_links, timed, thousandths}
 use Rattle.srm_traces.specs.Scenarios.{fixed_room, lists_alone}
@@ -14,7 +14,7 @@ with_scope scope [] = []
 with_scope scope (m ∷ ms) = record m { scope = scope } ∷ with_scope scope ms
 
 -- repairs in two steps, for requests that have no scope any more once they backed off
-abbrev pub in_two_steps : Recovery
+abbrev pub in_two_steps : LocalRecovery
 in_two_steps = record { widen = 0; tries = 1; steps = 2 }
 
 -- two operations of member 0 with one ink, the second so many ticks after the first

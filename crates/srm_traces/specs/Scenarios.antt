@@ -8,7 +8,7 @@ use Rattle.srm_net.specs.declared.link.OutageSpec.{OutageSpec}
 use Rattle.srm_net.specs.DropRules.{DropRules}
 use Rattle.srm_scenario.specs.declared.parts.Constants.{Constants}
 use Rattle.srm_scenario.specs.declared.parts.Room.{Room}
-use Rattle.srm_scenario.specs.declared.parts.Recovery.{Recovery}
+use Rattle.srm_scenario.specs.declared.parts.LocalRecovery.{LocalRecovery}
 use Rattle.srm_scenario.specs.declared.parts.MemberSpec.{MemberSpec}
 use Rattle.srm_scenario.specs.declared.parts.DrawSpec.{DrawSpec}
 use Rattle.srm_scenario.specs.declared.parts.SessionSpec.{SessionSpec}
@@ -65,7 +65,7 @@ abbrev pub fixed_room : Constants → Room
 fixed_room first = record { least = first; most = first; backoff = 2 }
 
 -- what a scenario that says nothing of scopes has for local recovery
-abbrev pub without_scopes : Recovery
+abbrev pub without_scopes : LocalRecovery
 without_scopes = record { widen = 0; tries = 1; steps = 2 }
 
 -- these drops, and no outage or loss

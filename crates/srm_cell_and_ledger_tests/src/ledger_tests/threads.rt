@@ -22,7 +22,7 @@ const KINDS: [Kind; 5] = [
 
 // What each thread adds.
 #[derive(Clone, Copy)]
-enum Work {
+enum Addition {
     // 1 to the requests of the first link, so often.
     Requests { times: u32 },
     // 1 to the first number of the first link, 2 to its second, and so on over all links, so often.
@@ -83,14 +83,14 @@ fn add_everywhere(ledger: &Ledger, seat: Seat, times: u32) -> Seat
     seat
 }
 
-fn add_work(ledger: &Ledger, seat: Seat, work: Work) -> Seat
+fn add_work(ledger: &Ledger, seat: Seat, work: Addition) -> Seat
     requires ledger { seat.ledger ≡ ledger.now.name }
     requires link { 0 < ledger.now.links }
     ensures { result.ledger ≡ ledger.now.name }
 {
     match work {
-        Work::Requests { times } => add_requests(ledger, seat, times),
-        Work::Everywhere { times } => add_everywhere(ledger, seat, times),
+        Addition::Requests { times } => add_requests(ledger, seat, times),
+        Addition::Everywhere { times } => add_everywhere(ledger, seat, times),
     }
 }
 
@@ -101,7 +101,7 @@ fn add_in_threads<R: Abort + Threads + Sync>(
     ledger: &Ledger,
     seat: Seat,
     threads: u8,
-    work: Work,
+    work: Addition,
 ) -> Result<Seat, AllocError>
     requires ledger { seat.ledger ≡ ledger.now.name }
     requires link { 0 < ledger.now.links }
@@ -133,7 +133,7 @@ fn totals_of_threads<R: Abort + Threads + Sync>(
     alloc: Global,
     links: usize,
     threads: u8,
-    work: Work,
+    work: Addition,
 ) -> Result<Totals, AllocError>
     requires { (0 < links) × (links ≤ 1023) }
     ensures { IfOk result (λ t. length t ≡ 5 * links) }
@@ -147,7 +147,7 @@ fn totals_of_threads<R: Abort + Threads + Sync>(
 }
 
 fn add_from_two<R: Abort + Threads + Sync>(rt: &R, alloc: Global) -> Result<(), AllocError> {
-    let work = Work::Requests { times: 1000 };
+    let work = Addition::Requests { times: 1000 };
     let totals = totals_of_threads(rt, alloc, 1, 2, work)?;
     assert_eq!(rt; totals.links(), [[0, 2000, 0, 0, 0]].as_slice());
     Ok(())
@@ -170,7 +170,7 @@ fn expect_times(rt: &impl Abort, totals: &Totals, link: u16, times: u64)
 }
 
 fn add_from_eight<R: Abort + Threads + Sync>(rt: &R, alloc: Global) -> Result<(), AllocError> {
-    let work = Work::Everywhere { times: 20 };
+    let work = Addition::Everywhere { times: 20 };
     let totals = totals_of_threads(rt, alloc, 255, 8, work)?;
     for link in 0..255 {
         expect_times(rt, &totals, link, 160);
