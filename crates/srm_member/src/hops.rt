@@ -1,7 +1,7 @@
 //! How many hops members are from a member.
 ghost use Rattle.std.specs.Prelude.{◌≡◌, slice_get};
 
-use srm_net::hops::Hops as HopsInNetwork;
+use srm_net::hops::HopsFrom;
 use srm_net::sequence::Sequence;
 use std::marker::Model;
 
@@ -9,7 +9,7 @@ use std::marker::Model;
 #[derive(Debug, Drop)]
 enum HopSource {
     Listed(Sequence<u16>),
-    Told(HopsInNetwork),
+    Told(HopsFrom),
 }
 
 /// The hops to each member, of a network, where they are told on demand, or of a list. Contracts see them as the list.
@@ -49,10 +49,10 @@ impl From<Sequence<u16>> for Hops {
     }
 }
 
-impl From<HopsInNetwork> for Hops {
+impl From<HopsFrom> for Hops {
     ghost from_gives = { λ hs h. h ≡ hs };
 
-    fn from(hops: HopsInNetwork) -> Self {
+    fn from(hops: HopsFrom) -> Self {
         Hops {
             source: HopSource::Told(hops),
         }

@@ -15,12 +15,12 @@ use std::sync::Arc;
 ///
 /// They are told on demand, from tables that they share with the network and with those of its other members.
 #[derive(Drop)]
-pub struct Hops {
+pub struct HopsFrom {
     tree: Arc<Tree>,
     member: u16,
 }
 
-impl Model for Hops {
+impl Model for HopsFrom {
     ghost use Rattle.std.specs.Prelude.{ℕ, ◌<◌, List, length};
     ghost use Rattle.std.specs.Arc.{arc_value};
     ghost use Rattle.srm_net.specs.Paths.{hops_from};
@@ -32,16 +32,16 @@ impl Model for Hops {
     ghost invariant = { λ h. h.member < length (arc_value h.tree).hosts };
 }
 
-impl Hops {
+impl HopsFrom {
     /// Those from a member.
     ///
     /// # Errors
     /// [`AllocError`], only where too many share the tables.
-    pub(crate) fn of(tree: &Arc<Tree>, member: u16) -> Result<Hops, AllocError>
+    pub(crate) fn of(tree: &Arc<Tree>, member: u16) -> Result<HopsFrom, AllocError>
         requires { member < length (arc_value tree.now).hosts }
         ensures { IfOk result (λ hs. hs ≡ hops_from (arc_value tree.now) member) }
     {
-        Ok(Hops {
+        Ok(HopsFrom {
             tree: Arc::try_clone(tree)?,
             member,
         })
@@ -61,7 +61,7 @@ impl Hops {
     }
 }
 
-impl Debug for Hops {
+impl Debug for HopsFrom {
     fn fmt<W: Write>(&self, f: &mut Formatter<W>) -> fmt::Result {
         let mut list = f.debug_list();
         for member in 0..self.tree.members() {

@@ -18,7 +18,7 @@ use crate::drops::Drops;
 use crate::fate::Fate;
 use crate::fault::NetFault;
 use crate::half_rounds::HalfRounds;
-use crate::hops::Hops;
+use crate::hops::HopsFrom;
 use crate::link::LinkSpec;
 use crate::order::attaching_order;
 use crate::packet::PacketId;
@@ -210,12 +210,12 @@ impl Net {
     ///
     /// # Errors
     /// [`AllocError`]; as it is written, only where some 2^63 share the tables, and no memory is asked for.
-    pub fn hops_from(&self, m: u16) -> Result<Hops, AllocError>
+    pub fn hops_from(&self, m: u16) -> Result<HopsFrom, AllocError>
         requires { m < length self.now.hosts }
         ensures value { IfOk result (λ hs. hs ≡ hops_from self.now m) }
         ensures bounded { IfOk result (All (λ n. n < most_nodes)) }
     {
-        Hops::of(&self.tree, m)
+        HopsFrom::of(&self.tree, m)
     }
 
     /// The least delay of a link in either direction, in ticks and 1 to 1,000,000, or none where there is no link.

@@ -3,7 +3,7 @@ use Rattle.srm_net.specs.Limits.{most_nodes}
 use Rattle.srm_net.specs.Network.{Network}
 use Rattle.srm_net.specs.Paths.{hops}
 use Rattle.srm_net.proofs.HopListLemmas.{hops_at, no_hops, few_hops}
-use Rattle.srm_net.proofs.hops.Hops.get.Goals as goal
+use Rattle.srm_net.proofs.hops.HopsFrom.get.Goals as goal
 
 pub returns-then-member-members-clause-value : goal.returns-then-member-members-clause-value
 returns-then-member-members-clause-value c =
