@@ -32,7 +32,7 @@ use Rattle.srm_member.specs.React.{telling_intervals, without, rest_of, begins_s
 use Rattle.srm_member.specs.React.{with_second_step, after_repair, with_timer_taken_over}
 use Rattle.srm_member.specs.React.{hear_request_by_timer, with_repair_first, with_answer_seen, with_own_timer_ended}
 use Rattle.srm_member.specs.LocalRecovery.{serves, mark_from, mark_after, local_of, is_second_step, takes_over}
-use Rattle.srm_member.specs.declared.mark.Mark.{Mark}
+use Rattle.srm_member.specs.declared.mark.RepairMark.{RepairMark}
 use Rattle.srm_member.specs.declared.resting.Resting.{Resting}
 use Rattle.srm_net.specs.declared.packet.Local.{Local}
 use Rattle.srm_member.proofs.LawProofs.{as_listener}
@@ -190,7 +190,7 @@ module _ (f : Fixed) (roomless : HasFixedTimers f) where
   alike_mended n ink = alike_plain (with_mended n ink) (λ a b m. refl) (λ m h. same_fit m (with_mended n ink m) refl refl refl h)
       (λ m. refl) (λ m. refl)
 
-  alike_resting : (at : ℕ) (n : Name) (who : ℕ) (mark : Option Mark) (m k : MemberState) → Alike m k
+  alike_resting : (at : ℕ) (n : Name) (who : ℕ) (mark : Option RepairMark) (m k : MemberState) → Alike m k
       → Alike (with_rest at n who mark m) (with_rest at n who mark k)
   alike_resting at n who None = alike_plain (with_rest at n who None) (λ a b m. refl)
       (λ m h. same_fit m (with_rest at n who None m) refl refl refl h) (λ m. refl) (λ m. refl)
@@ -260,7 +260,7 @@ module _ (f : Fixed) (roomless : HasFixedTimers f) where
       alike_choice (is_second_step m.fixed r) _ _ _ _ g
       (alike_change (with_repair_first at r) (λ x. refl) (adapts_repair_first f Asks Answers asks answers at r) m (swapped a b m) g))
 
-  alike_own_ended : (at : ℕ) (n : Name) (r : Repairing) (mark : Option Mark) (m k : MemberState) → Alike m k
+  alike_own_ended : (at : ℕ) (n : Name) (r : Repairing) (mark : Option RepairMark) (m k : MemberState) → Alike m k
       → Alike (with_own_timer_ended at n r mark m) (with_own_timer_ended at n r mark k)
   alike_own_ended at n r mark m k h =
       by_swap (λ q. Alike (with_own_timer_ended at n r mark m) (with_own_timer_ended at n r mark q)) m k h (λ a b fit.

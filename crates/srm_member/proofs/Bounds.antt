@@ -23,7 +23,7 @@ use Rattle.srm_member.specs.React.{hear_request_by_entry, hear_request_of_held, 
 use Rattle.srm_member.specs.React.{hear_body, expire_request}
 use Rattle.srm_member.specs.React.{expire_repair, draw_operation}
 use Rattle.srm_member.specs.LocalRecovery.{serves, mark_from, mark_after, local_of, takes_over, is_second_step}
-use Rattle.srm_member.specs.declared.mark.Mark.{Mark}
+use Rattle.srm_member.specs.declared.mark.RepairMark.{RepairMark}
 use Rattle.srm_member.specs.declared.resting.Resting.{Resting}
 use Rattle.srm_net.specs.declared.packet.Local.{Local}
 use Rattle.srm_member.specs.React.{react_active}
@@ -102,11 +102,11 @@ module _ (f : Fixed) (A : List (Name × Missing) → Type 0) (B : List (Name × 
   kept_choice true x y h g = h
   kept_choice false x y h g = g
 
-  kept_mark : (n : Name) (mark : Option Mark) (m : MemberState) → Kept m → Kept (with_mark n mark m)
+  kept_mark : (n : Name) (mark : Option RepairMark) (m : MemberState) → Kept m → Kept (with_mark n mark m)
   kept_mark n None m k = record { same = k.same; asks = k.asks; answers = k.answers }
   kept_mark n (Some x) m k = record { same = k.same; asks = k.asks; answers = k.answers }
 
-  kept_rest : (n : Name) (who : ℕ) (mark : Option Mark) (m : MemberState) → Kept m → Kept (with_rest at n who mark m)
+  kept_rest : (n : Name) (who : ℕ) (mark : Option RepairMark) (m : MemberState) → Kept m → Kept (with_rest at n who mark m)
   kept_rest n who mark m k = kept_mark n mark _ (record { same = k.same; asks = k.asks; answers = k.answers })
 
   kept_seen : (n : Name) (who : ℕ) (local : Option Local) (rest : Resting) (o : Option Repairing) (m : MemberState) → Kept m

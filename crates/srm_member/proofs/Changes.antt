@@ -27,7 +27,7 @@ use Rattle.srm_member.specs.React.{with_request_first, with_answer_seen, with_ow
 use Rattle.srm_member.specs.React.{hear_request_by_timer, begins_second_step, with_timer_set, second_step_length, with_second_step}
 use Rattle.srm_member.specs.React.{after_repair, interval_after_timer}
 use Rattle.srm_member.specs.LocalRecovery.{local_of, mark_after, mark_from, serves, takes_over, are_two}
-use Rattle.srm_member.specs.declared.mark.Mark.{Mark}
+use Rattle.srm_member.specs.declared.mark.RepairMark.{RepairMark}
 use Rattle.srm_member.specs.declared.resting.Resting.{Resting}
 use Rattle.srm_net.specs.declared.packet.Local.{Local}
 use Rattle.srm_member.specs.React.{begins_at, with_progress, meet, lose_one, lose_from, names_from, lose_below, lost_below}
@@ -240,7 +240,7 @@ grows_planning : (at : ℕ) (n : Name) (who : ℕ) (width : Option ℕ) (m : Mem
 grows_planning at n who width m h = grows_timers m (with_repair_timer at n who width m) refl refl refl refl
     (λ k g. elim (has_cases k n _ m.repairs g) [ inl e ↦ inr (subst (λ x. Has x m.held) (sym e) h) | inr x ↦ inl x ])
 
-grows_resting : (at : ℕ) (n : Name) (who : ℕ) (mark : Option Mark) (m : MemberState) → Grows [] m (with_rest at n who mark m)
+grows_resting : (at : ℕ) (n : Name) (who : ℕ) (mark : Option RepairMark) (m : MemberState) → Grows [] m (with_rest at n who mark m)
 grows_resting at n who None m = grows_same m (with_rest at n who None m) refl refl refl refl refl
 grows_resting at n who (Some k) m = grows_same m (with_rest at n who (Some k) m) refl refl refl refl refl
 
@@ -439,7 +439,8 @@ rested m b at n who local r (inr t) =
       body = t.body;
     })
   where
-    rest_missing : (at : ℕ) (n : Name) (who : ℕ) (mark : Option Mark) (k : MemberState) → (with_rest at n who mark k).missing ≡ k.missing
+    rest_missing : (at : ℕ) (n : Name) (who : ℕ) (mark : Option RepairMark) (k : MemberState)
+        → (with_rest at n who mark k).missing ≡ k.missing
     rest_missing at n who None k = refl
     rest_missing at n who (Some x) k = refl
 
@@ -596,7 +597,7 @@ asking_effect at n m (Some x) e = record {
       ap is_some e;
 }
 
-grows_own_ended : (at : ℕ) (n : Name) (r : Repairing) (mark : Option Mark) (m : MemberState)
+grows_own_ended : (at : ℕ) (n : Name) (r : Repairing) (mark : Option RepairMark) (m : MemberState)
     → Grows [] m (with_own_timer_ended at n r mark m)
 grows_own_ended at n r mark m =
     let seen = with_answer_seen at r m in

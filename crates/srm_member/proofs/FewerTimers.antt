@@ -10,7 +10,7 @@ use Rattle.srm_net.specs.Roles.{is_listener}
 use Rattle.srm_member.specs.React.{Reaction, expire_repair, expire_repair_by_entry, expire_request, expire_request_by_entry, back_off}
 use Rattle.srm_member.specs.React.{react, with_request_delay, with_request_first, with_answer_seen, with_own_timer_ended}
 use Rattle.srm_member.specs.LocalRecovery.{local_of, mark_after}
-use Rattle.srm_member.specs.declared.mark.Mark.{Mark}
+use Rattle.srm_member.specs.declared.mark.RepairMark.{RepairMark}
 use Rattle.srm_member.proofs.TableChanges.{same_names}
 use Rattle.srm_member.specs.React.{react_listener, request_length, with_rest, without}
 use Rattle.srm_member.specs.Record.{Active, MemberState, Missing, Repairing, count_if, timers_at}
@@ -245,7 +245,7 @@ module _ (t : ℕ) (m : MemberState) (sound : IsSound m) (n : Name) where
   seen_leaves : (at : ℕ) (r : Repairing) (k : MemberState) → SameTables k (with_answer_seen at r k)
   seen_leaves at r k = grind arith
 
-  rest_leaves : (at : ℕ) (k : Name) (who : ℕ) (mark : Option Mark) (s : MemberState) → SameTables s (with_rest at k who mark s)
+  rest_leaves : (at : ℕ) (k : Name) (who : ℕ) (mark : Option RepairMark) (s : MemberState) → SameTables s (with_rest at k who mark s)
   rest_leaves at k who None s = (refl, refl)
   rest_leaves at k who (Some x) s = (refl, refl)
 

@@ -23,7 +23,7 @@ use Rattle.srm_member.specs.React.{hear_request_by_timer, with_answer_seen, with
 use Rattle.srm_member.specs.React.{meet, lose_one, lose_from, lose_below, hear_data, hear_repair}
 use Rattle.srm_member.specs.React.{hear_request_by_entry, hear_request_of_held, hear_request, after_entry}
 use Rattle.srm_member.specs.LocalRecovery.{serves, mark_from, mark_after, local_of, is_duplicate, is_second_step, takes_over}
-use Rattle.srm_member.specs.declared.mark.Mark.{Mark}
+use Rattle.srm_member.specs.declared.mark.RepairMark.{RepairMark}
 use Rattle.srm_member.specs.declared.resting.Resting.{Resting}
 use Rattle.srm_net.specs.declared.packet.Local.{Local}
 use Rattle.srm_member.specs.React.{hear_session, hear_body, expire_request_by_entry, expire_request, expire_repair_by_entry, expire_repair}
@@ -129,11 +129,12 @@ module _ (f : Fixed) (P Q : Interval → Type 0)
       → n.repair_interval ≡ m.repair_interval → Adapts m → Adapts n
   adapts_same m n e p q a = record { same = e ∙ a.same; requests = subst P (sym p) a.requests; repairs = subst Q (sym q) a.repairs }
 
-  pub adapts_mark : (n : Name) (mark : Option Mark) (m : MemberState) → Adapts m → Adapts (with_mark n mark m)
+  pub adapts_mark : (n : Name) (mark : Option RepairMark) (m : MemberState) → Adapts m → Adapts (with_mark n mark m)
   adapts_mark n None m a = record { same = a.same; requests = a.requests; repairs = a.repairs }
   adapts_mark n (Some k) m a = record { same = a.same; requests = a.requests; repairs = a.repairs }
 
-  pub adapts_rest : (at : ℕ) (n : Name) (who : ℕ) (mark : Option Mark) (m : MemberState) → Adapts m → Adapts (with_rest at n who mark m)
+  pub adapts_rest : (at : ℕ) (n : Name) (who : ℕ) (mark : Option RepairMark) (m : MemberState) → Adapts m
+      → Adapts (with_rest at n who mark m)
   adapts_rest at n who mark m a = adapts_mark n mark _ (record { same = a.same; requests = a.requests; repairs = a.repairs })
 
   pub adapts_set : (at : ℕ) (n : Name) (ticks who : ℕ) (width : Option ℕ) (m : MemberState) → Adapts m
@@ -160,7 +161,7 @@ module _ (f : Fixed) (P Q : Interval → Type 0)
   pub adapts_answer_seen : (at : ℕ) (r : Repairing) (m : MemberState) → Adapts m → Adapts (with_answer_seen at r m)
   adapts_answer_seen at r m a = adapts_choice (is_second_step m.fixed r) m (with_repair_first at r m) a (adapts_repair_first at r m a)
 
-  pub adapts_own_ended : (at : ℕ) (n : Name) (r : Repairing) (mark : Option Mark) (m : MemberState) → Adapts m
+  pub adapts_own_ended : (at : ℕ) (n : Name) (r : Repairing) (mark : Option RepairMark) (m : MemberState) → Adapts m
       → Adapts (with_own_timer_ended at n r mark m)
   adapts_own_ended at n r mark m a =
       let rested = adapts_rest at n m.fixed.member mark _ (adapts_answer_seen at r m a) in

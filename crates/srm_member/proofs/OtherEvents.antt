@@ -17,7 +17,7 @@ use Rattle.srm_member.specs.React.{hear_data, hear_body, after_entry, hear_sessi
 use Rattle.srm_member.specs.React.{expire_repair_by_entry, expire_repair, own_page, own_progress, draw_operation, with_drawn}
 use Rattle.srm_member.specs.React.{react_active, react, with_rest, with_answer_seen}
 use Rattle.srm_member.specs.LocalRecovery.{local_of, mark_after}
-use Rattle.srm_member.specs.declared.mark.Mark.{Mark}
+use Rattle.srm_member.specs.declared.mark.RepairMark.{RepairMark}
 use Rattle.srm_member.specs.AdaptingLaws.{may_adapt_requests, is_of_recovery, may_adapt_repairs, OtherEventsLeaveIntervals}
 
 -- ---- what each of two ways leaves, either leaves
@@ -59,7 +59,7 @@ asking : (at : ℕ) (n : Name) (m : MemberState) (o : Option Missing)
 asking at n m None = refl
 asking at n m (Some e) = refl
 
-resting : (at : ℕ) (n : Name) (who : ℕ) (mark : Option Mark) (m : MemberState)
+resting : (at : ℕ) (n : Name) (who : ℕ) (mark : Option RepairMark) (m : MemberState)
     → (with_rest at n who mark m).request_interval ≡ m.request_interval
 resting at n who None m = refl
 resting at n who (Some k) m = refl

@@ -16,7 +16,7 @@ use Rattle.srm_net.specs.Scopes.{scope_of}
 use Rattle.srm_member.specs.declared.cause.Cause.{Cause}
 use Rattle.srm_member.specs.declared.cause.Cause.TheVariants.{Join, Arrival, Ask, Answer, Draw, Report}
 use Rattle.srm_member.specs.declared.fixed.Fixed.{Fixed}
-use Rattle.srm_member.specs.declared.mark.Mark.{Mark}
+use Rattle.srm_member.specs.declared.mark.RepairMark.{RepairMark}
 use Rattle.srm_member.specs.declared.resting.Resting.{Resting}
 use Rattle.srm_member.specs.LocalRecovery.{local_of, mark_after, is_second_step, takes_over}
 use Rattle.srm_member.specs.Record.{MemberState, Missing, Repairing, Progress}
@@ -98,7 +98,7 @@ fewer_timers : (n k : Name) (r : Repairing) (es : List (Name × Repairing)) → 
 fewer_timers n k r es e = sym (without_there k n es (without_less k n es (ap is_some e)).0) ∙ e
 
 wide_rest : (at : ℕ) (n : Name) (who : ℕ) (m : MemberState) → IsWide m → IsWide (with_rest at n who None m)
-wide_rest at n who m w = record { scope = w.scope; marks = ap (λ (ks : List (Name × Mark)). without n ks) w.marks; timers = w.timers }
+wide_rest at n who m w = record { scope = w.scope; marks = ap (λ (ks : List (Name × RepairMark)). without n ks) w.marks; timers = w.timers }
 
 wide_seen : (at : ℕ) (n : Name) (who : ℕ) (rest : Resting) (o : Option Repairing) (m : MemberState) → IsWide m
     → IsWide (with_repair_seen at n who None rest o m)

@@ -5,7 +5,7 @@ use Rattle.std.specs.Option.{option_map}
 use Rattle.srm_net.specs.declared.packet.Local.{Local}
 use Rattle.srm_member.specs.declared.fixed.Fixed.{Fixed}
 use Rattle.srm_member.specs.declared.entries.Repairing.{Repairing}
-use Rattle.srm_member.specs.declared.mark.Mark.{Mark}
+use Rattle.srm_member.specs.declared.mark.RepairMark.{RepairMark}
 use Rattle.srm_member.specs.declared.resting.Resting.{Resting}
 use Rattle.srm_member.specs.declared.steps.Steps.{Steps}
 use Rattle.srm_member.specs.declared.steps.Steps.TheVariants.{One, Two}
@@ -35,26 +35,26 @@ local_of f r = option_map
 -- ---- marks
 
 -- the mark of a repair after so many hops: none where it has no scope
-abbrev pub mark_after : ℕ → Option Local → Option Mark
+abbrev pub mark_after : ℕ → Option Local → Option RepairMark
 mark_after hops local = option_map
     (λ (l : Local). record { requester = l.requester; width = l.width; left = l.scope - hops }) local
 
 -- the mark of a repair from this member, where it is heard
-abbrev pub mark_from : Fixed → ℕ → Option Local → Option Mark
+abbrev pub mark_from : Fixed → ℕ → Option Local → Option RepairMark
 mark_from f who local = mark_after (hops_to f who) local
 
 -- whether the repair was meant for the request: for one of that member's, at least as wide. No member's own requests
 -- are served so, since the repair has to go on from there
-abbrev pub is_meant : Fixed → Mark → ℕ → ℕ → Bool
+abbrev pub is_meant : Fixed → RepairMark → ℕ → ℕ → Bool
 is_meant f k who width = (k.requester == who) && (not (who == f.member) && nat_le width k.width)
 
 -- whether all that heard the request are within what the repair had left
-abbrev pub is_around : Fixed → Mark → ℕ → ℕ → Bool
+abbrev pub is_around : Fixed → RepairMark → ℕ → ℕ → Bool
 is_around f k who width = nat_le (hops_to f who + width) k.left
 
 -- whether the repair of this mark serves a request of this width by that member: one that went to all serves every
 -- request, and no other serves a request that went to all
-abbrev pub serves : Fixed → Option Mark → ℕ → Option ℕ → Bool
+abbrev pub serves : Fixed → Option RepairMark → ℕ → Option ℕ → Bool
 serves f None who width = true
 serves f (Some k) who None = false
 serves f (Some k) who (Some width) = is_meant f k who width || is_around f k who width

@@ -28,7 +28,7 @@ use Rattle.srm_member.specs.Intervals.{Interval, has_constants_of, begin_period,
 use Rattle.srm_member.specs.Intervals.{hear_duplicate}
 use Rattle.srm_member.specs.LocalRecovery.{scope_of_request, local_of, mark_after, mark_from, serves, rests_for}
 use Rattle.srm_member.specs.LocalRecovery.{is_duplicate, is_second_step, takes_over, are_two}
-use Rattle.srm_member.specs.Record.{Progress, Missing, Repairing, Mark, MemberState}
+use Rattle.srm_member.specs.Record.{Progress, Missing, Repairing, RepairMark, MemberState}
 use Rattle.srm_member.specs.declared.resting.Resting.{Resting}
 use Rattle.srm_net.specs.Limits.{most_drawn}
 
@@ -193,12 +193,12 @@ base m n who = distance_to m
     else n.source)
 
 -- the mark of a name's rest, if the repair that it comes from has one
-abbrev pub with_mark : Name → Option Mark → MemberState → MemberState
+abbrev pub with_mark : Name → Option RepairMark → MemberState → MemberState
 with_mark n None m = record m { marks = without n m.marks }
 with_mark n (Some k) m = record m { marks = put name_cmp n k m.marks }
 
 -- after a repair by that member, with this mark
-abbrev pub with_rest : ℕ → Name → ℕ → Option Mark → MemberState → MemberState
+abbrev pub with_rest : ℕ → Name → ℕ → Option RepairMark → MemberState → MemberState
 with_rest at n who mark m = with_mark n mark (record m { rests = put name_cmp n (at + 3 * base m n who) m.rests })
 
 -- a name's rest
@@ -223,7 +223,7 @@ abbrev pub interval_after_timer : ℕ → Repairing → MemberState → Interval
 interval_after_timer at r m = if is_second_step m.fixed r then m.repair_interval else after_repair_delay at r m
 
 -- a repair of this mark ends a pending repair timer, if it serves the request
-abbrev pub with_timer_ended : ℕ → Name → Option Mark → Repairing → MemberState → MemberState
+abbrev pub with_timer_ended : ℕ → Name → Option RepairMark → Repairing → MemberState → MemberState
 with_timer_ended at n mark r m =
     if serves m.fixed mark r.requester r.width
     then record m { repairs = without n m.repairs; repair_interval = interval_after_timer at r m }
@@ -390,7 +390,7 @@ abbrev pub with_answer_seen : ℕ → Repairing → MemberState → MemberState
 with_answer_seen at r m = if is_second_step m.fixed r then m else with_repair_first at r m
 
 -- after a member sent the repair of this timer, with this mark: it rests, and the timer ended
-abbrev pub with_own_timer_ended : ℕ → Name → Repairing → Option Mark → MemberState → MemberState
+abbrev pub with_own_timer_ended : ℕ → Name → Repairing → Option RepairMark → MemberState → MemberState
 with_own_timer_ended at n r mark m =
     let rested = with_rest at n m.fixed.member mark (with_answer_seen at r m) in
     record rested { repairs = without n rested.repairs }

@@ -14,7 +14,7 @@ use Rattle.srm_member.specs.declared.due.Due.{Due}
 use Rattle.srm_member.specs.declared.exit.Exit.{Exit}
 pub use Rattle.srm_member.specs.declared.entries.Missing.{Missing}
 pub use Rattle.srm_member.specs.declared.entries.Repairing.{Repairing}
-pub use Rattle.srm_member.specs.declared.mark.Mark.{Mark}
+pub use Rattle.srm_member.specs.declared.mark.RepairMark.{RepairMark}
 use Rattle.srm_member.specs.Intervals.{Interval, opening_interval}
 
 -- of one page: numbers below floor do not concern the member, and next is the first number not heard of
@@ -36,7 +36,7 @@ pub record MemberState : Type 0 where
   pub missing : List (Name × Missing)
   pub repairs : List (Name × Repairing)
   pub rests : List (Name × ℕ)
-  pub marks : List (Name × Mark)
+  pub marks : List (Name × RepairMark)
 
 -- a member's record: active, or gone, which keeps the fixed part alone
 pub data Record : Type 0 where

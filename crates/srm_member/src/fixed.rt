@@ -7,7 +7,7 @@ use crate::distances::Distances;
 use crate::entries::Repairing;
 use crate::hops::Hops;
 use crate::limits::Limits;
-use crate::mark::Mark;
+use crate::mark::RepairMark;
 use crate::resting::Resting;
 use crate::steps::Steps;
 use srm_net::packet::Local;
@@ -98,18 +98,18 @@ impl Fixed {
     }
 
     /// The mark of a repair from this member, where it is heard. It does not allocate.
-    pub fn mark_from(&self, who: u16, local: Option<Local>) -> Option<Mark>
+    pub fn mark_from(&self, who: u16, local: Option<Local>) -> Option<RepairMark>
         ensures { result ≡ mark_from self.now who local }
     {
         if local.is_none() {
             // no way is looked at where it is not needed
             return None;
         }
-        Mark::after(local, self.hops_to(who))
+        RepairMark::after(local, self.hops_to(who))
     }
 
     /// Whether the repair of this mark serves a request of this width by that member (this project's own). It does not allocate.
-    pub fn serves(&self, mark: Option<Mark>, who: u16, width: Option<u16>) -> bool
+    pub fn serves(&self, mark: Option<RepairMark>, who: u16, width: Option<u16>) -> bool
         ensures { result ≡ serves self.now mark who width }
     {
         let Some(mark) = mark else {

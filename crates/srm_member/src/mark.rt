@@ -6,7 +6,7 @@ use srm_net::packet::Local;
 
 /// What a member keeps of a repair with a scope that it sent or heard: for whom it was, and how far it went on (this project's own).
 #[derive(Clone, Copy, Debug, PartialEq, Eq)]
-pub struct Mark {
+pub struct RepairMark {
     /// The member whose request the repair answered.
     pub requester: u16,
     /// The width: the scope of that request, in hops.
@@ -15,14 +15,14 @@ pub struct Mark {
     pub left: u32,
 }
 
-impl Mark {
+impl RepairMark {
     /// The mark of a repair after so many hops, if it has a scope. It does not allocate.
     pub fn after(local: Option<Local>, hops: u32) -> Option<Self>
         ensures { result ≡ mark_after hops local }
     {
         match local {
             None => None,
-            Some(local) => Some(Mark {
+            Some(local) => Some(RepairMark {
                 requester: local.requester,
                 width: local.width,
                 left: local.scope.saturating_sub(hops),

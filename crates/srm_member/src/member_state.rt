@@ -17,7 +17,7 @@ use crate::fixed::Fixed;
 use crate::held::Held;
 use crate::interval::Interval;
 use crate::intervals::Intervals;
-use crate::mark::Mark;
+use crate::mark::RepairMark;
 use crate::named::Named;
 use crate::pages::Pages;
 use crate::pending::Pending;
@@ -45,7 +45,7 @@ pub struct MemberState {
     pub(crate) pending: Pending,
     pub(crate) rests: Rising<u64>,
     // of rests that come from a repair with a scope
-    pub(crate) marks: Named<Mark>,
+    pub(crate) marks: Named<RepairMark>,
     words: Lcg64Xsh32,
     request_interval: Interval,
     pub(crate) repair_interval: Interval,
@@ -586,7 +586,7 @@ impl MemberState {
             Some(repair) => {
                 let local = self.fixed.local_of(repair);
                 let ink = self.held.get(name).unwrap_or(0);
-                self.end_own_timer(at, name, repair, Mark::after(local, 0))?;
+                self.end_own_timer(at, name, repair, RepairMark::after(local, 0))?;
                 React::sent(alloc, Body::Repair { name, ink, local })
             }
         }

@@ -6,7 +6,7 @@ ghost use Rattle.srm_net.specs.Names.{name_cmp};
 ghost use Rattle.srm_member.specs.React.{with_mark, with_rest, rest_of, with_timer_ended, with_duplicate_repair, begins_second_step, with_second_step, after_repair, with_timer_taken_over, with_own_timer_ended};
 
 use crate::entries::Repairing;
-use crate::mark::Mark;
+use crate::mark::RepairMark;
 use crate::member_state::MemberState;
 use crate::resting::Resting;
 use crate::steps::Steps;
@@ -15,7 +15,11 @@ use std::alloc::AllocError;
 
 impl MemberState {
     // The mark of a name's rest is now this, or none. Gives the one before.
-    fn mark(&mut self, name: Name, mark: Option<Mark>) -> Result<Option<Mark>, AllocError>
+    fn mark(
+        &mut self,
+        name: Name,
+        mark: Option<RepairMark>,
+    ) -> Result<Option<RepairMark>, AllocError>
         ensures before { IfOk result (λ k. k ≡ find name_cmp name self.old.marks) }
         ensures ok { OnOk result (self.new ≡ with_mark name mark self.old) }
         ensures fixed { self.new.fixed ≡ self.old.fixed }
@@ -34,7 +38,7 @@ impl MemberState {
         at: u64,
         name: Name,
         who: u16,
-        mark: Option<Mark>,
+        mark: Option<RepairMark>,
     ) -> Result<Resting, AllocError>
         requires { at < end_of_time }
         ensures before { IfOk result (λ r. r ≡ rest_of name self.old) }
@@ -61,7 +65,7 @@ impl MemberState {
     }
 
     // A repair with this mark ends a pending repair timer, if it serves the request.
-    fn end_timer(&mut self, at: u64, name: Name, mark: Option<Mark>, repair: Repairing)
+    fn end_timer(&mut self, at: u64, name: Name, mark: Option<RepairMark>, repair: Repairing)
         requires { at < end_of_time }
         ensures { self.new ≡ with_timer_ended at name mark repair self.old }
     {
@@ -178,7 +182,7 @@ impl MemberState {
         at: u64,
         name: Name,
         repair: Repairing,
-        mark: Option<Mark>,
+        mark: Option<RepairMark>,
     ) -> Result<(), AllocError>
         requires { at < end_of_time }
         ensures ok { OnOk result (self.new ≡ with_own_timer_ended at name repair mark self.old) }

@@ -28,7 +28,7 @@ use Rattle.srm_member.specs.React.{hear_request_by_timer, hear_request_of_held, 
 use Rattle.srm_member.specs.React.{after_repair, begins_second_step, hear_repair, is_skip, rest_of, with_own_timer_ended}
 use Rattle.srm_member.specs.React.{with_repair_seen, with_rest, with_second_step, with_timer_taken_over}
 use Rattle.srm_member.specs.LocalRecovery.{is_second_step, local_of, mark_after, mark_from, serves, takes_over}
-use Rattle.srm_member.specs.declared.mark.Mark.{Mark}
+use Rattle.srm_member.specs.declared.mark.RepairMark.{RepairMark}
 use Rattle.srm_member.specs.declared.resting.Resting.{Resting}
 use Rattle.srm_member.specs.React.{page_heard, after_entry, lost_by_entry, hear_session, hear_body, expire_request_by_entry, expire_request}
 use Rattle.srm_member.specs.React.{expire_repair_by_entry, expire_repair}
@@ -153,7 +153,7 @@ module _ (members : ℕ) where
       (plain (with_mended n ink (with_progress p s (with_mending_seen at n repaired m))) Fixed met) (plain k Again met)))
 
   -- what a repair brings besides leaves pages as they are
-  rest_pages : (at : ℕ) (n : Name) (who : ℕ) (mark : Option Mark) (m : MemberState) → PagesOf m.progress
+  rest_pages : (at : ℕ) (n : Name) (who : ℕ) (mark : Option RepairMark) (m : MemberState) → PagesOf m.progress
       → PagesOf (with_rest at n who mark m).progress
   rest_pages at n who None m g = g
   rest_pages at n who (Some k) m g = g
@@ -268,7 +268,7 @@ module _ (members : ℕ) where
   asking_known at n m None g = plain m Skip g
   asking_known at n m (Some e) g = record { pages = g; lost = tt; apart = tt; session = tt }
 
-  ended_pages : (at : ℕ) (n : Name) (r : Repairing) (mark : Option Mark) (m : MemberState) → PagesOf m.progress
+  ended_pages : (at : ℕ) (n : Name) (r : Repairing) (mark : Option RepairMark) (m : MemberState) → PagesOf m.progress
       → PagesOf (with_own_timer_ended at n r mark m).progress
   ended_pages at n r None m g = either_way (λ (k : MemberState). PagesOf k.progress) (is_second_step m.fixed r) m _ g g
   ended_pages at n r (Some x) m g = either_way (λ (k : MemberState). PagesOf k.progress) (is_second_step m.fixed r) m _ g g

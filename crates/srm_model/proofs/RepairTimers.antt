@@ -26,7 +26,7 @@ use Rattle.srm_member.specs.React.{listen_data, lose_below, lose_from, lose_one,
 use Rattle.srm_member.specs.React.{own_progress, page_heard, react, react_active, react_listener, react_telling}
 use Rattle.srm_member.specs.React.{with_losses_begun, with_progress, with_repair_seen, with_rest, with_second_step, with_timer_set}
 use Rattle.srm_member.specs.LocalRecovery.{is_second_step, local_of, mark_after, mark_from, serves, takes_over}
-use Rattle.srm_member.specs.declared.mark.Mark.{Mark}
+use Rattle.srm_member.specs.declared.mark.RepairMark.{RepairMark}
 use Rattle.srm_member.specs.declared.resting.Resting.{Resting}
 use Rattle.srm_member.proofs.Changes.{Allowed, Effect, Quiet, effect}
 use Rattle.srm_member.proofs.TableChanges.{Has, has_cases, without_less}
@@ -95,7 +95,7 @@ but_fewer n m k f x h = inl (f x h)
 but_then : (n : Name) (m k l : MemberState) → FewerBut n m k → FewerBut n k l → FewerBut n m l
 but_then n m k l f g x h = elim (g x h) [ inl y ↦ f x y | inr y ↦ inr y ]
 
-rest_same : (at : ℕ) (n : Name) (who : ℕ) (mark : Option Mark) (m : MemberState) → Same m (with_rest at n who mark m)
+rest_same : (at : ℕ) (n : Name) (who : ℕ) (mark : Option RepairMark) (m : MemberState) → Same m (with_rest at n who mark m)
 rest_same at n who None m = refl
 rest_same at n who (Some k) m = refl
 
