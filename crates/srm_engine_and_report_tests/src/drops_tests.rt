@@ -8,7 +8,7 @@ use srm_engine::fault::RunFault;
 use srm_engine::step_run::step_run;
 use srm_engine::width::{Width, Windows};
 use srm_engine::window_run::window_run;
-use srm_examples::watched::Watch;
+use srm_examples::watched::MemberWatch;
 use srm_net::net::Net;
 use srm_scenario::scenario::Scenario;
 use std::alloc::{AllocError, Global};
@@ -45,7 +45,7 @@ fn run_watched(
     scenario: &Scenario,
     net: &Net,
     asked: Option<Windows>,
-    watch: &mut Watch,
+    watch: &mut MemberWatch,
 ) -> Result<(), AllocError>
     requires { net.now ≡ network_of scenario.now }
 {
@@ -76,7 +76,7 @@ fn run_watched(
 // One run with a member of each role. Whatever comes of it, each box that was made was dropped once when it has ended.
 fn run_once(rt: &impl Abort, alloc: Global, asked: Option<Windows>) -> Result<(), AllocError> {
     let (scenario, net) = opened(rt, alloc, EACH_ROLE)?;
-    let mut watch = Watch::new(alloc)?;
+    let mut watch = MemberWatch::new(alloc)?;
     let answer = run_watched(rt, alloc, &scenario, &net, asked, &mut watch);
     assert!(rt; watch.saw_each_dropped_once());
     if answer.is_ok() {

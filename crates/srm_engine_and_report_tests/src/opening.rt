@@ -5,7 +5,7 @@ ghost use Rattle.srm_member.specs.Record.{opening_record};
 ghost use Rattle.srm_cell.specs.Setting.{fixed_of};
 ghost use Rattle.srm_engine.specs.Openings.{HoldOpeningRecords};
 
-use srm_examples::watched::Watch;
+use srm_examples::watched::MemberWatch;
 use srm_member::member::Member;
 use srm_net::net::Net;
 use srm_net::role::Role;
@@ -48,7 +48,7 @@ fn member_of(
     scenario: &Scenario,
     net: &Net,
     m: u16,
-    watch: &mut Watch,
+    watch: &mut MemberWatch,
 ) -> Result<Box<dyn Member>, AllocError>
     requires member { m < length scenario.now.members }
     requires network { net.now ≡ network_of scenario.now }
@@ -88,7 +88,7 @@ pub(crate) fn members_of(
     alloc: Global,
     scenario: &Scenario,
     net: &Net,
-    watch: &mut Watch,
+    watch: &mut MemberWatch,
 ) -> Result<Vec<Box<dyn Member>>, AllocError>
     requires { net.now ≡ network_of scenario.now }
     ensures { IfOk result (λ members. HoldOpeningRecords scenario.now net.now 0

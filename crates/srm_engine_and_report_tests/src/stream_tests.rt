@@ -9,7 +9,7 @@ use srm_engine::stream_fault::StreamFault;
 use srm_engine::width::{Width, Windows};
 use srm_engine::window_stream::window_stream;
 use srm_examples::scenarios::CHAIN_OF_FIVE_ONE_LOSS;
-use srm_examples::watched::Watch;
+use srm_examples::watched::MemberWatch;
 use srm_interfaces::sink::RowSink;
 use srm_report::listing_sink::ListingSink;
 use srm_report::outlet::WriteOutlet;
@@ -26,7 +26,7 @@ fn stream_text<S: RowSink>(
     rt: &impl Abort,
     alloc: Global,
     text: &str,
-    watch: &mut Watch,
+    watch: &mut MemberWatch,
     asked: Option<Windows>,
     sink: &mut S,
 ) -> Result<Option<StreamFault>, AllocError>
@@ -76,7 +76,7 @@ fn reacts_of_run(
     text: &str,
     asked: Option<Windows>,
 ) -> Result<(Option<u64>, u64), AllocError> {
-    let mut watch = Watch::new(alloc)?;
+    let mut watch = MemberWatch::new(alloc)?;
     let reacts = watch.reacts()?;
     let mut outlet = WriteOutlet::new(Noting {
         number: watch.reacts()?,

@@ -5,14 +5,14 @@ use srm_engine::fault::RunFault;
 use srm_engine::width::{Width, Windows};
 use srm_engine::window_run::window_run;
 use srm_examples::scenarios::A_SENDER_AND_TWO_LISTENERS;
-use srm_examples::watched::Watch;
+use srm_examples::watched::MemberWatch;
 use std::alloc::{AllocError, Global};
 use std::process::Abort;
 
 // The crew to which promise windows of a scenario's run were handed, with three cells in a job.
 fn recorded(rt: &impl Abort, alloc: Global, text: &str) -> Result<Recording, AllocError> {
     let (scenario, net) = opened(rt, alloc, text)?;
-    let members = members_of(alloc, &scenario, &net, &mut Watch::new(alloc)?)?;
+    let members = members_of(alloc, &scenario, &net, &mut MemberWatch::new(alloc)?)?;
     let mut crew = Recording::new(alloc);
     let windows = Windows {
         cut: 3,

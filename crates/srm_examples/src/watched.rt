@@ -52,20 +52,20 @@ impl<M: Member> Member for Watched<M> {
 
 /// How often some members have reacted together, and how often each was dropped.
 #[derive(Drop)]
-pub struct Watch {
+pub struct MemberWatch {
     reacts: Arc<AtomicU64>,
     drops: Vec<Arc<AtomicU64>>,
 }
 
-impl Watch {
+impl MemberWatch {
     /// No member is watched yet.
     ///
     /// # Errors
     /// [`AllocError`] alone.
-    pub fn new(alloc: Global) -> Result<Watch, AllocError>
+    pub fn new(alloc: Global) -> Result<MemberWatch, AllocError>
         ensures { IfOk result (λ w. w.drops.items ≡ []) }
     {
-        Ok(Watch {
+        Ok(MemberWatch {
             reacts: Arc::new(alloc, AtomicU64::new(0))?,
             drops: Vec::new(alloc),
         })

@@ -15,7 +15,7 @@ use srm_crew::piece::Piece;
 use srm_crew::watch_team::WatchTeam;
 use srm_crew::watching::Watching;
 use srm_crew::worked::Worked;
-use srm_examples::watched::Watch;
+use srm_examples::watched::MemberWatch;
 use srm_interfaces::fault::CrewFault;
 use srm_interfaces::watch_crew::WatchCrew;
 use srm_interfaces::watched::{WatchedDone, WatchedJob};
@@ -76,7 +76,7 @@ fn map_first<R: Wait + Abort>(
     rt: &R,
     alloc: Global,
     case: &Case,
-    watch: &mut Watch,
+    watch: &mut MemberWatch,
 ) -> Result<(), AllocError> {
     let (scenario, net) = opened(rt, alloc, case.scenario)?;
     let jobs = first_jobs(rt, alloc, &scenario, &net, case, watch)?;
@@ -98,7 +98,7 @@ fn map_first<R: Wait + Abort>(
 
 // The same. Each box is dropped once, whatever comes of it.
 fn map_once<R: Wait + Abort>(rt: &R, alloc: Global, case: &Case) -> Result<(), AllocError> {
-    let mut watch = Watch::new(alloc)?;
+    let mut watch = MemberWatch::new(alloc)?;
     let answer = map_first(rt, alloc, case, &mut watch);
     assert!(rt; watch.saw_each_dropped_once());
     answer

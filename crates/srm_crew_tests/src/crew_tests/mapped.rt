@@ -15,7 +15,7 @@ use srm_crew::bag_crew::BagCrew;
 use srm_crew::gate::OpenGate;
 use srm_crew::plain::PlainCrew;
 use srm_crew::pool::PoolCrew;
-use srm_examples::watched::{Watch, Watched};
+use srm_examples::watched::{MemberWatch, Watched};
 use srm_ledger::ledger::{Ledger, Seat};
 use srm_member::fault::MemberFault;
 use srm_member::member::Member;
@@ -36,7 +36,7 @@ const MOST_PACKETS: u64 = 281_474_976_710_656;
 // A member that is watched from now on.
 fn watched<M: Member>(
     alloc: Global,
-    watch: &mut Watch,
+    watch: &mut MemberWatch,
     member: Result<M, MemberFault>,
 ) -> Result<Watched<M>, AllocError> {
     match member {
@@ -52,7 +52,7 @@ fn member_of(
     scenario: &Scenario,
     net: &Net,
     m: u16,
-    watch: &mut Watch,
+    watch: &mut MemberWatch,
 ) -> Result<Box<dyn Member>, AllocError>
     requires member { m < length scenario.now.members }
     requires network { net.now ≡ network_of scenario.now }
@@ -83,7 +83,7 @@ fn first_member(
     net: &Net,
     m: u16,
     case: &Case,
-    watch: &mut Watch,
+    watch: &mut MemberWatch,
 ) -> Result<Box<dyn Member>, AllocError>
     requires member { m < length scenario.now.members }
     requires network { net.now ≡ network_of scenario.now }
@@ -102,7 +102,7 @@ pub(crate) fn first_jobs(
     scenario: &Scenario,
     net: &Net,
     case: &Case,
-    watch: &mut Watch,
+    watch: &mut MemberWatch,
 ) -> Result<Vec<Job>, AllocError>
     requires { net.now ≡ network_of scenario.now }
     ensures { IfOk result (λ jobs. MayMap (λ b. (⟦<dyn Member as Member>⟧ b.vtable).plain b.value)
@@ -137,7 +137,7 @@ fn map_members<C: BoxCrew>(
     scenario: &Scenario,
     net: &Net,
     case: &Case,
-    watch: &mut Watch,
+    watch: &mut MemberWatch,
 ) -> Result<(), AllocError>
     requires ready { C.ready crew.old }
     requires network { net.now ≡ network_of scenario.now }
@@ -172,7 +172,7 @@ fn map_once<C: BoxCrew>(
     ensures { C.ready crew.new }
 {
     let (scenario, net) = opened(rt, alloc, case.scenario)?;
-    let mut watch = Watch::new(alloc)?;
+    let mut watch = MemberWatch::new(alloc)?;
     let answer = map_members(rt, alloc, crew, &scenario, &net, case, &mut watch);
     assert!(rt; watch.saw_each_dropped_once());
     answer
