@@ -1,6 +1,6 @@
 -- When a packet comes to the nodes of a tree.
 use Rattle.std.proofs.Common.{◌≡◌, ◌≢◌, ℕ, ◌+◌, ◌-◌, ◌^◌, ◌<◌, ◌≤◌, Bool, true, false, not, ◌&&◌, List, Option, Some, None, length}
-use Rattle.std.proofs.Common.{refl, sym, ap, ◌∙◌, subst, inl, inr, arith, slice_get, slice_set, if◌then◌else◌, IfSome}
+use Rattle.std.proofs.Common.{refl, sym, ap, ◌∙◌, subst, inl, inr, arith, slice_get, slice_set, slice_index_or, if◌then◌else◌, IfSome}
 use Rattle.std.proofs.lemmas.Bool.{cases_eq, cases_lt}
 use Rattle.std.proofs.lemmas.List.{length-set}
 use Rattle.srm_net.specs.declared.position.Position.{Position}
@@ -8,8 +8,8 @@ use Rattle.srm_net.specs.Limits.{end_of_time}
 use Rattle.srm_net.specs.Network.{Network, IsTree, IsNetwork}
 use Rattle.srm_net.specs.Paths.{route, delay_of, delay_along, Stop, stop}
 use Rattle.srm_net.specs.Rooting.{takes, at, IsRooted, IsFirstLink, IsHeld, IsInOrder}
-use Rattle.srm_net.specs.Spreads.{comes_to, arrival, past_link, TellsArrivals, TellsAbove}
-use Rattle.srm_net.proofs.Lists.{get_below, get_set_same, get_set_other}
+use Rattle.srm_net.specs.Spreads.{comes_to, arrival, past_link, TellsArrivals, TellsAbove, TellsFirst}
+use Rattle.srm_net.proofs.Lists.{get_below, get_index, index_get, get_set_same, get_set_other}
 use Rattle.srm_net.proofs.RouteLemmas.{route_path}
 use Rattle.srm_net.proofs.PathLaws.{delay_bounded}
 use Rattle.srm_net.proofs.TreeWays.{delay_push}
@@ -164,20 +164,32 @@ module _ (w : Network) (ps : List Position) (r : IsRooted w ps) where
         comes = comes_over w r.tree out u t p x l ((at ps x).down - (at ps p).down) hu hx f (omega arith);
       }
 
-  -- the same as it is read
-  pub record DownRead (out : Stop → Bool) (u t x : ℕ) (here there : Position) : Type 0 where
+  -- the same as it is read, where it is told of the nodes at earlier places
+  pub record DownRead (out : Stop → Bool) (u t x : ℕ) (arrivals : List (Option ℕ)) (here there : Position) : Type 0 where
     pub node : here.parent < w.nodes
-    pub lower : (at ps here.parent).place < here.place
     pub less : there.down ≤ here.down
-    pub comes : Comes w out u t here.parent x here.link (here.down - there.down)
+    pub in_time : IsNetwork w → t < end_of_time
+        → IfSome (slice_index_or arrivals here.parent None) (λ k. k + (here.down - there.down) < 2 ^ 64)
+    pub arrival_is : past_link out here.link (here.down - there.down) (slice_index_or arrivals here.parent None) ≡ arrival w out u t x
 
-  pub downwards_read : (out : Stop → Bool) (u t x : ℕ) (here there : Position) → u < w.nodes → x < w.nodes
-      → (IsHeld (at ps x) (at ps u) → ⊥) → here ≡ at ps x → there ≡ at ps here.parent → DownRead out u t x here there
-  downwards_read out u t x here there hu hx n e f =
+  pub downwards_read : {out : Stop → Bool} {u t x : ℕ} {arrivals : List (Option ℕ)} {here there : Position} → u < w.nodes → x < w.nodes
+      → (IsHeld (at ps x) (at ps u) → ⊥) → TellsFirst w ps out u t (at ps x).place arrivals → here ≡ at ps x → there ≡ at ps here.parent
+      → DownRead out u t x arrivals here there
+  downwards_read {out} {u} {t} {x} {arrivals} {here} {there} hu hx n first e f =
       let down = downwards out u t x hu hx n in
-      let P : Position → Type 0 = λ h. (q : Position) → q ≡ at ps h.parent → DownRead out u t x h q in
-      let at_x : P (at ps x) = λ q g. subst (λ (k : Position). DownRead out u t x (at ps x) k) (sym g)
-      (record { node = down.node; lower = down.lower; less = down.less; comes = down.comes }) in
+      let p = (at ps x).parent in
+      let l = (at ps x).link in
+      let ticks = (at ps x).down - (at ps p).down in
+      let read : slice_index_or arrivals p None ≡ arrival w out u t p =
+      get_index arrivals p (arrival w out u t p) None (first.told p down.node down.lower) in
+      let P : Position → Type 0 = λ h. (q : Position) → q ≡ at ps h.parent → DownRead out u t x arrivals h q in
+      let at_x : P (at ps x) = λ q g. subst (λ (k : Position). DownRead out u t x arrivals (at ps x) k) (sym g) (record {
+        node = down.node;
+        less = down.less;
+        in_time = λ k ht. subst (λ (a : Option ℕ). IfSome a (λ m. m + ticks < 2 ^ 64)) (sym read)
+            (soon w k out u t p x l ticks hu hx ht down.comes);
+        arrival_is = ap (past_link out l ticks) read ∙ sym down.comes.arrival_is;
+      }) in
       subst P (sym e) at_x there f
 
   -- ---- the climb from the sender
@@ -244,55 +256,53 @@ module _ (w : Network) (ps : List Position) (r : IsRooted w ps) where
 
   -- ---- the pass over all nodes
 
-  -- it is told of those above the sender, and of those at the first i places
-  pub record Passed (out : Stop → Bool) (u t i : ℕ) (arrivals : List (Option ℕ)) : Type 0 where
-    pub size : length arrivals ≡ w.nodes
-    pub above : (x : ℕ) → x < w.nodes → IsHeld (at ps x) (at ps u) → slice_get arrivals x ≡ Some (arrival w out u t x)
-    pub told : (x : ℕ) → x < w.nodes → (at ps x).place < i → slice_get arrivals x ≡ Some (arrival w out u t x)
+  -- the i-th node of the order
+  pub ordered : {order items : List ℕ} {i : ℕ} → IsInOrder w ps order → items ≡ order → i < length items
+      → (slice_index_or items i 0 < w.nodes) × ((at ps (slice_index_or items i 0)).place ≡ i)
+  ordered {order} {items} {i} o e lt =
+      o.node i (slice_index_or items i 0) (ap (λ ns. slice_get ns i) (sym e) ∙ index_get items i 0 lt)
 
-  pub passed_none : (out : Stop → Bool) (u t : ℕ) (arrivals : List (Option ℕ)) → TellsAbove w ps out u t arrivals
-      → Passed out u t 0 arrivals
-  passed_none out u t arrivals a = record { size = a.nodes; above = a.above; told = λ x hx lt. absurd (omega arith) }
-
-  pub passed_held : (out : Stop → Bool) (u t i x : ℕ) (arrivals : List (Option ℕ)) → x < w.nodes → (at ps x).place ≡ i
-      → IsHeld (at ps x) (at ps u) → Passed out u t i arrivals → Passed out u t (i + 1) arrivals
-  passed_held out u t i x arrivals hx e held p = record {
-    size = p.size;
-    above = p.above;
+  pub first_held : {out : Stop → Bool} {u t i x : ℕ} {arrivals : List (Option ℕ)} → x < w.nodes → (at ps x).place ≡ i
+      → IsHeld (at ps x) (at ps u) → TellsFirst w ps out u t i arrivals → TellsFirst w ps out u t (i + 1) arrivals
+  first_held {out} {u} {t} {i} {x} {arrivals} hx e held f = record {
+    above = f.above;
     told = λ y hy lt.
         elim (cases_eq (at ps y).place i) [
-          | inl f ↦ (let same : x ≡ y = same_place x y hx hy (e ∙ sym f) in
-              subst (λ z. slice_get arrivals z ≡ Some (arrival w out u t z)) same (p.above x hx held))
-          | inr n ↦ p.told y hy (omega arith)
+          | inl g ↦ subst (λ z. slice_get arrivals z ≡ Some (arrival w out u t z)) (same_place x y hx hy (e ∙ sym g))
+              (f.above.above x hx held)
+          | inr n ↦ f.told y hy (omega arith)
         ];
   }
 
-  pub passed_more : (out : Stop → Bool) (u t i x : ℕ) (arrivals : List (Option ℕ)) (v : Option ℕ) → x < w.nodes → (at ps x).place ≡ i
-      → Passed out u t i arrivals → v ≡ arrival w out u t x → Passed out u t (i + 1) (slice_set arrivals x v)
-  passed_more out u t i x arrivals v hx e p f =
-      let size : length arrivals ≡ w.nodes = p.size in
-      let here : slice_get (slice_set arrivals x v) x ≡ Some (arrival w out u t x) =
-      get_set_same arrivals x v (omega arith) ∙ ap Some f in
+  pub first_more : {out : Stop → Bool} {u t x : ℕ} {arrivals : List (Option ℕ)} {v : Option ℕ} → x < w.nodes
+      → TellsFirst w ps out u t (at ps x).place arrivals → v ≡ arrival w out u t x
+      → TellsFirst w ps out u t ((at ps x).place + 1) (slice_set arrivals x v)
+  first_more {out} {u} {t} {x} {arrivals} {v} hx f is =
+      let size : length arrivals ≡ w.nodes = f.above.nodes in
+      let Told : ℕ → Type 0 = λ y. slice_get (slice_set arrivals x v) y ≡ Some (arrival w out u t y) in
+      let here : Told x = get_set_same arrivals x v (omega arith) ∙ ap Some is in
       record {
-        size = length-set arrivals x v ∙ size;
-        above = λ y hy held.
-            elim (cases_eq x y) [
-              | inl same ↦ subst (λ z. slice_get (slice_set arrivals x v) z ≡ Some (arrival w out u t z)) same here
-              | inr other ↦ get_set_other arrivals x y v other ∙ p.above y hy held
-            ];
+        above = record {
+          nodes = length-set arrivals x v ∙ size;
+          above = λ y hy held.
+              elim (cases_eq x y) [
+                | inl same ↦ subst Told same here
+                | inr other ↦ get_set_other arrivals x y v other ∙ f.above.above y hy held
+              ];
+        };
         told = λ y hy lt.
             elim (cases_eq x y) [
-              | inl same ↦ subst (λ z. slice_get (slice_set arrivals x v) z ≡ Some (arrival w out u t z)) same here
-              | inr other ↦ (let n : (at ps y).place ≢ i = λ g. other (same_place x y hx hy (e ∙ sym g)) in
-                  get_set_other arrivals x y v other ∙ p.told y hy (less_of (at ps y).place i n lt))
+              | inl same ↦ subst Told same here
+              | inr other ↦ (let n : (at ps y).place ≢ (at ps x).place = λ g. other (same_place x y hx hy (sym g)) in
+                  get_set_other arrivals x y v other ∙ f.told y hy (less_of (at ps y).place (at ps x).place n lt))
             ];
       }
 
-  pub passed_all : (out : Stop → Bool) (u t i : ℕ) (order : List ℕ) (arrivals : List (Option ℕ)) → IsInOrder w ps order
-      → length order ≤ i → Passed out u t i arrivals → TellsArrivals w out u t arrivals
-  passed_all out u t i order arrivals o h p = record {
-    nodes = p.size;
+  pub first_all : {out : Stop → Bool} {u t i : ℕ} {order : List ℕ} {arrivals : List (Option ℕ)} → IsInOrder w ps order
+      → length order ≤ i → TellsFirst w ps out u t i arrivals → TellsArrivals w out u t arrivals
+  first_all {out} {u} {t} {i} {order} {arrivals} o h f = record {
+    nodes = f.above.nodes;
     each = λ x hx.
         let within = get_below order (at ps x).place x (o.each x hx) in
-        p.told x hx (omega arith);
+        f.told x hx (omega arith);
   }

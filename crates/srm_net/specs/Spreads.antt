@@ -52,6 +52,13 @@ pub record TellsAbove (w : Network) (positions : List Position) (out : Stop → 
   pub above : (x : ℕ) → x < w.nodes → IsHeld (at positions x) (at positions u)
       → slice_get arrivals x ≡ Some (arrival w out u t x)
 
+-- and of those at the first i places
+pub record TellsFirst (w : Network) (positions : List Position) (out : Stop → Bool) (u t i : ℕ)
+    (arrivals : List (Option ℕ)) : Type 0 where
+  pub above : TellsAbove w positions out u t arrivals
+  pub told : (x : ℕ) → x < w.nodes → (at positions x).place < i
+      → slice_get arrivals x ≡ Some (arrival w out u t x)
+
 -- it is told of each node how many hops it is from this one
 pub record TellsHops (w : Network) (u : ℕ) (hops : List ℕ) : Type 0 where
   pub nodes : length hops ≡ w.nodes

@@ -7,7 +7,7 @@ ghost use Rattle.srm_net.specs.Listed.{is_listed_somewhere};
 ghost use Rattle.srm_net.specs.Network.{Network, HasDelays, IsNetwork, IsTree, IsWithin, plain_network};
 ghost use Rattle.srm_net.specs.Paths.{hops_between, takes_out};
 ghost use Rattle.srm_net.specs.Rooting.{takes, at, IsRooted, TellsTree, IsMeeting, IsFirstLink, IsHeld, IsChildAbove};
-ghost use Rattle.srm_net.specs.Spreads.{TellsArrivals, TellsAbove, TellsHops};
+ghost use Rattle.srm_net.specs.Spreads.{TellsArrivals, TellsAbove, TellsFirst, TellsHops};
 
 use crate::drops::Drops;
 use crate::link::LinkSpec;
@@ -236,14 +236,32 @@ impl Rooted {
     {
         let from = self.position(packet.from).place;
         for node in self.order.as_slice() {
-            let here = self.position(*node);
-            if here.holds(from) {
+            if self.position(*node).holds(from) {
                 continue;
             }
-            let ticks = here.down - self.position(here.parent).down;
-            let at = arrivals[usize::from(here.parent)];
-            arrivals[usize::from(*node)] = packet.past(drops, here.link, ticks, at);
+            self.arrive_at(drops, packet, *node, arrivals);
         }
+    }
+
+    /// Tells when a packet comes to a node that is not above its sender, where it is told of the nodes at earlier places.
+    #[inline(always)]
+    fn arrive_at(&self, drops: &Drops, packet: Sending, node: u16, arrivals: &mut [Option<u64>])
+        requires rooted { (w : Network) × IsNetwork w × IsRooted w self.now.positions.items × (packet.from < w.nodes) × (node < w.nodes)
+            × TellsFirst w self.now.positions.items (takes_out drops.now packet.id) packet.from packet.sent
+            (at self.now.positions.items node).place arrivals.old }
+        requires apart { ¬ IsHeld (at self.now.positions.items node) (at self.now.positions.items packet.from) }
+        requires sent { packet.sent < end_of_time }
+        requires listed { packet.is_listed ≡ is_listed_somewhere drops.now.listed packet.id }
+        ensures { (w : Network) → IsRooted w self.now.positions.items → packet.from < w.nodes → node < w.nodes
+            → TellsFirst w self.now.positions.items (takes_out drops.now packet.id) packet.from packet.sent
+            (at self.now.positions.items node).place arrivals.old
+            → TellsFirst w self.now.positions.items (takes_out drops.now packet.id) packet.from packet.sent
+            ((at self.now.positions.items node).place + 1) arrivals.new }
+    {
+        let here = self.position(node);
+        let ticks = here.down - self.position(here.parent).down;
+        let at = arrivals[usize::from(here.parent)];
+        arrivals[usize::from(node)] = packet.past(drops, here.link, ticks, at);
     }
 
     /// The link by which the way from one node to another begins, and the node to which it leads. It takes a number of steps that grows

@@ -4,32 +4,25 @@ use Rattle.srm_net.specs.declared.position.Position.{Position}
 use Rattle.srm_net.specs.Limits.{most_nodes}
 use Rattle.srm_net.specs.Paths.{hops_between}
 use Rattle.srm_net.specs.Rooting.{at}
-use Rattle.srm_net.proofs.Lists.{get_index, index_get}
-use Rattle.srm_net.proofs.Arrivals.{held_read, not_held_read}
+use Rattle.srm_net.proofs.Lists.{get_index}
+use Rattle.srm_net.proofs.Arrivals.{held_read, not_held_read, ordered}
 use Rattle.srm_net.proofs.HopTables.{Counted, Above, Below, counted_more, counted_all, hops_above, hops_below}
 use Rattle.srm_net.proofs.rooted.Rooted.hops_from.Goals as goal
 
 pub position-there-requires : goal.position-there-requires
 position-there-requires c =
     let q = c.requires.rooted in
-    let i = c.loop-node.node-index in
-    let items = c.as_slice-node-items.result.now in
-    let x = slice_index_or items i 0 in
-    let stands : slice_get c.args.self.now.order.items i ≡ Some x =
-    ap (λ ns. slice_get ns i) (sym c.as_slice-node-items.ensures.value) ∙ index_get items i 0 c.loop-node-test.true in
-    subst (λ m. x < m) (sym q.2.rooted.long) (q.2.order.node i x stands).0
+    let x = slice_index_or c.as_slice-node-items.result.now c.loop-node.node-index 0 in
+    subst (λ m. x < m) (sym q.2.rooted.long)
+    (ordered q.0 _ q.2.rooted q.2.order c.as_slice-node-items.ensures.value c.loop-node-test.true).0
 
 pub overflow_sub-here : goal.overflow_sub-here
 overflow_sub-here c =
     let q = c.requires.rooted in
     let w = q.0 in
     let ps = c.args.self.now.positions.items in
-    let i = c.loop-node.node-index in
-    let items = c.as_slice-node-items.result.now in
-    let x = slice_index_or items i 0 in
-    let stands : slice_get c.args.self.now.order.items i ≡ Some x =
-    ap (λ ns. slice_get ns i) (sym c.as_slice-node-items.ensures.value) ∙ index_get items i 0 c.loop-node-test.true in
-    let k = q.2.order.node i x stands in
+    let x = slice_index_or c.as_slice-node-items.result.now c.loop-node.node-index 0 in
+    let k = ordered q.0 _ q.2.rooted q.2.order c.as_slice-node-items.ensures.value c.loop-node-test.true in
     let a : Above w ps q.2.rooted c.args.from x = hops_above w ps q.2.rooted c.args.from x q.3 k.0
     (held_read ps x c.args.from c.position-there.result c.position-here.result c.position-there.ensures c.position-here.ensures
     (c.holds.ensures.within c.if-holds.true)) in
@@ -43,12 +36,8 @@ index-requires c =
     let q = c.requires.rooted in
     let w = q.0 in
     let ps = c.args.self.now.positions.items in
-    let i = c.loop-node.node-index in
-    let items = c.as_slice-node-items.result.now in
-    let x = slice_index_or items i 0 in
-    let stands : slice_get c.args.self.now.order.items i ≡ Some x =
-    ap (λ ns. slice_get ns i) (sym c.as_slice-node-items.ensures.value) ∙ index_get items i 0 c.loop-node-test.true in
-    let k = q.2.order.node i x stands in
+    let x = slice_index_or c.as_slice-node-items.result.now c.loop-node.node-index 0 in
+    let k = ordered q.0 _ q.2.rooted q.2.order c.as_slice-node-items.ensures.value c.loop-node-test.true in
     let b : Below w ps q.2.rooted c.args.from x = hops_below w ps q.2.rooted c.args.from x q.3 k.0
     (not_held_read ps x c.args.from c.position-there.result c.position-here.result c.holds.result c.position-there.ensures
     c.position-here.ensures c.holds.ensures.whole c.if-holds.false) in
@@ -66,11 +55,8 @@ overflow_add-index c =
     let ps = c.args.self.now.positions.items in
     let u = c.args.from in
     let i = c.loop-node.node-index in
-    let items = c.as_slice-node-items.result.now in
-    let x = slice_index_or items i 0 in
-    let stands : slice_get c.args.self.now.order.items i ≡ Some x =
-    ap (λ ns. slice_get ns i) (sym c.as_slice-node-items.ensures.value) ∙ index_get items i 0 c.loop-node-test.true in
-    let k = q.2.order.node i x stands in
+    let x = slice_index_or c.as_slice-node-items.result.now i 0 in
+    let k = ordered q.0 _ q.2.rooted q.2.order c.as_slice-node-items.ensures.value c.loop-node-test.true in
     let hops = c.loop-node.hops.items in
     let b : Below w ps q.2.rooted u x = hops_below w ps q.2.rooted u x q.3 k.0
     (not_held_read ps x u c.position-there.result c.position-here.result c.holds.result c.position-there.ensures
@@ -93,11 +79,8 @@ loop-node-preserved-then-holds c w tree hf =
     let ps = c.args.self.now.positions.items in
     let u = c.args.from in
     let i = c.loop-node.node-index in
-    let items = c.as_slice-node-items.result.now in
-    let x = slice_index_or items i 0 in
-    let stands : slice_get c.args.self.now.order.items i ≡ Some x =
-    ap (λ ns. slice_get ns i) (sym c.as_slice-node-items.ensures.value) ∙ index_get items i 0 c.loop-node-test.true in
-    let k = tree.order.node i x stands in
+    let x = slice_index_or c.as_slice-node-items.result.now i 0 in
+    let k = ordered w _ tree.rooted tree.order c.as_slice-node-items.ensures.value c.loop-node-test.true in
     let hops = c.loop-node.hops.items in
     let a : Above w ps tree.rooted u x = hops_above w ps tree.rooted u x hf k.0
     (held_read ps x u c.position-there.result c.position-here.result c.position-there.ensures c.position-here.ensures
@@ -115,11 +98,8 @@ loop-node-preserved c w tree hf =
     let ps = c.args.self.now.positions.items in
     let u = c.args.from in
     let i = c.loop-node.node-index in
-    let items = c.as_slice-node-items.result.now in
-    let x = slice_index_or items i 0 in
-    let stands : slice_get c.args.self.now.order.items i ≡ Some x =
-    ap (λ ns. slice_get ns i) (sym c.as_slice-node-items.ensures.value) ∙ index_get items i 0 c.loop-node-test.true in
-    let k = tree.order.node i x stands in
+    let x = slice_index_or c.as_slice-node-items.result.now i 0 in
+    let k = ordered w _ tree.rooted tree.order c.as_slice-node-items.ensures.value c.loop-node-test.true in
     let hops = c.loop-node.hops.items in
     let b : Below w ps tree.rooted u x = hops_below w ps tree.rooted u x hf k.0
     (not_held_read ps x u c.position-there.result c.position-here.result c.holds.result c.position-there.ensures
