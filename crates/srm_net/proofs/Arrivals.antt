@@ -110,21 +110,6 @@ module _ (w : Network) (ps : List Position) (r : IsRooted w ps) where
         comes = comes_over w r.tree out u t n p (at ps n).link ((at ps n).up - (at ps p).up) hu a.node first (omega arith);
       }
 
-  -- the same as it is read
-  pub record UpRead (out : Stop → Bool) (u t n : ℕ) (here there : Position) : Type 0 where
-    pub node : here.parent < w.nodes
-    pub less : there.up ≤ here.up
-    pub comes : Comes w out u t n here.parent here.link (here.up - there.up)
-
-  pub upwards_read : (out : Stop → Bool) (u t n : ℕ) (here there : Position) → u < w.nodes → n < w.nodes → n ≢ 0
-      → IsHeld (at ps n) (at ps u) → here ≡ at ps n → there ≡ at ps here.parent → UpRead out u t n here there
-  upwards_read out u t n here there hu hn d held e f =
-      let up = upwards out u t n hu hn d held in
-      let P : Position → Type 0 = λ h. (q : Position) → q ≡ at ps h.parent → UpRead out u t n h q in
-      let at_n : P (at ps n) = λ q g. subst (λ (k : Position). UpRead out u t n (at ps n) k) (sym g)
-      (record { node = up.node; less = up.less; comes = up.comes }) in
-      subst P (sym e) at_n there f
-
   -- from its parent to a node that is not above the sender
   pub record Down (out : Stop → Bool) (u t x : ℕ) : Type 0 where
     pub node : (at ps x).parent < w.nodes
@@ -244,6 +229,37 @@ module _ (w : Network) (ps : List Position) (r : IsRooted w ps) where
               ])
             ];
       }
+
+  -- a step of the climb as it is read
+  pub record UpRead (out : Stop → Bool) (u t n : ℕ) (arrivals : List (Option ℕ)) (here there : Position) : Type 0 where
+    pub node : here.parent < w.nodes
+    pub lower : (at ps here.parent).place < (at ps n).place
+    pub less : there.up ≤ here.up
+    pub in_time : IsNetwork w → t < end_of_time
+        → IfSome (slice_index_or arrivals n None) (λ k. k + (here.up - there.up) < 2 ^ 64)
+    pub climbed : (v : Option ℕ) → v ≡ past_link out here.link (here.up - there.up) (slice_index_or arrivals n None)
+        → Climbed out u t here.parent (slice_set arrivals here.parent v)
+
+  pub upwards_read : {out : Stop → Bool} {u t n : ℕ} {arrivals : List (Option ℕ)} {here there : Position} → u < w.nodes → n ≢ 0
+      → Climbed out u t n arrivals → here ≡ at ps n → there ≡ at ps here.parent → UpRead out u t n arrivals here there
+  upwards_read {out} {u} {t} {n} {arrivals} {here} {there} hu d c e f =
+      let up = upwards out u t n hu c.node d c.held in
+      let p = (at ps n).parent in
+      let l = (at ps n).link in
+      let ticks = (at ps n).up - (at ps p).up in
+      let own : (at ps n).place ≤ (at ps n).place = omega arith in
+      let read : slice_index_or arrivals n None ≡ arrival w out u t n =
+      get_index arrivals n (arrival w out u t n) None (c.told n c.node c.held own) in
+      let P : Position → Type 0 = λ h. (q : Position) → q ≡ at ps h.parent → UpRead out u t n arrivals h q in
+      let at_n : P (at ps n) = λ q g. subst (λ (k : Position). UpRead out u t n arrivals (at ps n) k) (sym g) (record {
+        node = up.node;
+        lower = up.lower;
+        less = up.less;
+        in_time = λ m ht. subst (λ (a : Option ℕ). IfSome a (λ k. k + ticks < 2 ^ 64)) (sym read)
+            (soon w m out u t n p l ticks hu up.node ht up.comes);
+        climbed = λ v is. climbed_more out u t n arrivals v hu d c (is ∙ ap (past_link out l ticks) read ∙ sym up.comes.arrival_is);
+      }) in
+      subst P (sym e) at_n there f
 
   pub climbed_all : (out : Stop → Bool) (u t n : ℕ) (arrivals : List (Option ℕ)) → n ≡ 0 → Climbed out u t n arrivals
       → TellsAbove w ps out u t arrivals
