@@ -1,5 +1,5 @@
 -- Where the ways up from two nodes meet.
-use Rattle.std.proofs.Common.{◌≡◌, ◌≢◌, ℕ, ◌+◌, ◌*◌, ◌<◌, ◌≤◌, List, refl, sym, ap, ◌∙◌, subst, inl, inr, arith}
+use Rattle.std.proofs.Common.{◌≡◌, ◌≢◌, ℕ, ◌+◌, ◌*◌, ◌<◌, ◌≤◌, List, refl, sym, ◌∙◌, subst, inl, inr, arith}
 use Rattle.std.proofs.lemmas.Bool.{cases_eq, cases_lt}
 use Rattle.srm_net.specs.declared.position.Position.{Position}
 use Rattle.srm_net.specs.Limits.{greatest_distance}
@@ -23,17 +23,7 @@ module _ (w : Network) (ps : List Position) where
   pub meeting_hop : (u v x : ℕ) (q : Position) → Hop w ps u v x → IsMeeting w ps x v q → IsMeeting w ps u v q
   meeting_hop u v x q h m = grind arith
 
-  -- the way there, and back, told by positions that are read
-  pub there_read : (u v : ℕ) (p q m : Position) → p ≡ at ps u → q ≡ at ps v → IsMeeting w ps u v m
-      → takes w u v + (m.up + m.down) ≡ p.up + q.down
-  there_read u v p q m e f h =
-      h.there ∙ ap (λ (x : Position). x.up + (at ps v).down) (sym e) ∙ ap (λ (x : Position). p.up + x.down) (sym f)
-
-  pub round_read : (u v : ℕ) (p q m : Position) → p ≡ at ps u → q ≡ at ps v → IsMeeting w ps u v m
-      → takes w u v + takes w v u + 2 * (m.up + m.down) ≡ (p.up + p.down) + (q.up + q.down)
-  round_read u v p q m e f h = grind arith
-
-  -- and how many links there are
+  -- how many links there are, told by positions that are read
   pub hops_read : (u v : ℕ) (p q m : Position) → p ≡ at ps u → q ≡ at ps v → IsMeeting w ps u v m
       → hops_between w u v + 2 * m.depth ≡ p.depth + q.depth
   hops_read u v p q m e f h = grind arith
@@ -45,10 +35,25 @@ module _ (w : Network) (ps : List Position) (r : IsRooted w ps) where
   down_bounded : IsNetwork w → (u : ℕ) → u < w.nodes → (at ps u).down ≤ greatest_distance
   down_bounded n u hu = subst (λ t. t ≤ greatest_distance) (sym (r.each u hu).down) (delay_bounded w n 0 u r.tree.some_nodes hu)
 
-  -- of a position that is read
-  pub bounded : IsNetwork w → (u : ℕ) (p : Position) → u < w.nodes → p ≡ at ps u
-      → (p.up ≤ greatest_distance) × (p.down ≤ greatest_distance)
-  bounded n u p hu e = grind (arith, up_bounded, down_bounded)
+  -- the ways there and back, told by positions that are read, and sums that fit
+  pub record Ways (u v : ℕ) (p q m : Position) : Type 0 where
+    pub there : takes w u v + (m.up + m.down) ≡ p.up + q.down
+    pub back : takes w v u + (m.up + m.down) ≡ q.up + p.down
+    pub few : IsNetwork w → (p.up + q.down ≤ 2 * greatest_distance) × (q.up + p.down ≤ 2 * greatest_distance)
+
+  pub ways_read : {u v : ℕ} {p q m : Position} → u < w.nodes → v < w.nodes → p ≡ at ps u → q ≡ at ps v → IsMeeting w ps u v m
+      → Ways u v p q m
+  ways_read {u} {v} {p} {q} {m} hu hv e f h =
+      let P : Position → Type 0 = λ a. (b : Position) → b ≡ at ps v → Ways u v a b m in
+      let own : P (at ps u) = λ b g. subst (λ (k : Position). Ways u v (at ps u) k m) (sym g) (record {
+        there = h.there;
+        back = h.back;
+        few = λ n. (
+          (let x = up_bounded n u hu in let y = down_bounded n v hv in omega arith),
+          (let x = up_bounded n v hv in let y = down_bounded n u hu in omega arith),
+        );
+      }) in
+      subst P (sym e) own q f
 
   -- where one node is below the other
   pub meeting_held : (u v : ℕ) → u < w.nodes → v < w.nodes → IsHeld (at ps u) (at ps v) → IsMeeting w ps u v (at ps u)

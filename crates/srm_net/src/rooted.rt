@@ -87,10 +87,7 @@ impl Rooted {
         ensures { (w : Network) → IsRooted w self.now.positions.items → from < w.nodes → to < w.nodes
             → result ≡ takes w from to }
     {
-        let here = self.position(from);
-        let there = self.position(to);
-        let meeting = self.meeting(from, to);
-        here.up + there.down - (meeting.up + meeting.down)
+        self.there_and_back(from, to).0
     }
 
     /// How long a packet takes from one node to another, and another one back, in ticks. It takes as many steps as one
@@ -100,10 +97,24 @@ impl Rooted {
         ensures { (w : Network) → IsRooted w self.now.positions.items → from < w.nodes → to < w.nodes
             → result ≡ takes w from to + takes w to from }
     {
+        let (there, back) = self.there_and_back(from, to);
+        there + back
+    }
+
+    /// How long a packet takes from one node to another, and how long another one takes back, in ticks.
+    #[inline(always)]
+    fn there_and_back(&self, from: u16, to: u16) -> (u64, u64)
+        requires rooted { (w : Network) × IsNetwork w × IsRooted w self.now.positions.items × (from < w.nodes) × (to < w.nodes) }
+        ensures { (w : Network) → IsRooted w self.now.positions.items → from < w.nodes → to < w.nodes
+            → (result.0 ≡ takes w from to) × (result.1 ≡ takes w to from) }
+    {
         let here = self.position(from);
         let there = self.position(to);
         let meeting = self.meeting(from, to);
-        (here.up + here.down) + (there.up + there.down) - 2 * (meeting.up + meeting.down)
+        let shared = meeting.up + meeting.down;
+        let forth = here.up + there.down - shared;
+        let back = there.up + here.down - shared;
+        (forth, back)
     }
 
     /// How many links there are on the way from one node to another. It takes as many steps as one [`delay`](Rooted::delay).
