@@ -4,7 +4,7 @@ use Rattle.std.proofs.Common.{refl, sym, ap}
 use Rattle.std.proofs.Common.{◌∙◌, subst, inl, inr, arith, eqb, eq-eqb, slice_get, All, get_or, take, drop, reverse}
 use Rattle.std.proofs.Common.{slice_set, slice_index_or, replicate}
 use Rattle.std.proofs.lemmas.Bool.{ne_eqb, cases_Bool, cases_eq, both_ways, false≢true}
-use Rattle.std.proofs.lemmas.List.{length-append, length-reverse, length-take, take-append-drop, reverse-append, get_or_default}
+use Rattle.std.proofs.lemmas.List.{length-append, length-reverse, length-take, take-append-drop, reverse-append}
 use Rattle.std.proofs.lemmas.List.{get_or-set_same, get_or-set_other}
 use Rattle.srm_net.specs.declared.link.LinkSpec.{LinkSpec}
 use Rattle.srm_net.specs.declared.position.Position.{Position}
@@ -12,13 +12,13 @@ use Rattle.srm_net.specs.declared.step.Step.{Step}
 use Rattle.srm_net.specs.Growth.{Attaches, attached, Grows, place_in}
 use Rattle.srm_net.specs.Network.{Network, Joins, IsWalk, IsTree, HasDelays, IsNetwork}
 use Rattle.srm_net.specs.Paths.{is_in, route, hops_between, delay_of, delay_along}
-use Rattle.srm_net.specs.Rooting.{takes, nowhere, at, IsParent, IsPassed, IsSubtree, IsPosition, IsRooted}
-use Rattle.srm_net.proofs.Lists.{get_below}
+use Rattle.srm_net.specs.Rooting.{takes, at, IsParent, IsPassed, IsSubtree, IsPosition, IsRooted, MayFollow, Follows}
+use Rattle.srm_net.proofs.Lists.{get_below, all_get}
 use Rattle.srm_net.proofs.Numbers.{in_head, in_tail, in_cases, not_in, distinct_from_apart}
 use Rattle.srm_net.proofs.Walks.{turned}
 use Rattle.srm_net.proofs.Growing.{root_attached, all_attached, attached_below}
 use Rattle.srm_net.proofs.RouteLemmas.{route_path, route_only}
-use Rattle.srm_net.proofs.PathLaws.{route_nowhere}
+use Rattle.srm_net.proofs.PathLaws.{delay_bounded, from_fits, route_nowhere}
 use Rattle.srm_net.proofs.TreeWays.{both_ways_grown, delay_push, grows_tail, reverse_more, no_step}
 use Rattle.srm_net.proofs.SpreadLemmas.{end_joined, route_there}
 
@@ -134,16 +134,6 @@ passed_on w place u p j a b low = grind arith
 
 -- ---- a node that is attached
 
--- what the new position tells after so many steps, by those of its parent and of the jump from there
-pub record Follows (links : List LinkSpec) (n : ℕ) (s : Step) (above far new : Position) : Type 0 where
-  pub place_is : new.place ≡ n + 1
-  pub depth_is : new.depth ≡ above.depth + 1
-  pub parent_is : new.parent ≡ s.parent
-  pub link_is : new.link ≡ s.link
-  pub jump_is : (new.jump ≡ s.parent) ⊎ (new.jump ≡ far.jump)
-  pub up_is : new.up ≡ delay_of s.node (slice_get links s.link) + above.up
-  pub down_is : new.down ≡ above.down + delay_of s.parent (slice_get links s.link)
-
 module _ (w : Network) (t : IsTree w) (later : List Step) (s : Step) (ss : List Step) (g : Grows w.links (later ++ s ∷ ss))
     (inside : (v : ℕ) → v < w.nodes → is_in (attached (later ++ s ∷ ss)) v ≡ true)
     (below : (v : ℕ) → is_in (attached (later ++ s ∷ ss)) v ≡ true → v < w.nodes) where
@@ -204,12 +194,12 @@ module _ (w : Network) (t : IsTree w) (later : List Step) (s : Step) (ss : List 
             sym far ∙ ap (λ ls. s.link ∷ ls) near;
       }
 
-  pub position_new : (above far new : Position) → 1 ≤ w.nodes
-      → IsSubtree w (place_in (later ++ s ∷ ss)) s.node s.link new.end
+  pub position_new : (end : ℕ) (above far new : Position) → 1 ≤ w.nodes
+      → IsSubtree w (place_in (later ++ s ∷ ss)) s.node s.link end
       → IsPosition w (place_in (later ++ s ∷ ss)) s.parent above
       → IsPosition w (place_in (later ++ s ∷ ss)) above.jump far
-      → Follows w.links (length ss) s above far new → IsPosition w (place_in (later ++ s ∷ ss)) s.node new
-  position_new above far new some sub p q f =
+      → Follows w.links (length ss + 1) end s above far new → IsPosition w (place_in (later ++ s ∷ ss)) s.node new
+  position_new end above far new some sub p q f =
       let place = place_in (later ++ s ∷ ss) in
       let h = parent_of_new in
       let there = place_new in
@@ -234,7 +224,8 @@ module _ (w : Network) (t : IsTree w) (later : List Step) (s : Step) (ss : List 
         depth_low = omega arith;
         parent = λ _. subst (λ a. IsParent w place s.node a new.link) (sym f.parent_is)
             (subst (λ l. IsParent w place s.node s.parent l) (sym f.link_is) h);
-        subtree = λ _. subst (λ l. IsSubtree w place s.node l new.end) (sym f.link_is) sub;
+        subtree = λ _. subst (λ l. IsSubtree w place s.node l new.end) (sym f.link_is)
+            (subst (IsSubtree w place s.node s.link) (sym f.end_is) sub);
         jump = jump.0;
         jump_earlier = λ _. earlier;
         jump_above = omega arith;
@@ -248,9 +239,6 @@ module _ (w : Network) (t : IsTree w) (later : List Step) (s : Step) (ss : List 
 
 pub network_of : (w : Network) → IsTree w → All HasDelays w.links → w.hosts ≡ [] → IsNetwork w
 network_of w t d e = grind (arith, distinct_from_apart)
-
-pub read_position : (ps : List Position) (i u : ℕ) (r : Position) → i ≡ u → u < length ps → r ≡ slice_index_or ps i r → r ≡ at ps u
-read_position ps i u r e h g = g ∙ ap (λ j. slice_index_or ps j r) e ∙ sym (get_or_default ps u nowhere r h)
 
 module _ (w : Network) (t : IsTree w) (steps : List Step) (g : Grows w.links (reverse steps)) (all : length steps + 1 ≡ w.nodes) (i : ℕ)
     (lt : i < length steps) where
@@ -305,19 +293,41 @@ module _ (w : Network) (t : IsTree w) (steps : List Step) (g : Grows w.links (re
       attached_before w t (reverse (drop (i + 1) steps)) (get_or steps i no_step) (reverse (take i steps)) grown inside below q.jump
       p.jump.node (subst (λ ts. place_in ts q.jump ≤ length (reverse (take i steps))) split c)
 
-  pub step_position : (above far new : Position)
-      → IsSubtree w (place_in (reverse steps)) (get_or steps i no_step).node (get_or steps i no_step).link new.end
+  pub may_follow : IsNetwork w → (ps : List Position) → length ps ≡ w.nodes
+      → ((u : ℕ) → is_in (attached (reverse (take i steps))) u ≡ true → IsPosition w (place_in (reverse steps)) u (at ps u))
+      → MayFollow w.links ps (get_or steps i no_step)
+  may_follow n ps long told =
+      let s = get_or steps i no_step in
+      let a = step_here in
+      let p = told s.parent a.parent in
+      let q = told (at ps s.parent).jump (jump_attached (at ps s.parent) p) in
+      let low : place_in (reverse steps) s.parent ≤ i = parent_low in
+      let fits = all_get HasDelays w.links s.link a.spec n.delays a.link in
+      let up = delay_bounded w n s.parent 0 step_parent t.some_nodes in
+      let down = delay_bounded w n 0 s.parent t.some_nodes step_parent in
+      record {
+        link = get_below w.links s.link a.spec a.link;
+        parent = subst (λ m. s.parent < m) (sym long) step_parent;
+        far = subst (λ m. (at ps s.parent).jump < m) (sym long) p.jump.node;
+        farther = subst (λ m. (at ps (at ps s.parent).jump).jump < m) (sym long) q.jump.node;
+        depth = omega (arith, p.depth_low, t.few_nodes);
+        up = rw a.link (omega (arith, p.up, up, (from_fits s.node a.spec fits).1));
+        down = rw a.link (omega (arith, p.down, down, (from_fits s.parent a.spec fits).1));
+      }
+
+  pub step_position : (end : ℕ) (above far new : Position)
+      → IsSubtree w (place_in (reverse steps)) (get_or steps i no_step).node (get_or steps i no_step).link end
       → IsPosition w (place_in (reverse steps)) (get_or steps i no_step).parent above
-      → IsPosition w (place_in (reverse steps)) above.jump far → Follows w.links i (get_or steps i no_step) above far new
+      → IsPosition w (place_in (reverse steps)) above.jump far → Follows w.links (i + 1) end (get_or steps i no_step) above far new
       → IsPosition w (place_in (reverse steps)) (get_or steps i no_step).node new
-  step_position above far new sub p q f =
+  step_position end above far new sub p q f =
       subst (λ ts. IsPosition w (place_in ts) (get_or steps i no_step).node new) (sym split)
-      (position_new w t (reverse (drop (i + 1) steps)) (get_or steps i no_step) (reverse (take i steps)) grown inside below above far new
-      t.some_nodes
-      (subst (λ ts. IsSubtree w (place_in ts) (get_or steps i no_step).node (get_or steps i no_step).link new.end) split sub)
+      (position_new w t (reverse (drop (i + 1) steps)) (get_or steps i no_step) (reverse (take i steps)) grown inside below end above far
+      new t.some_nodes
+      (subst (λ ts. IsSubtree w (place_in ts) (get_or steps i no_step).node (get_or steps i no_step).link end) split sub)
       (subst (λ ts. IsPosition w (place_in ts) (get_or steps i no_step).parent above) split p)
       (subst (λ ts. IsPosition w (place_in ts) above.jump far) split q)
-      (subst (λ n. Follows w.links n (get_or steps i no_step) above far new) (sym count) f))
+      (subst (λ n. Follows w.links (n + 1) end (get_or steps i no_step) above far new) (sym count) f))
 
 -- the root, with this end
 abbrev pub root_with : ℕ → Position

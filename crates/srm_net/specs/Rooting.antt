@@ -1,9 +1,12 @@
 -- Positions of nodes in a tree that is rooted at node 0.
-use Rattle.std.specs.Prelude.{◌≡◌, ℕ, ◌+◌, ◌*◌, ◌<◌, ◌≤◌, true, List, ◌∷◌, Some, length, slice_get, slice_index_or}
+use Rattle.std.specs.Prelude.{◌≡◌, ◌⊎◌, ℕ, ◌+◌, ◌*◌, ◌^◌, ◌<◌, ◌≤◌, true, List, ◌∷◌, Some, length, slice_get}
+use Rattle.std.specs.Prelude.{slice_index_or}
+use Rattle.srm_net.specs.declared.link.LinkSpec.{LinkSpec}
 use Rattle.srm_net.specs.declared.position.Position.{Position}
 use Rattle.srm_net.specs.declared.rooted.Rooted.{Rooted}
+use Rattle.srm_net.specs.declared.step.Step.{Step}
 use Rattle.srm_net.specs.Network.{Network, IsTree}
-use Rattle.srm_net.specs.Paths.{is_in, route, hops_between, end_of, delay_along}
+use Rattle.srm_net.specs.Paths.{is_in, route, hops_between, end_of, delay_of, delay_along}
 
 -- how long a packet takes from node u to node v
 abbrev pub takes : Network → ℕ → ℕ → ℕ
@@ -101,3 +104,24 @@ pub record IsChildAbove (w : Network) (positions : List Position) (u v x : ℕ) 
   pub parent : (at positions x).parent ≡ u
   pub below : (at positions u).place < (at positions x).place
   pub held : IsHeld (at positions x) (at positions v)
+
+-- the positions tell all that is asked of the node that this step attaches, and its delays and depth fit
+pub record MayFollow (links : List LinkSpec) (positions : List Position) (s : Step) : Type 0 where
+  pub link : s.link < length links
+  pub parent : s.parent < length positions
+  pub far : (at positions s.parent).jump < length positions
+  pub farther : (at positions (at positions s.parent).jump).jump < length positions
+  pub depth : (at positions s.parent).depth + 1 < 2 ^ 16
+  pub up : delay_of s.node (slice_get links s.link) + (at positions s.parent).up < 2 ^ 64
+  pub down : (at positions s.parent).down + delay_of s.parent (slice_get links s.link) < 2 ^ 64
+
+-- what the position of that node tells, by those of its parent and of the jump from there
+pub record Follows (links : List LinkSpec) (place end : ℕ) (s : Step) (above far new : Position) : Type 0 where
+  pub place_is : new.place ≡ place
+  pub end_is : new.end ≡ end
+  pub depth_is : new.depth ≡ above.depth + 1
+  pub parent_is : new.parent ≡ s.parent
+  pub link_is : new.link ≡ s.link
+  pub jump_is : (new.jump ≡ s.parent) ⊎ (new.jump ≡ far.jump)
+  pub up_is : new.up ≡ delay_of s.node (slice_get links s.link) + above.up
+  pub down_is : new.down ≡ above.down + delay_of s.parent (slice_get links s.link)

@@ -6,7 +6,7 @@ ghost use Rattle.srm_net.specs.Limits.{end_of_time};
 ghost use Rattle.srm_net.specs.Listed.{is_listed_somewhere};
 ghost use Rattle.srm_net.specs.Network.{Network, HasDelays, IsNetwork, IsTree, IsWithin, plain_network};
 ghost use Rattle.srm_net.specs.Paths.{hops_between, takes_out};
-ghost use Rattle.srm_net.specs.Rooting.{takes, at, IsRooted, TellsTree, IsMeeting, IsFirstLink, IsHeld, IsChildAbove};
+ghost use Rattle.srm_net.specs.Rooting.{takes, at, IsRooted, TellsTree, IsMeeting, IsFirstLink, IsHeld, IsChildAbove, MayFollow, Follows};
 ghost use Rattle.srm_net.specs.Spreads.{TellsArrivals, TellsAbove, TellsFirst, TellsHops};
 
 use crate::drops::Drops;
@@ -53,21 +53,9 @@ impl Rooted {
         };
         let mut positions = vec![in alloc; root; usize::from(nodes)]?;
         for (index, step) in steps.iter().enumerate() {
-            let link = links[usize::from(step.link)];
-            let above = positions[usize::from(step.parent)];
-            let far = positions[usize::from(above.jump)];
-            let farther = positions[usize::from(far.jump)];
             let end = ends[usize::from(step.node)];
-            positions[usize::from(step.node)] = Position {
-                place: index as u16 + 1,
-                end,
-                depth: above.depth + 1,
-                parent: step.parent,
-                link: step.link,
-                jump: jump_of(step.parent, above, far, farther),
-                up: link.delay_from(step.node) + above.up,
-                down: above.down + link.delay_from(step.parent),
-            };
+            let new = attached_position(positions.as_slice(), links, *step, index as u16 + 1, end);
+            positions[usize::from(step.node)] = new;
         }
         Ok(Rooted { positions, order })
     }
@@ -351,6 +339,34 @@ fn in_order(alloc: Global, steps: &[Step]) -> Result<Vec<u16>, AllocError>
         order.push(step.node)?;
     }
     Ok(order)
+}
+
+// The position of the node that this step attaches, with its place and its end, by those of its parent and of the jump from there.
+fn attached_position(
+    positions: &[Position],
+    links: &[LinkSpec],
+    step: Step,
+    place: u16,
+    end: u16,
+) -> Position
+    requires { MayFollow links.now positions.now step }
+    ensures { Follows links.now place end step (at positions.now step.parent)
+        (at positions.now (at positions.now step.parent).jump) result }
+{
+    let link = links[usize::from(step.link)];
+    let above = positions[usize::from(step.parent)];
+    let far = positions[usize::from(above.jump)];
+    let farther = positions[usize::from(far.jump)];
+    Position {
+        place,
+        end,
+        depth: above.depth + 1,
+        parent: step.parent,
+        link: step.link,
+        jump: jump_of(step.parent, above, far, farther),
+        up: link.delay_from(step.node) + above.up,
+        down: above.down + link.delay_from(step.parent),
+    }
 }
 
 // The node to which one below a node of the position `above` jumps: as far as the next two jumps from there together, where these are

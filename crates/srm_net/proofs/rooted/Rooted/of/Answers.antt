@@ -1,20 +1,16 @@
-use Rattle.std.proofs.Common.{◌≡◌, ◌∙◌, sym, ap, subst, refl, arith, ℕ, ◌+◌, ◌<◌, ◌≤◌, length, take, reverse, get_or, slice_get, true, []}
+use Rattle.std.proofs.Common.{◌≡◌, ◌∙◌, sym, ap, subst, refl, arith, ℕ, ◌+◌, ◌<◌, ◌≤◌, length, take, reverse, get_or, true, []}
 use Rattle.std.proofs.Common.{slice_set, slice_index_or, ◌∷◌}
 use Rattle.std.proofs.lemmas.List.{length-set, length-replicate, length-reverse, take_all}
-use Rattle.srm_net.specs.declared.position.Position.{Position}
 use Rattle.srm_net.specs.Growth.{attached, place_in}
-use Rattle.srm_net.specs.Limits.{greatest_distance, greatest_link_delay}
 use Rattle.srm_net.specs.Network.{plain_network}
-use Rattle.srm_net.specs.Paths.{is_in, delay_from, delay_of}
-use Rattle.srm_net.specs.Rooting.{takes, at, IsSubtree, IsPosition, IsRooted, IsInOrder}
-use Rattle.srm_net.proofs.Adjacent.{no_link}
+use Rattle.srm_net.specs.Paths.{is_in}
+use Rattle.srm_net.specs.Rooting.{at, IsSubtree, IsPosition, IsRooted, IsInOrder, MayFollow, Follows}
 use Rattle.srm_net.proofs.Growing.{all_attached, attached_below}
 use Rattle.srm_net.proofs.NodeOrder.{in_places}
-use Rattle.srm_net.proofs.Lists.{get_below, get_index, index_get, read_at}
-use Rattle.srm_net.proofs.PathLaws.{delay_bounded, from_fits}
+use Rattle.srm_net.proofs.Lists.{index_get, read_at}
 use Rattle.srm_net.proofs.TreeWays.{no_step, reverse_more}
-use Rattle.srm_net.proofs.Rootings.{place_apart, place_root, network_of, read_position, step_here, step_parent}
-use Rattle.srm_net.proofs.Rootings.{step_node, parent_low}
+use Rattle.srm_net.proofs.Rootings.{place_apart, place_root, network_of, step_here}
+use Rattle.srm_net.proofs.Rootings.{step_node, may_follow}
 use Rattle.srm_net.proofs.Rootings.{jump_attached, step_position, root_position, root_with, each_alike, position_set, HasEnd, only_root}
 use Rattle.srm_net.proofs.Subtrees.{subtree_of}
 use Rattle.srm_net.proofs.rooted.Rooted.of.Goals as goal
@@ -57,131 +53,13 @@ index-whole-requires c =
     let long : length c.in_ok-ends.ends.items ≡ c.args.nodes = c.in_ok-ends.ensures.long in
     omega (arith, c.in_ok-ends.ends.ok.0, c.requires.tree.some_nodes)
 
-pub bounds-links-from : goal.bounds-links-from
-bounds-links-from c =
+pub attached_position-new-requires : goal.attached_position-new-requires
+attached_position-new-requires c =
     let w = plain_network c.args.nodes c.args.links.now [] in
-    let a = step_here w c.requires.tree c.args.steps.now c.requires.grows c.requires.all c.loop-index.index c.loop-index-test.true in
-    subst (λ l. l < length c.args.links.now) (sym c.from-in-loop-index.ensures)
-    (get_below c.args.links.now (get_or c.args.steps.now c.loop-index.index no_step).link a.spec a.link)
-
-pub index-above-requires : goal.index-above-requires
-index-above-requires c =
-    let w = plain_network c.args.nodes c.args.links.now [] in
-    let b : (get_or c.args.steps.now c.loop-index.index no_step).parent < c.args.nodes = step_parent w c.requires.tree c.args.steps.now
-    c.requires.grows c.requires.all c.loop-index.index c.loop-index-test.true in
-    let long : length c.loop-index.positions.items ≡ c.args.nodes = c.loop-index.invariant.long in
-    omega (arith, c.loop-index.positions.ok.0)
-
-pub index-far-requires : goal.index-far-requires
-index-far-requires c =
-    let w = plain_network c.args.nodes c.args.links.now [] in
-    let place = place_in (reverse c.args.steps.now) in
-    let ps = c.loop-index.positions.items in
-    let s = get_or c.args.steps.now c.loop-index.index no_step in
-    let inv = c.loop-index.invariant in
-    let long : length ps ≡ c.args.nodes = inv.long in
-    let b : s.parent < c.args.nodes = step_parent w c.requires.tree c.args.steps.now c.requires.grows c.requires.all c.loop-index.index
-    c.loop-index-test.true in
-    let a = step_here w c.requires.tree c.args.steps.now c.requires.grows c.requires.all c.loop-index.index c.loop-index-test.true in
-    let above = c.index-above.result.now in
-    let p : IsPosition w place s.parent above = subst (IsPosition w place s.parent) (sym (read_position ps c.from-in-loop-index-2.result
-    s.parent above c.from-in-loop-index-2.ensures (omega arith) c.index-above.ensures)) (inv.told s.parent a.parent) in
-    let j : above.jump < c.args.nodes = p.jump.node in
-    omega (arith, c.loop-index.positions.ok.0)
-
-pub index-farther-requires : goal.index-farther-requires
-index-farther-requires c =
-    let w = plain_network c.args.nodes c.args.links.now [] in
-    let place = place_in (reverse c.args.steps.now) in
-    let ps = c.loop-index.positions.items in
-    let s = get_or c.args.steps.now c.loop-index.index no_step in
-    let inv = c.loop-index.invariant in
-    let long : length ps ≡ c.args.nodes = inv.long in
-    let b : s.parent < c.args.nodes = step_parent w c.requires.tree c.args.steps.now c.requires.grows c.requires.all c.loop-index.index
-    c.loop-index-test.true in
-    let a = step_here w c.requires.tree c.args.steps.now c.requires.grows c.requires.all c.loop-index.index c.loop-index-test.true in
-    let above = c.index-above.result.now in
-    let far = c.index-far.result.now in
-    let p : IsPosition w place s.parent above = subst (IsPosition w place s.parent) (sym (read_position ps c.from-in-loop-index-2.result
-    s.parent above c.from-in-loop-index-2.ensures (omega arith) c.index-above.ensures)) (inv.told s.parent a.parent) in
-    let j : above.jump < c.args.nodes = p.jump.node in
-    let q : IsPosition w place above.jump far = subst (IsPosition w place above.jump) (sym (read_position ps c.from-in-loop-index-3.result
-    above.jump far c.from-in-loop-index-3.ensures (omega arith) c.index-far.ensures)) (inv.told above.jump
-    (jump_attached w c.requires.tree c.args.steps.now c.requires.grows c.requires.all c.loop-index.index c.loop-index-test.true above p)) in
-    let k : far.jump < c.args.nodes = q.jump.node in
-    omega (arith, c.loop-index.positions.ok.0)
-
-pub overflow_add-above : goal.overflow_add-above
-overflow_add-above c =
-    let w = plain_network c.args.nodes c.args.links.now [] in
-    let place = place_in (reverse c.args.steps.now) in
-    let ps = c.loop-index.positions.items in
-    let s = get_or c.args.steps.now c.loop-index.index no_step in
-    let inv = c.loop-index.invariant in
-    let long : length ps ≡ c.args.nodes = inv.long in
-    let b : s.parent < c.args.nodes = step_parent w c.requires.tree c.args.steps.now c.requires.grows c.requires.all c.loop-index.index
-    c.loop-index-test.true in
-    let a = step_here w c.requires.tree c.args.steps.now c.requires.grows c.requires.all c.loop-index.index c.loop-index-test.true in
-    let above = c.index-above.result.now in
-    let p : IsPosition w place s.parent above = subst (IsPosition w place s.parent) (sym (read_position ps c.from-in-loop-index-2.result
-    s.parent above c.from-in-loop-index-2.ensures (omega arith) c.index-above.ensures)) (inv.told s.parent a.parent) in
-    let d : above.depth ≤ place s.parent = p.depth_low in
-    let low : place s.parent ≤ c.loop-index.index = parent_low w c.requires.tree c.args.steps.now c.requires.grows c.requires.all
-    c.loop-index.index c.loop-index-test.true in
-    let lt : c.loop-index.index < length c.args.steps.now = c.loop-index-test.true in
-    let all : length c.args.steps.now + 1 ≡ c.args.nodes = c.requires.all in
-    let few = c.requires.tree.few_nodes in
-    omega arith
-
-pub overflow_add-delay_from : goal.overflow_add-delay_from
-overflow_add-delay_from c =
-    let w = plain_network c.args.nodes c.args.links.now [] in
-    let place = place_in (reverse c.args.steps.now) in
-    let ps = c.loop-index.positions.items in
-    let s = get_or c.args.steps.now c.loop-index.index no_step in
-    let inv = c.loop-index.invariant in
-    let long : length ps ≡ c.args.nodes = inv.long in
-    let b : s.parent < c.args.nodes = step_parent w c.requires.tree c.args.steps.now c.requires.grows c.requires.all c.loop-index.index
-    c.loop-index-test.true in
-    let a = step_here w c.requires.tree c.args.steps.now c.requires.grows c.requires.all c.loop-index.index c.loop-index-test.true in
-    let above = c.index-above.result.now in
-    let p : IsPosition w place s.parent above = subst (IsPosition w place s.parent) (sym (read_position ps c.from-in-loop-index-2.result
-    s.parent above c.from-in-loop-index-2.ensures (omega arith) c.index-above.ensures)) (inv.told s.parent a.parent) in
-    let n = network_of w c.requires.tree c.requires.delays refl in
-    let up : above.up ≡ takes w s.parent 0 = p.up in
-    let most : takes w s.parent 0 ≤ greatest_distance = delay_bounded w n s.parent 0 b c.requires.tree.some_nodes in
-    let k = get_or c.args.links.now c.from-in-loop-index.result no_link in
-    let within : c.from-in-loop-index.result < length c.args.links.now =
-    subst (λ l. l < length c.args.links.now) (sym c.from-in-loop-index.ensures) (get_below c.args.links.now s.link a.spec a.link) in
-    let one : delay_from s.node k ≤ greatest_link_delay =
-    (from_fits s.node k (c.requires.delays c.from-in-loop-index.result no_link within)).1 in
-    let is : c.delay_from.result ≡ delay_from s.node k = c.delay_from.ensures in
-    omega arith
-
-pub overflow_add-above-in-loop-index : goal.overflow_add-above-in-loop-index
-overflow_add-above-in-loop-index c =
-    let w = plain_network c.args.nodes c.args.links.now [] in
-    let place = place_in (reverse c.args.steps.now) in
-    let ps = c.loop-index.positions.items in
-    let s = get_or c.args.steps.now c.loop-index.index no_step in
-    let inv = c.loop-index.invariant in
-    let long : length ps ≡ c.args.nodes = inv.long in
-    let b : s.parent < c.args.nodes = step_parent w c.requires.tree c.args.steps.now c.requires.grows c.requires.all c.loop-index.index
-    c.loop-index-test.true in
-    let a = step_here w c.requires.tree c.args.steps.now c.requires.grows c.requires.all c.loop-index.index c.loop-index-test.true in
-    let above = c.index-above.result.now in
-    let p : IsPosition w place s.parent above = subst (IsPosition w place s.parent) (sym (read_position ps c.from-in-loop-index-2.result
-    s.parent above c.from-in-loop-index-2.ensures (omega arith) c.index-above.ensures)) (inv.told s.parent a.parent) in
-    let n = network_of w c.requires.tree c.requires.delays refl in
-    let down : above.down ≡ takes w 0 s.parent = p.down in
-    let most : takes w 0 s.parent ≤ greatest_distance = delay_bounded w n 0 s.parent c.requires.tree.some_nodes b in
-    let k = get_or c.args.links.now c.from-in-loop-index.result no_link in
-    let within : c.from-in-loop-index.result < length c.args.links.now =
-    subst (λ l. l < length c.args.links.now) (sym c.from-in-loop-index.ensures) (get_below c.args.links.now s.link a.spec a.link) in
-    let one : delay_from s.parent k ≤ greatest_link_delay =
-    (from_fits s.parent k (c.requires.delays c.from-in-loop-index.result no_link within)).1 in
-    let is : c.delay_from-in-loop-index.result ≡ delay_from s.parent k = c.delay_from-in-loop-index.ensures in
-    omega arith
+    subst (λ ps. MayFollow c.args.links.now ps (get_or c.args.steps.now c.loop-index.index no_step)) (sym c.as_slice.ensures.value)
+    (may_follow w c.requires.tree c.args.steps.now c.requires.grows c.requires.all c.loop-index.index c.loop-index-test.true
+    (network_of w c.requires.tree c.requires.delays refl) c.loop-index.positions.items c.loop-index.invariant.long
+    c.loop-index.invariant.told)
 
 pub index_mut-requires : goal.index_mut-requires
 index_mut-requires c =
@@ -193,76 +71,48 @@ index_mut-requires c =
 
 pub loop-index-preserved : goal.loop-index-preserved
 loop-index-preserved c =
-    let links = c.args.links.now in
     let steps = c.args.steps.now in
     let i = c.loop-index.index in
-    let w = plain_network c.args.nodes links [] in
+    let lt = c.loop-index-test.true in
+    let t = c.requires.tree in
+    let g = c.requires.grows in
+    let w = plain_network c.args.nodes c.args.links.now [] in
     let place = place_in (reverse steps) in
     let ps = c.loop-index.positions.items in
     let s = get_or steps i no_step in
+    let above = at ps s.parent in
     let inv = c.loop-index.invariant in
-    let long : length ps ≡ c.args.nodes = inv.long in
-    let b : s.parent < c.args.nodes = step_parent w c.requires.tree steps c.requires.grows c.requires.all i c.loop-index-test.true in
-    let a = step_here w c.requires.tree steps c.requires.grows c.requires.all i c.loop-index-test.true in
-    let above = c.index-above.result.now in
-    let far = c.index-far.result.now in
-    let p : IsPosition w place s.parent above = subst (IsPosition w place s.parent) (sym (read_position ps c.from-in-loop-index-2.result
-    s.parent above c.from-in-loop-index-2.ensures (omega arith) c.index-above.ensures)) (inv.told s.parent a.parent) in
-    let j : above.jump < c.args.nodes = p.jump.node in
-    let q : IsPosition w place above.jump far = subst (IsPosition w place above.jump) (sym (read_position ps c.from-in-loop-index-3.result
-    above.jump far c.from-in-loop-index-3.ensures (omega arith) c.index-far.ensures)) (inv.told above.jump
-    (jump_attached w c.requires.tree steps c.requires.grows c.requires.all i c.loop-index-test.true above p)) in
+    let a = step_here w t steps g c.requires.all i lt in
     let ends = c.in_ok-ends.ends.items in
-    let all : length (reverse steps) + 1 ≡ c.args.nodes = (let k = length-reverse steps in let h = c.requires.all in omega arith) in
     let ended : length ends ≡ c.args.nodes = c.in_ok-ends.ensures.long in
-    let node : s.node < c.args.nodes = step_node w c.requires.tree steps c.requires.grows c.requires.all i c.loop-index-test.true in
-    let end : c.index-end.result.now ≡ slice_index_or ends s.node 0 =
-    read_at ends c.from-in-loop-index-5.result s.node c.index-end.result.now c.from-in-loop-index-5.ensures (omega arith)
-    c.index-end.ensures in
-    let sub : IsSubtree w place s.node s.link c.index-end.result.now =
-    subst (IsSubtree w place s.node s.link) (sym end)
-    (subtree_of w c.requires.tree (reverse steps) c.requires.grows all s (slice_index_or ends s.node 0)
-    (c.in_ok-ends.ensures.ends.spans i s (index_get steps i no_step c.loop-index-test.true))) in
-    let new : Position = record {
-      place = i + 1;
-      end = c.index-end.result.now;
-      depth = above.depth + 1;
-      parent = s.parent;
-      link = s.link;
-      jump = c.jump_of.result;
-      up = c.delay_from.result + above.up;
-      down = above.down + c.delay_from-in-loop-index.result;
-    } in
-    let k : get_or links c.from-in-loop-index.result no_link ≡ a.spec = ap (λ l. get_or links l no_link) c.from-in-loop-index.ensures
-    ∙ get_index links s.link a.spec no_link a.link in
-    let up : c.delay_from.result ≡ delay_of s.node (slice_get links s.link) = c.delay_from.ensures ∙ ap (delay_from s.node) k
-    ∙ sym (ap (delay_of s.node) a.link) in
-    let down : c.delay_from-in-loop-index.result ≡ delay_of s.parent (slice_get links s.link) = c.delay_from-in-loop-index.ensures
-    ∙ ap (delay_from s.parent) k ∙ sym (ap (delay_of s.parent) a.link) in
-    let here : IsPosition w place s.node new = step_position w c.requires.tree steps c.requires.grows c.requires.all i
-    c.loop-index-test.true
-    above far new sub p q (record {
-      place_is = refl;
-      depth_is = refl;
-      parent_is = refl;
-      link_is = refl;
-      jump_is = c.jump_of.ensures;
-      up_is = ap (λ n. n + above.up) up;
-      down_is = ap (λ n. above.down + n) down;
-    }) in
+    let node : s.node < c.args.nodes = step_node w t steps g c.requires.all i lt in
+    let new = c.attached_position-new.result in
+    let end = c.index-end.result.now in
+    let f : Follows c.args.links.now (i + 1) end s above (at ps above.jump) new =
+    subst (λ qs. Follows c.args.links.now (i + 1) end s (at qs s.parent) (at qs (at qs s.parent).jump) new) c.as_slice.ensures.value
+    c.attached_position-new.ensures in
+    let read : end ≡ slice_index_or ends s.node 0 = read_at ends c.from-in-loop-index.result s.node end c.from-in-loop-index.ensures
+    (omega arith) c.index-end.ensures in
+    let all : length (reverse steps) + 1 ≡ c.args.nodes = (let k = length-reverse steps in let h = c.requires.all in omega arith) in
+    let stands = index_get steps i no_step lt in
+    let p = inv.told s.parent a.parent in
+    let here : IsPosition w place s.node new = step_position w t steps g c.requires.all i lt end above (at ps above.jump) new
+    (subst (IsSubtree w place s.node s.link) (sym read)
+    (subtree_of w t (reverse steps) g all s (slice_index_or ends s.node 0) (c.in_ok-ends.ensures.ends.spans i s stands)))
+    p (inv.told above.jump (jump_attached w t steps g c.requires.all i lt above p)) f in
     let ending : HasEnd ends place s.node new = record {
-      is = end;
-      under = λ _. c.in_ok-ends.ensures.ends.nested i s (index_get steps i no_step c.loop-index-test.true);
+      is = f.end_is ∙ read;
+      under = λ _. subst (λ v. slice_index_or ends s.node 0 ≤ slice_index_or ends v 0) (sym f.parent_is)
+          (c.in_ok-ends.ensures.ends.nested i s stands);
     } in
-    let within : s.node < length ps = subst (λ n. s.node < n) (sym long)
-    (step_node w c.requires.tree steps c.requires.grows c.requires.all i c.loop-index-test.true) in
-    let more : reverse (take (i + 1) steps) ≡ s ∷ reverse (take i steps) = reverse_more steps i no_step c.loop-index-test.true in
+    let within : s.node < length ps = subst (λ n. s.node < n) (sym inv.long) node in
+    let more : reverse (take (i + 1) steps) ≡ s ∷ reverse (take i steps) = reverse_more steps i no_step lt in
     record {
-      long = length-set ps c.from-in-loop-index-6.result new ∙ long;
-      told = λ u h. subst (λ n. IsPosition w place u (at (slice_set ps n new) u)) (sym c.from-in-loop-index-6.ensures)
+      long = length-set ps c.from-in-loop-index-2.result new ∙ inv.long;
+      told = λ u h. subst (λ n. IsPosition w place u (at (slice_set ps n new) u)) (sym c.from-in-loop-index-2.ensures)
           (position_set (IsPosition w place) (reverse (take i steps)) s ps new a.node within inv.told here u
           (subst (λ ts. is_in (attached ts) u ≡ true) more h));
-      ended = λ u h. subst (λ n. HasEnd ends place u (at (slice_set ps n new) u)) (sym c.from-in-loop-index-6.ensures)
+      ended = λ u h. subst (λ n. HasEnd ends place u (at (slice_set ps n new) u)) (sym c.from-in-loop-index-2.ensures)
           (position_set (HasEnd ends place) (reverse (take i steps)) s ps new a.node within inv.ended ending u
           (subst (λ ts. is_in (attached ts) u ≡ true) more h));
     }
