@@ -14,8 +14,8 @@ pub mod IntervalProofs
 pub mod LawProofs
 mod LocalProofs
 mod TimerLaws
-mod Widening
-mod WideProofs
+pub mod Widening
+pub mod WideProofs
 mod Losses
 mod OtherEvents
 pub mod Maps

@@ -30,4 +30,6 @@ pub mod Fronts
 pub mod StandAlike
 pub mod RepairTimers
 pub mod SentForLost
+pub mod WithoutScopes
+pub mod OtherWidening
 pub mod FixedParts

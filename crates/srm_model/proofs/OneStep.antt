@@ -66,6 +66,11 @@ next_pends m c = earlier_on (IsPending m c) (first_arrival m c c.inbox) _ (arriv
     (earlier_on (IsPending m c) (first_mark m c c.script) (next_timer m c (due_in c.holds)) (mark_pends m c c.script)
     (timer_pends m c (due_in c.holds)))
 
+-- the least event of all is one of its member's cell
+pub least_pends : (until : ℕ) (cs : List PlainCell) (e : Event) → before until (least_event 0 cs) ≡ Some e
+    → (c : PlainCell) × (slice_get cs e.key.member ≡ Some c) × IsPending e.key.member c e
+least_pends until cs e h = grind (arith, least_from, next_pends)
+
 -- ---- what a step does
 
 -- the packet of a body, if there is one, is sent, and counted

@@ -202,7 +202,7 @@ module _ (s : Setting) (fit : IsFit s) where
       subst (λ (x : PlainCell). Plans [] x.holds) (same_Some _ _ h) (λ k has. absurd (true≢false (sym has)))
   opening_plans (suc n) i (suc j) c h = opening_plans n (suc i) j c h
 
-  reached_first : IsReached s (opening s)
+  pub reached_first : IsReached s (opening s)
   unfolding run
   reached_first = (0, refl)
 
@@ -220,7 +220,7 @@ module _ (s : Setting) (fit : IsFit s) where
   kept_reached w h =
       run_keeps s (λ v. Kept v.cells v.trace) (λ v e d steps g. kept_step v.cells v.trace e d g steps) h.0 (opening s) w kept_opening h.1
 
-in_place : {A : Type 0} (xs : List A) (i : ℕ) (d : A) → i < length xs → Contains xs (get_or xs i d)
+pub in_place : {A : Type 0} (xs : List A) (i : ℕ) (d : A) → i < length xs → Contains xs (get_or xs i d)
 in_place [] i d lt = absurd (omega arith)
 in_place (x ∷ xs) zero d lt = (0, omega arith, refl)
 in_place (x ∷ xs) (suc i) d lt = Contains-append_right (x ∷ []) xs (get_or xs i d) (in_place xs i d (omega arith))

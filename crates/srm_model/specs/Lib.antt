@@ -12,3 +12,4 @@ pub mod OneLoss
 pub mod Tables
 pub mod Totalled
 pub mod SentForLost
+pub mod WithoutScopes

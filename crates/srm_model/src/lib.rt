@@ -4,5 +4,6 @@
 pub mod laws;
 pub mod laws_of_names;
 pub mod laws_of_packets;
+pub mod laws_of_scopes;
 pub mod laws_of_tables;
 pub mod laws_of_windows;
