@@ -48,6 +48,7 @@ impl Pending {
     }
 
     /// Takes the place of what is next, unless that has the lesser key: then nothing is copied.
+    #[inline(always)]
     pub(crate) fn take_place(self, next: &mut Option<Pending>)
         ensures { next.new ≡ pending.sooner_pending (Some self) next.old }
     {

@@ -48,6 +48,7 @@ impl Strays {
     ///
     /// # Errors
     /// Memory was refused; all is then as it was.
+    #[inline(never)]
     pub fn accept(&mut self, packet: &Packet, arrival: u64) -> Result<(), AllocError>
         requires { BringsNone packet.now.id self.old }
         ensures ok { OnOk result (self.new ≡ with_flight packet.now arrival self.old) }

@@ -59,6 +59,7 @@ impl NextTimes {
     }
 
     /// Sets the next time of a member, in ticks. It does not allocate.
+    #[inline(always)]
     pub fn set(&mut self, member: u16, time: Option<u64>)
         requires { member < length self.old }
         ensures { self.new ≡ slice_set self.old member time }
