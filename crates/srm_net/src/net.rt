@@ -392,6 +392,7 @@ impl Net {
 
     /// When the packet of a spread, which is sent at the tick `sent`, comes to member `m`, in ticks, if it [`reaches`](Net::reaches) it.
     /// Where the packet might have been dropped this takes no walk.
+    #[inline(always)]
     pub fn arrival(&self, spread: &Spread, sent: u64, m: u16) -> Option<u64>
         requires sent { sent < end_of_time }
         requires spread { FitsIn self.now spread.now }

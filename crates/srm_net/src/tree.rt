@@ -156,6 +156,7 @@ impl Tree {
     }
 
     /// Whether member `b` is within a scope of member `a`.
+    #[inline(never)]
     pub(crate) fn is_within(&self, scope: Option<u32>, a: u16, b: u16) -> bool
         requires a { a < length self.now.hosts }
         requires b { b < length self.now.hosts }
