@@ -8,7 +8,7 @@ use Rattle.srm_ledger.specs.Counts.{place_of, counted_at}
 use Rattle.srm_report.proofs.Fives.{FiveEach, length_joined, index_joined}
 use Rattle.srm_report.specs.Links.{link_columns, link_fields, links_table}
 use Rattle.srm_report.specs.Tables.{table_lines}
-use Rattle.srm_report.proofs.TableLemmas.{table_first, table_more}
+use Rattle.srm_report.proofs.TableLemmas.{table_more}
 
 -- the rows of the first n links
 abbrev pub first_rows : List ℕ → ℕ → List (List (List ℕ))
@@ -22,21 +22,14 @@ module _ (ls : List (List ℕ)) (five : FiveEach ls) (totals : List ℕ) (joined
   pub links_are : length totals / 5 ≡ length ls
   links_are = let long = length_joined ls five in let same : length (concat ls) ≡ length totals = ap length joined in omega arith
 
-  pub text_more : (i : ℕ) (d : List ℕ) (old new line : List ℕ) → i < length ls
-      → old ≡ table_lines link_columns (first_rows totals i) → line ≡ row_text default_writer
-      (link_fields i (λ k. slice_index (slice_index_or ls i d) (place_of k)))
-      → new ≡ old ++ line → new ≡ table_lines link_columns (first_rows totals (i + 1))
-  text_more i d old new line lt before is grown =
-      let same : line ≡ row_text default_writer (link_fields i (counted_at totals i)) =
-      is ∙ (λ t. row_text default_writer (link_fields i (λ k. numbers_are i d lt k t))) in
-      table_more link_columns (first_rows totals i) (link_fields i (counted_at totals i)) old new line before same grown
+  pub text_more : (i : ℕ) (d : List ℕ) → i < length ls → table_lines link_columns (first_rows totals i)
+      ++ row_text default_writer (link_fields i (λ k. slice_index (slice_index_or ls i d) (place_of k)))
+      ≡ table_lines link_columns (first_rows totals (i + 1))
+  text_more i d lt =
+      (λ t. table_lines link_columns (first_rows totals i) ++ row_text default_writer (link_fields i (λ k. numbers_are i d lt k t)))
+      ∙ table_more link_columns (first_rows totals i) (link_fields i (counted_at totals i))
       ∙ ap (table_lines link_columns) (sym (map-range_with_len_more (λ l. link_fields l (counted_at totals l)) 0 i i (omega arith)))
 
-  pub text_all : (i : ℕ) (text : List ℕ) → i ≡ length ls → text ≡ table_lines link_columns (first_rows totals i) → text ≡ links_table totals
+  pub text_all : (i : ℕ) → i ≡ length ls → table_lines link_columns (first_rows totals i) ≡ links_table totals
   unfolding links_table
-  text_all i text whole is = is ∙ ap (λ n. table_lines link_columns (first_rows totals n)) (whole ∙ sym links_are)
-
--- the table before its first link
-pub text_first : (totals : List ℕ) (text : List ℕ) → text ≡ row_text default_writer link_columns → text
-    ≡ table_lines link_columns (first_rows totals 0)
-text_first totals text e = table_first link_columns text e
+  text_all i whole = ap (λ n. table_lines link_columns (first_rows totals n)) (whole ∙ sym links_are)

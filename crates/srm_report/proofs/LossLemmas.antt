@@ -119,17 +119,17 @@ module _ (rows : List Row) (members : ℕ) (orderly : IsOrderly members rows) (e
               (named_in k.name f.0.lost (second_true (f.0.key.member == k.member) _ f.2)),
         )
 
-  text_more : (net : Network) (i : ℕ) (k : Loss) (c : Course) (old new line : List ℕ) → i < length es → (k, c) ≡ get_or es i (k, c)
-      → old ≡ table_lines loss_columns (map (loss_row net rows) (take i (map (λ e. e.0) es))) → line
-      ≡ row_text default_writer (loss_fields net k (Some c.detected) c.recovered)
-      → new ≡ old ++ line → new ≡ table_lines loss_columns (map (loss_row net rows) (take (i + 1) (map (λ e. e.0) es)))
-  text_more net i k c old new line lt here before is grown =
+  text_more : (net : Network) (i : ℕ) (k : Loss) (c : Course) → i < length es → (k, c) ≡ get_or es i (k, c)
+      → table_lines loss_columns (map (loss_row net rows) (take i (map (λ e. e.0) es)))
+      ++ row_text default_writer (loss_fields net k (Some c.detected) c.recovered)
+      ≡ table_lines loss_columns (map (loss_row net rows) (take (i + 1) (map (λ e. e.0) es)))
+  text_more net i k c lt here =
       let ks = map (λ (e : Loss × Course). e.0) es in
       let long : length ks ≡ length es = length-keys es in
       let one : take (i + 1) ks ≡ take i ks ++ k ∷ [] = take_more ks i k (omega arith)
       ∙ ap (λ x. take i ks ++ x ∷ []) (get-map es i k c lt here) in
-      table_more loss_columns (map (loss_row net rows) (take i ks)) (loss_row net rows k) old new line before
-      (is ∙ ap (row_text default_writer) (is_row i k c lt here net)) grown
+      ap (λ r. table_lines loss_columns (map (loss_row net rows) (take i ks)) ++ row_text default_writer r) (is_row i k c lt here net)
+      ∙ table_more loss_columns (map (loss_row net rows) (take i ks)) (loss_row net rows k)
       ∙ ap (table_lines loss_columns) (sym (ap (map (loss_row net rows)) one ∙ map-push (loss_row net rows) (take i ks) k))
     where
       get-map : (es : List (Loss × Course)) (i : ℕ) (k : Loss) (c : Course) → i < length es → (k, c) ≡ get_or es i (k, c)
@@ -156,14 +156,13 @@ module _ (rows : List Row) (members : ℕ) (orderly : IsOrderly members rows) (e
       × ((get_or es i d).0.name.source < members)
   next_among i d lt = among i (get_or es i d).0 (get_or es i d).1 lt (read i d lt)
 
-  pub text_next : (net : Network) (i : ℕ) (d : Loss × Course) (old new line : List ℕ) → i < length es
-      → old ≡ table_lines loss_columns (map (loss_row net rows) (take i (map (λ e. e.0) es)))
-      → line ≡ row_text default_writer (loss_fields net (get_or es i d).0 (Some (get_or es i d).1.detected) (get_or es i d).1.recovered)
-      → new ≡ old ++ line → new ≡ table_lines loss_columns (map (loss_row net rows) (take (i + 1) (map (λ e. e.0) es)))
-  text_next net i d old new line lt before is grown = text_more net i (get_or es i d).0 (get_or es i d).1 old new line lt
-      (read i d lt) before is grown
+  pub text_next : (net : Network) (i : ℕ) (d : Loss × Course) → i < length es
+      → table_lines loss_columns (map (loss_row net rows) (take i (map (λ e. e.0) es)))
+      ++ row_text default_writer (loss_fields net (get_or es i d).0 (Some (get_or es i d).1.detected) (get_or es i d).1.recovered)
+      ≡ table_lines loss_columns (map (loss_row net rows) (take (i + 1) (map (λ e. e.0) es)))
+  text_next net i d lt = text_more net i (get_or es i d).0 (get_or es i d).1 lt (read i d lt)
 
-  pub text_all : (net : Network) (i : ℕ) (text : List ℕ) → i ≡ length es →
-      text ≡ table_lines loss_columns (map (loss_row net rows) (take i (map (λ e. e.0) es))) → text ≡ losses_table net rows
+  pub text_all : (net : Network) (i : ℕ) → i ≡ length es
+      → table_lines loss_columns (map (loss_row net rows) (take i (map (λ e. e.0) es))) ≡ losses_table net rows
   unfolding losses_table
-  text_all net i text whole is = grind (arith, length-keys, take-length)
+  text_all net i whole = grind (arith, length-keys, take-length)

@@ -18,21 +18,21 @@ use Rattle.srm_report.proofs.CountLemmas.{member_rows-more}
 
 module _ (rows : List Row) (ks : List MemberSpec) (cs : List MemberCount)
     (counts : AreCounts (length ks) rows cs) where
-  pub text_more : (m : ℕ) (k : MemberSpec) (n : Counts) (old new line : List ℕ) → slice_get ks m ≡ Some k → n ≡ counts_at cs m
-      → old ≡ table_lines member_columns (member_rows rows 0 (take m ks)) → line ≡ row_text default_writer (member_fields m k n)
-      → new ≡ old ++ line → new ≡ table_lines member_columns (member_rows rows 0 (take (m + 1) ks))
-  text_more m k n old new line here is before f grown =
+  pub text_more : (m : ℕ) (k : MemberSpec) (n : Counts) → slice_get ks m ≡ Some k → n ≡ counts_at cs m
+      → table_lines member_columns (member_rows rows 0 (take m ks)) ++ row_text default_writer (member_fields m k n)
+      ≡ table_lines member_columns (member_rows rows 0 (take (m + 1) ks))
+  text_more m k n here is =
       let lt = slice_get_within ks m k here in
       let own : n ≡ counts_of (rows_of_member m rows) = is ∙ counts m lt in
       let long = length-take-le m ks (omega arith) in
       let one : take (m + 1) ks ≡ take m ks ++ k ∷ [] = take_more ks m k lt
       ∙ ap (λ q. take m ks ++ q ∷ []) (get_or_from_slice_get ks m k k here) in
-      table_more member_columns (member_rows rows 0 (take m ks)) (member_fields m k (counts_of (rows_of_member m rows))) old new line before
-      (f ∙ ap (λ q. row_text default_writer (member_fields m k q)) own) grown
+      ap (λ q. table_lines member_columns (member_rows rows 0 (take m ks)) ++ row_text default_writer (member_fields m k q)) own
+      ∙ table_more member_columns (member_rows rows 0 (take m ks)) (member_fields m k (counts_of (rows_of_member m rows)))
       ∙ ap (table_lines member_columns) (sym (member_rows-more rows 0 (take m ks) k m (omega arith)) ∙ ap (member_rows rows 0) (sym one))
 
-pub text_all : (rows : List Row) (s : PlainScenario) (m : ℕ) (text : List ℕ) → m ≡ length s.members → text
-    ≡ table_lines member_columns (member_rows rows 0 (take m s.members)) → text ≡ members_table s rows
+pub text_all : (rows : List Row) (s : PlainScenario) (m : ℕ) → m ≡ length s.members
+    → table_lines member_columns (member_rows rows 0 (take m s.members)) ≡ members_table s rows
 unfolding members_table
-text_all rows s m text whole is = is ∙ ap (λ n. table_lines member_columns (member_rows rows 0 (take n s.members))) whole
+text_all rows s m whole = ap (λ n. table_lines member_columns (member_rows rows 0 (take n s.members))) whole
     ∙ ap (λ ks. table_lines member_columns (member_rows rows 0 ks)) (take-length s.members)

@@ -17,7 +17,6 @@ use Rattle.std.proofs.lemmas.List.{take_more}
 use Rattle.std.proofs.lemmas.List.Elements.{filter_map-append}
 use Rattle.std.proofs.lemmas.List.Sorted.{ranks_by}
 use Rattle.std.proofs.lemmas.List.Sums.{sum_by-append, sum_by-cons}
-use Rattle.csv.specs.Writing.{default_writer, row_text}
 use Rattle.srm_net.specs.contracts.key.KeyOrd.TheImpl as key_order
 use Rattle.srm_net.specs.contracts.packet.PacketIdOrd.TheImpl as id_order
 use Rattle.srm_net.specs.declared.packet.Packet.{Packet}
@@ -50,7 +49,6 @@ use Rattle.srm_report.specs.Scopes.{scopes_table}
 use Rattle.srm_report.specs.Tables.{table_lines}
 use Rattle.srm_report.proofs.KeptLossLemmas.{all_few}
 use Rattle.srm_report.proofs.SendingLemmas.{count_within}
-use Rattle.srm_report.proofs.TableLemmas.{mapped_more}
 
 -- ---- packets are compared by their numbers
 
@@ -246,16 +244,6 @@ heard_joined rows i [] h = refl
 heard_joined rows i (k ∷ ks) h =
     (λ j. h.0.heard j ++ heard_joined rows (suc i) ks h.1 j)
     ∙ sym (filter_map-append heard_in (rows_of_member i rows) (joined (by_member (suc i) (length ks) rows)))
-
--- the line of one entry more
-pub entry_more : (es : List ScopeEntry) (heard : List (PacketId × ℕ)) (i : ℕ) (d : ScopeEntry) (n : ℕ) (old new line : List ℕ)
-    → i < length es
-    → old ≡ table_lines scope_columns (map (λ e. scope_fields e (count_in heard e.sent)) (take i es))
-    → line ≡ row_text default_writer (scope_fields (get_or es i d) n) → n ≡ count_in heard (get_or es i d).sent → new ≡ old ++ line
-    → new ≡ table_lines scope_columns (map (λ e. scope_fields e (count_in heard e.sent)) (take (i + 1) es))
-entry_more es heard i d n old new line lt before is counted grown =
-    mapped_more scope_columns (λ (e : ScopeEntry). scope_fields e (count_in heard e.sent)) es i d old new line lt before
-    (is ∙ ap (λ k. row_text default_writer (scope_fields (get_or es i d) k)) counted) grown
 
 -- the table of entries in order, and of counts
 pub table_of : (rows : List Row) (es : List ScopeEntry) (heard : List (PacketId × ℕ)) → es ≡ entries_in rows

@@ -17,6 +17,7 @@ pub mod Members
 pub mod OperationLaws
 pub mod Operations
 pub mod Pieces
+pub mod Records
 pub mod Rows
 pub mod Seeds
 pub mod Sendings

@@ -1,5 +1,5 @@
 //! Fields of a line. Each is put before the fields that are there, with a comma before it. None calls for quotes.
-ghost use Rattle.std.specs.Prelude.{◌≡◌, ◌+◌, ◌<◌, ◌≤◌, ◌∷◌, ◌++◌, codes, length, decimal};
+ghost use Rattle.std.specs.Prelude.{◌≡◌, ◌+◌, ◌≤◌, ◌∷◌, ◌++◌, codes, decimal};
 ghost use Rattle.csv.specs.Writing.{comma};
 ghost use Rattle.srm_report.specs.Lines.{line_room, line_written};
 ghost use Rattle.srm_report.specs.Rows.{or_dash};
@@ -7,17 +7,6 @@ ghost use Rattle.srm_report.specs.Trace.{name_text, packet_text};
 
 use crate::line::Line;
 use srm_net::packet::{Name, PacketId};
-
-// Puts a word.
-#[inline]
-pub(crate) fn put_word(line: &mut Line, word: &str)
-    requires { length word.now < line_room line.old }
-    ensures room { line_room line.old ≡ line_room line.new + length word.now + 1 }
-    ensures written { line_written line.new ≡ comma ∷ (word.now ++ line_written line.old) }
-{
-    line.put_bytes(word.as_bytes());
-    line.put_byte(b',');
-}
 
 // Puts a dash, where there is nothing to be told.
 #[inline]
@@ -39,16 +28,6 @@ pub(crate) fn put_number(line: &mut Line, number: u64)
     line.put_marked(b',', number);
 }
 
-// Puts a sum of numbers in digits.
-pub(crate) fn put_sum(line: &mut Line, sum: u128)
-    requires { 40 ≤ line_room line.old }
-    ensures room { line_room line.old ≤ line_room line.new + 40 }
-    ensures written { line_written line.new ≡ comma ∷ (decimal sum ++ line_written line.old) }
-{
-    line.put_wide_digits(sum);
-    line.put_byte(b',');
-}
-
 // Puts a time in digits, or `-` where there is none.
 pub(crate) fn put_time(line: &mut Line, time: Option<u64>)
     requires { 21 ≤ line_room line.old }
@@ -59,16 +38,6 @@ pub(crate) fn put_time(line: &mut Line, time: Option<u64>)
         None => put_dash(line),
         Some(time) => put_number(line, time),
     }
-}
-
-// Puts a delay over another, as two numbers with a slash.
-pub(crate) fn put_delay(line: &mut Line, took: u64, way: u64)
-    requires { 42 ≤ line_room line.old }
-    ensures room { line_room line.old ≤ line_room line.new + 42 }
-    ensures written { line_written line.new ≡ comma ∷ (decimal took ++ codes "/" ++ decimal way ++ line_written line.old) }
-{
-    line.put_marked(b'/', way);
-    put_number(line, took);
 }
 
 // Puts a packet as `sender:count`.

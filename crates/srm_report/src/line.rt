@@ -2,10 +2,10 @@
 ghost use Rattle.std.specs.Prelude.{◌<◌};
 ghost use Rattle.srm_report.specs.declared.line.TheConstants.{SIZE};
 
-use itoa::{Buffer, write_digits};
+use itoa::write_digits;
 
-// How many bytes there is room for. The longest line, that of a member, has at most 300: ten numbers of up to 20 digits and two of
-// up to 39, a role of up to 8 letters, 13 commas with the one before the first field, and a line feed.
+// How many bytes there is room for. The longest line, that of timers, has at most 282: thirteen numbers of up to 20 digits, three of
+// them in a name with two slashes, a word of up to 7 letters, 12 commas with the one before the first field, and a line feed.
 const SIZE: usize = 320;
 
 // A line that is written from its end to its front, as the digits of a number are: so each byte goes to its place at once. It
@@ -115,15 +115,5 @@ impl Line {
             self.start = write_digits(number, &mut self.bytes, self.start);
             self.put_byte(mark);
         }
-    }
-
-    // Writes a number of up to 128 bits in digits before the others.
-    pub(crate) fn put_wide_digits(&mut self, number: u128)
-        requires { 39 ≤ line_room self.old }
-        ensures room { line_room self.old ≤ line_room self.new + 39 }
-        ensures written { line_written self.new ≡ decimal number ++ line_written self.old }
-    {
-        let mut digits = Buffer::new();
-        self.put_bytes(digits.format(number).as_bytes());
     }
 }

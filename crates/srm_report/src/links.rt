@@ -1,14 +1,14 @@
 //! The table of links as CSV.
-ghost use Rattle.std.specs.Prelude.{◌≡◌, [], ◌∷◌, IfOk, slice_index};
-ghost use Rattle.csv.specs.Machine.{line_feed};
+ghost use Rattle.std.specs.Prelude.{◌≡◌, ◌++◌, ℕ, List, IfOk, OnOk, slice_index};
 ghost use Rattle.csv.specs.Writing.{default_writer, row_text};
 ghost use Rattle.srm_ledger.specs.Counts.{place_of};
-ghost use Rattle.srm_report.specs.Lines.{full_room, line_room, line_text, line_written};
 ghost use Rattle.srm_report.specs.Links.{link_fields, links_table};
+ghost use Rattle.srm_report.specs.Records.{HasText};
 
 use crate::fault::ReportFault;
-use crate::fields::put_number;
-use crate::line::Line;
+use crate::field::Field;
+use crate::records::{put_record, text_of, writer_behind};
+use csv::Writer;
 use srm_ledger::kind::Kind;
 use srm_ledger::totals::Totals;
 use std::alloc::Global;
@@ -32,26 +32,31 @@ pub const HEADER: &[u8] = b"link,data,requests,repairs,sessions,dropped\n";
 pub fn links_text(alloc: Global, totals: &Totals) -> Result<Vec<u8>, ReportFault>
     ensures { IfOk result (λ text. text.items ≡ links_table totals.now) }
 {
-    let mut text = Vec::from_slice(alloc, HEADER)?;
-    let mut line = Line::new();
+    let mut writer = writer_behind(Vec::from_slice(alloc, HEADER)?);
     for (link, numbers) in totals.links().iter().enumerate() {
-        line.clear();
-        put_link(&mut line, link, numbers);
-        text.extend_from_slice(line.text())?;
+        put_link(&mut writer, link, numbers)?;
     }
-    Ok(text)
+    text_of(writer)
 }
 
-// Puts the fields of a link with these five numbers, from the last to the first, before the line feed of an empty line.
-fn put_link(line: &mut Line, link: usize, numbers: &[u64; 5])
-    requires room { line_room line.old ≡ full_room }
-    requires empty { line_written line.old ≡ line_feed ∷ [] }
-    ensures { line_text line.new ≡ row_text default_writer (link_fields link (λ k. slice_index numbers.now (place_of k))) }
+// Writes the record of a link with these five numbers.
+fn put_link(
+    writer: &mut Writer<Vec<u8>>,
+    link: usize,
+    numbers: &[u64; 5],
+) -> Result<(), ReportFault>
+    ensures { (text : List ℕ) → HasText writer.old text → OnOk result (HasText writer.new
+        (text ++ row_text default_writer (link_fields link (λ k. slice_index numbers.now (place_of k))))) }
 {
-    put_number(line, numbers[Kind::Dropped.place()]);
-    put_number(line, numbers[Kind::Session.place()]);
-    put_number(line, numbers[Kind::Repair.place()]);
-    put_number(line, numbers[Kind::Request.place()]);
-    put_number(line, numbers[Kind::Drawop.place()]);
-    put_number(line, link as u64);
+    put_record(
+        writer,
+        &[
+            Field::number(link as u64).text(),
+            Field::number(numbers[Kind::Drawop.place()]).text(),
+            Field::number(numbers[Kind::Request.place()]).text(),
+            Field::number(numbers[Kind::Repair.place()]).text(),
+            Field::number(numbers[Kind::Session.place()]).text(),
+            Field::number(numbers[Kind::Dropped.place()]).text(),
+        ],
+    )
 }

@@ -1,19 +1,22 @@
 //! The lines of the table of losses.
-ghost use Rattle.std.specs.Prelude.{◌≡◌, ◌<◌, [], ◌∷◌, List, Some, IfOk, length};
-ghost use Rattle.csv.specs.Machine.{line_feed};
+ghost use Rattle.std.specs.Prelude.{◌≡◌, ◌<◌, ◌++◌, ℕ, List, Some, IfOk, IfSome, OnOk, length};
 ghost use Rattle.csv.specs.Writing.{default_writer, row_text};
 ghost use Rattle.srm_member.specs.declared.row.Row.{Row as R};
 ghost use Rattle.srm_member.specs.Orderly.{IsOrderly};
 ghost use Rattle.srm_report.specs.Courses.{TellLosses};
-ghost use Rattle.srm_report.specs.Lines.{full_room, line_room, line_text, line_written};
-ghost use Rattle.srm_report.specs.Losses.{loss_fields, losses_table};
+ghost use Rattle.srm_report.specs.Losses.{delay_of, loss_fields, losses_table};
+ghost use Rattle.srm_report.specs.Records.{HasText};
+ghost use Rattle.srm_report.specs.Rows.{or_dash};
 
 use crate::course::Course;
 use crate::fault::ReportFault;
-use crate::fields::{put_dash, put_delay, put_number, put_time};
-use crate::line::Line;
+use crate::field::Field;
 use crate::loss::Loss;
 use crate::losses::HEADER;
+use crate::records::{put_record, text_of, writer_behind};
+use crate::recovery::Recovery;
+use crate::tallies::recovery;
+use csv::Writer;
 use srm_net::net::Net;
 use std::alloc::Global;
 
@@ -27,38 +30,49 @@ pub(crate) fn table_text(
     ensures { (rows : List R) → IsOrderly (length net.now.hosts) rows → TellLosses rows entries.now
         → IfOk result (λ text. text.items ≡ losses_table net.now rows) }
 {
-    let mut text = Vec::from_slice(alloc, HEADER)?;
-    let mut line = Line::new();
+    let mut writer = writer_behind(Vec::from_slice(alloc, HEADER)?);
     for entry in entries {
-        line.clear();
-        put_loss(&mut line, net, entry);
-        text.extend_from_slice(line.text())?;
+        put_loss(&mut writer, net, entry)?;
     }
-    Ok(text)
+    text_of(writer)
 }
 
-// Puts the fields of a loss, with what became of it, from the last to the first, before the line feed of an empty line.
-fn put_loss(line: &mut Line, net: &Net, entry: &(Loss, Course))
-    requires room { line_room line.old ≡ full_room }
-    requires empty { line_written line.old ≡ line_feed ∷ [] }
+// Writes the record of a loss, with what became of it.
+fn put_loss(
+    writer: &mut Writer<Vec<u8>>,
+    net: &Net,
+    entry: &(Loss, Course),
+) -> Result<(), ReportFault>
     requires member { entry.now.0.member < length net.now.hosts }
     requires source { entry.now.0.name.source < length net.now.hosts }
-    ensures { line_text line.new ≡ row_text default_writer
-        (loss_fields net.now entry.now.0 (Some entry.now.1.detected) entry.now.1.recovered) }
+    ensures { (text : List ℕ) → HasText writer.old text → OnOk result (HasText writer.new
+        (text ++ row_text default_writer (loss_fields net.now entry.now.0 (Some entry.now.1.detected) entry.now.1.recovered))) }
 {
     let (Loss { member, name }, course) = *entry;
-    match course.recovered {
-        None => put_dash(line),
-        Some(recovered) => {
-            let took = recovered.saturating_sub(course.detected);
-            let round = net.round(member, name.source);
-            put_delay(line, took, round);
+    put_record(
+        writer,
+        &[
+            Field::number(u64::from(member)).text(),
+            Field::number(u64::from(name.source)).text(),
+            Field::number(u64::from(name.page)).text(),
+            Field::number(u64::from(name.number)).text(),
+            Field::number(course.detected).text(),
+            Field::or_dash(course.recovered).text(),
+            delay(net, name.source, recovery(member, course)).text(),
+        ],
+    )
+}
+
+// How long a recovery took, over the round trip to the source, or a dash where there was none.
+pub(crate) fn delay(net: &Net, source: u16, recovery: Option<Recovery>) -> Field
+    requires { IfSome recovery (λ r. (r.member < length net.now.hosts) × (source < length net.now.hosts)) }
+    ensures { result ≡ or_dash (delay_of net.now source) recovery }
+{
+    match recovery {
+        None => Field::dash(),
+        Some(recovery) => {
+            let took = recovery.recovered.saturating_sub(recovery.detected);
+            Field::ratio(took, net.round(recovery.member, source))
         }
     }
-    put_time(line, course.recovered);
-    put_number(line, course.detected);
-    put_number(line, u64::from(name.number));
-    put_number(line, u64::from(name.page));
-    put_number(line, u64::from(name.source));
-    put_number(line, u64::from(member));
 }

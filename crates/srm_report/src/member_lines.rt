@@ -1,18 +1,19 @@
 //! The lines of the table of members.
-ghost use Rattle.std.specs.Prelude.{◌≡◌, ◌≤◌, ℕ, List, [], ◌∷◌, length, IfOk};
-ghost use Rattle.csv.specs.Machine.{line_feed};
+ghost use Rattle.std.specs.Prelude.{◌≡◌, ◌++◌, ℕ, List, length, IfOk, OnOk};
 ghost use Rattle.csv.specs.Writing.{default_writer, row_text};
 ghost use Rattle.srm_member.specs.declared.row.Row.{Row as R};
-ghost use Rattle.srm_report.specs.Lines.{full_room, line_room, line_text, line_written};
 ghost use Rattle.srm_report.specs.MemberCounts.{AreCounts, counts_at};
 ghost use Rattle.srm_report.specs.Members.{member_fields, members_table, role_word};
+ghost use Rattle.srm_report.specs.Records.{HasText};
 
 use crate::counts::Counts;
 use crate::fault::ReportFault;
-use crate::fields::{put_number, put_sum, put_time, put_word};
-use crate::line::Line;
+use crate::field::Field;
 use crate::member_count::MemberCount;
 use crate::members::HEADER;
+use crate::records::{put_record, text_of, writer_behind};
+use csv::Writer;
+use itoa::Buffer;
 use srm_net::role::Role;
 use srm_scenario::parts::MemberSpec;
 use srm_scenario::scenario::Scenario;
@@ -27,19 +28,16 @@ pub(crate) fn table_text(
     ensures { (rows : List R) → AreCounts (length scenario.now.members) rows counts.now
         → IfOk result (λ text. text.items ≡ members_table scenario.now rows) }
 {
-    let mut text = Vec::from_slice(alloc, HEADER)?;
-    let mut line = Line::new();
+    let mut writer = writer_behind(Vec::from_slice(alloc, HEADER)?);
     for member in 0..scenario.members() {
-        line.clear();
         put_member(
-            &mut line,
+            &mut writer,
             member,
             scenario.member(member),
             &counts_of_member(counts, member),
-        );
-        text.extend_from_slice(line.text())?;
+        )?;
     }
-    Ok(text)
+    text_of(writer)
 }
 
 // The counts of a member.
@@ -52,32 +50,40 @@ fn counts_of_member(counts: &[MemberCount], member: u16) -> Counts
     }
 }
 
-// Puts the fields of a member, from the last to the first, before the line feed of an empty line.
-fn put_member(line: &mut Line, number: u16, member: &MemberSpec, counts: &Counts)
-    requires room { line_room line.old ≡ full_room }
-    requires empty { line_written line.old ≡ line_feed ∷ [] }
-    ensures { line_text line.new ≡ row_text default_writer (member_fields number member.now counts.now) }
+// Writes the record of a member.
+fn put_member(
+    writer: &mut Writer<Vec<u8>>,
+    number: u16,
+    member: &MemberSpec,
+    counts: &Counts,
+) -> Result<(), ReportFault>
+    ensures { (text : List ℕ) → HasText writer.old text → OnOk result (HasText writer.new
+        (text ++ row_text default_writer (member_fields number member.now counts.now))) }
 {
     let open = counts.lost.saturating_sub(u128::from(counts.fixed));
-    put_number(line, counts.sessions);
-    put_number(line, counts.repairs);
-    put_number(line, counts.requests);
-    put_sum(line, open);
-    put_number(line, counts.fixed);
-    put_sum(line, counts.lost);
-    put_number(line, counts.heard);
-    put_number(line, counts.drawn);
-    put_time(line, counts.left);
-    put_time(line, counts.joined);
-    put_number(line, u64::from(member.node));
-    put_word(line, word_of_role(member.role));
-    put_number(line, u64::from(number));
+    put_record(
+        writer,
+        &[
+            Field::number(u64::from(number)).text(),
+            word_of_role(member.role).as_bytes(),
+            Field::number(u64::from(member.node)).text(),
+            Field::or_dash(counts.joined).text(),
+            Field::or_dash(counts.left).text(),
+            Field::number(counts.drawn).text(),
+            Field::number(counts.heard).text(),
+            Buffer::new().format(counts.lost).as_bytes(),
+            Field::number(counts.fixed).text(),
+            Buffer::new().format(open).as_bytes(),
+            Field::number(counts.requests).text(),
+            Field::number(counts.repairs).text(),
+            Field::number(counts.sessions).text(),
+        ],
+    )
 }
 
 // The word of a role.
 fn word_of_role(role: Role) -> &'static str
-    ensures word { result.now ≡ role_word role }
-    ensures short { length result.now ≤ 8 }
+    ensures { result.now ≡ role_word role }
 {
     match role {
         Role::Sender => "sender",

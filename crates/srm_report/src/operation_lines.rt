@@ -1,28 +1,30 @@
 //! The lines of the table of operations.
-ghost use Rattle.std.specs.Prelude.{◌≡◌, ◌<◌, [], ◌∷◌, List, IfOk, IfSome, length, map};
-ghost use Rattle.csv.specs.Machine.{line_feed};
+ghost use Rattle.std.specs.Prelude.{◌≡◌, ◌<◌, ◌++◌, ℕ, List, IfOk, IfSome, OnOk, decimal, length, map};
 ghost use Rattle.csv.specs.Writing.{default_writer, row_text};
 ghost use Rattle.srm_net.specs.declared.packet.Name.{Name as AName};
 ghost use Rattle.srm_member.specs.declared.row.Row.{Row as R};
 ghost use Rattle.srm_member.specs.Orderly.{IsOrderly};
-ghost use Rattle.srm_report.specs.Lines.{full_room, line_room, line_text, line_written};
 ghost use Rattle.srm_report.specs.Operations.{last_told, operation_columns, operation_fields, operations_table};
 ghost use Rattle.srm_report.specs.KeptOperations.{TellOperations};
+ghost use Rattle.srm_report.specs.Records.{HasText};
+ghost use Rattle.srm_report.specs.Rows.{or_dash};
 ghost use Rattle.srm_report.specs.Sendings.{sending_in};
 ghost use Rattle.srm_report.specs.Tables.{table_lines};
 ghost use Rattle.srm_report.specs.Tallies.{tally_in};
 
 use crate::course::Course;
 use crate::fault::ReportFault;
-use crate::fields::{put_dash, put_delay, put_number, put_time};
-use crate::line::Line;
+use crate::field::Field;
 use crate::loss::Loss;
+use crate::loss_lines::delay;
 use crate::operations::HEADER;
+use crate::records::{put_record, text_of, writer_behind};
 use crate::recovery::Recovery;
 use crate::sending::Sending;
 use crate::sendings::sending;
 use crate::tallies::{tallies, tally};
 use crate::tally::Tally;
+use csv::Writer;
 use srm_member::named::Named;
 use srm_net::net::Net;
 use srm_net::packet::Name;
@@ -58,51 +60,50 @@ fn table_text(
         (map (λ n. operation_fields net.now n (tally_in tallies.now n) (sending_in sent.now n)) (map (λ e. e.0) tallies.now))) }
 {
     let names = tallies.names(alloc)?;
-    let mut text = Vec::from_slice(alloc, HEADER)?;
-    let mut line = Line::new();
+    let mut writer = writer_behind(Vec::from_slice(alloc, HEADER)?);
     for name in names.as_slice() {
-        line.clear();
         let name = *name;
         put_operation(
-            &mut line,
+            &mut writer,
             net,
             name,
             &tally(tallies, name),
             &sending(sent, name),
-        );
-        text.extend_from_slice(line.text())?;
+        )?;
     }
-    Ok(text)
+    text_of(writer)
 }
 
-// Puts the fields of an operation, from the last to the first, before the line feed of an empty line.
-fn put_operation(line: &mut Line, net: &Net, name: Name, tally: &Tally, sending: &Sending)
-    requires room { line_room line.old ≡ full_room }
-    requires empty { line_written line.old ≡ line_feed ∷ [] }
+// Writes the record of an operation.
+fn put_operation(
+    writer: &mut Writer<Vec<u8>>,
+    net: &Net,
+    name: Name,
+    tally: &Tally,
+    sending: &Sending,
+) -> Result<(), ReportFault>
     requires members { IfSome (last_told tally.now) (λ r. (r.member < length net.now.hosts) × (name.source < length net.now.hosts)) }
-    ensures { line_text line.new ≡ row_text default_writer (operation_fields net.now name tally.now sending.now) }
+    ensures { (text : List ℕ) → HasText writer.old text → OnOk result (HasText writer.new
+        (text ++ row_text default_writer (operation_fields net.now name tally.now sending.now))) }
 {
-    match last_of(tally) {
-        None => {
-            put_dash(line);
-            put_dash(line);
-        }
-        Some(last) => {
-            let took = last.recovered.saturating_sub(last.detected);
-            put_delay(line, took, net.round(last.member, name.source));
-            put_number(line, u64::from(last.member));
-        }
-    }
-    put_number(line, sending.repairs);
-    put_number(line, sending.requests);
-    put_time(line, sending.asked);
-    put_time(line, tally.detected);
-    put_number(line, tally.left);
-    put_number(line, tally.recovered);
-    put_number(line, tally.losers);
-    put_number(line, u64::from(name.number));
-    put_number(line, u64::from(name.page));
-    put_number(line, u64::from(name.source));
+    let last = last_of(tally);
+    put_record(
+        writer,
+        &[
+            Field::number(u64::from(name.source)).text(),
+            Field::number(u64::from(name.page)).text(),
+            Field::number(u64::from(name.number)).text(),
+            Field::number(tally.losers).text(),
+            Field::number(tally.recovered).text(),
+            Field::number(tally.left).text(),
+            Field::or_dash(tally.detected).text(),
+            Field::or_dash(sending.asked).text(),
+            Field::number(sending.requests).text(),
+            Field::number(sending.repairs).text(),
+            member_of(last).text(),
+            delay(net, name.source, last).text(),
+        ],
+    )
 }
 
 // How the last loser to recover did, where no loss is pending.
@@ -110,4 +111,14 @@ fn last_of(tally: &Tally) -> Option<Recovery>
     ensures { result ≡ last_told tally.now }
 {
     if tally.is_pending { None } else { tally.last }
+}
+
+// The member that recovered, or a dash where none did.
+fn member_of(recovery: Option<Recovery>) -> Field
+    ensures { result ≡ or_dash (λ r. decimal r.member) recovery }
+{
+    match recovery {
+        None => Field::dash(),
+        Some(recovery) => Field::number(u64::from(recovery.member)),
+    }
 }

@@ -1,20 +1,20 @@
 //! The lines of the table of scopes.
-ghost use Rattle.std.specs.Prelude.{◌≡◌, ◌+◌, ◌≤◌, [], ◌∷◌, ◌++◌, IfOk, decimal, map};
-ghost use Rattle.csv.specs.Machine.{line_feed};
-ghost use Rattle.csv.specs.Writing.{comma, default_writer, row_text};
+ghost use Rattle.std.specs.Prelude.{◌≡◌, ◌-◌, ◌<◌, ◌≤◌, ◌++◌, ℕ, List, IfOk, OnOk, decimal, drop, map};
+ghost use Rattle.csv.specs.Writing.{default_writer, row_text};
 ghost use Rattle.srm_report.specs.KeptScopes.{count_in};
-ghost use Rattle.srm_report.specs.Lines.{full_room, line_room, line_text, line_written};
+ghost use Rattle.srm_report.specs.Records.{HasText};
 ghost use Rattle.srm_report.specs.Rows.{or_dash};
 ghost use Rattle.srm_report.specs.Scopes.{scope_columns, scope_fields};
 ghost use Rattle.srm_report.specs.Tables.{table_lines};
 
 use crate::fault::ReportFault;
-use crate::fields::{put_dash, put_name, put_number, put_packet};
+use crate::field::Field;
 use crate::heard_counts::HeardCounts;
-use crate::line::Line;
+use crate::records::{put_record, text_of, writer_behind};
 use crate::scope_entry::ScopeEntry;
 use crate::scopes::HEADER;
-use crate::trace::put_cause;
+use crate::trace::tag_of_cause;
+use csv::Writer;
 use srm_net::packet::Local;
 use std::alloc::Global;
 
@@ -27,50 +27,68 @@ pub(crate) fn table_text(
     ensures { IfOk result (λ text. text.items
         ≡ table_lines scope_columns (map (λ e. scope_fields e (count_in heard.now e.sent)) entries.now)) }
 {
-    let mut text = Vec::from_slice(alloc, HEADER)?;
-    let mut line = Line::new();
+    let mut writer = writer_behind(Vec::from_slice(alloc, HEADER)?);
     for entry in entries {
-        line.clear();
-        put_entry(&mut line, entry, heard.of(entry.sent));
-        text.extend_from_slice(line.text())?;
+        put_entry(&mut writer, entry, heard.of(entry.sent))?;
     }
-    Ok(text)
+    text_of(writer)
 }
 
-// Puts the fields of a request or a repair, from the last to the first, before the line feed of an empty line.
-fn put_entry(line: &mut Line, entry: &ScopeEntry, heard: u64)
-    requires room { line_room line.old ≡ full_room }
-    requires empty { line_written line.old ≡ line_feed ∷ [] }
-    ensures { line_text line.new ≡ row_text default_writer (scope_fields entry.now heard) }
+// Writes the record of a request or a repair.
+fn put_entry(
+    writer: &mut Writer<Vec<u8>>,
+    entry: &ScopeEntry,
+    heard: u64,
+) -> Result<(), ReportFault>
+    ensures { (text : List ℕ) → HasText writer.old text → OnOk result (HasText writer.new
+        (text ++ row_text default_writer (scope_fields entry.now heard))) }
 {
-    put_number(line, heard);
-    put_local(line, entry.local);
-    match entry.scope {
-        None => put_dash(line),
-        Some(scope) => put_number(line, u64::from(scope)),
-    }
-    put_packet(line, entry.sent);
-    put_name(line, entry.name);
-    put_cause(line, entry.cause);
-    put_number(line, u64::from(entry.key.member));
-    put_number(line, entry.key.time);
+    let (cause, count) = tag_of_cause(entry.cause);
+    let (requester, width) = fields_of_local(entry.local);
+    put_record(
+        writer,
+        &[
+            Field::number(entry.key.time).text(),
+            Field::number(u64::from(entry.key.member)).text(),
+            word_of_tag(&cause, count),
+            Field::name(entry.name).text(),
+            Field::packet(entry.sent).text(),
+            hops(entry.scope).text(),
+            requester.text(),
+            width.text(),
+            Field::number(heard).text(),
+        ],
+    )
 }
 
-// Puts whose request a repair answered, and its width.
-fn put_local(line: &mut Line, local: Option<Local>)
-    requires { 42 ≤ line_room line.old }
-    ensures room { line_room line.old ≤ line_room line.new + 42 }
-    ensures written { line_written line.new ≡ comma ∷ (or_dash (λ l. decimal l.requester) local
-        ++ comma ∷ (or_dash (λ l. decimal l.width) local ++ line_written line.old)) }
+// The word of a tag that is the last so many bytes, a comma and then the word.
+fn word_of_tag(bytes: &[u8; 8], count: usize) -> &[u8]
+    requires { (0 < count) × (count ≤ 8) }
+    ensures { result.now ≡ drop (9 - count) bytes.now }
+{
+    &bytes[9 - count..]
+}
+
+// How many hops a packet went, or a dash where it went to all.
+fn hops(scope: Option<u32>) -> Field
+    ensures { result ≡ or_dash decimal scope }
+{
+    match scope {
+        None => Field::dash(),
+        Some(scope) => Field::number(u64::from(scope)),
+    }
+}
+
+// Whose request a repair answered, and its width.
+fn fields_of_local(local: Option<Local>) -> (Field, Field)
+    ensures requester { result.0 ≡ or_dash (λ l. decimal l.requester) local }
+    ensures width { result.1 ≡ or_dash (λ l. decimal l.width) local }
 {
     match local {
-        None => {
-            put_dash(line);
-            put_dash(line);
-        }
-        Some(local) => {
-            put_number(line, u64::from(local.width));
-            put_number(line, u64::from(local.requester));
-        }
+        None => (Field::dash(), Field::dash()),
+        Some(local) => (
+            Field::number(u64::from(local.requester)),
+            Field::number(u64::from(local.width)),
+        ),
     }
 }

@@ -92,7 +92,7 @@ fn tallied(tally: Tally, loss: Loss, course: Course, gone: bool) -> Option<Tally
 }
 
 // How a member recovered, if it did.
-fn recovery(member: u16, course: Course) -> Option<Recovery>
+pub(crate) fn recovery(member: u16, course: Course) -> Option<Recovery>
     ensures { result ≡ recovery_by member (Some course.detected) course.recovered }
 {
     let Some(recovered) = course.recovered else {

@@ -1,5 +1,5 @@
 //! The trace of a run as CSV.
-ghost use Rattle.std.specs.Prelude.{◌≡◌, ◌+◌, ◌-◌, ◌≤◌, [], ◌∷◌, ◌++◌, drop, length, IfOk, OnOk};
+ghost use Rattle.std.specs.Prelude.{◌≡◌, ◌+◌, ◌-◌, ◌<◌, ◌≤◌, [], ◌∷◌, ◌++◌, drop, length, IfOk, OnOk};
 ghost use Rattle.csv.specs.Machine.{line_feed};
 ghost use Rattle.csv.specs.Writing.{comma, default_writer, row_text};
 ghost use Rattle.srm_report.specs.Listings.{lines_in};
@@ -159,7 +159,8 @@ fn put_told(line: &mut Line, told: Told)
 
 // The word of an event's kind with its comma, at the end of eight bytes, and how many of them these are.
 #[inline]
-fn tag_of_cause(cause: Word) -> ([u8; 8], usize)
+pub(crate) fn tag_of_cause(cause: Word) -> ([u8; 8], usize)
+    ensures some { 0 < result.1 }
     ensures count { result.1 ≤ 8 }
     ensures word { drop (8 - result.1) result.0 ≡ comma ∷ cause_word cause }
 {

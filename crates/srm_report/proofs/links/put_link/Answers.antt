@@ -1,26 +1,17 @@
-use Rattle.std.proofs.Common.{◌≡◌, ◌∷◌, ◌++◌, ℕ, List, decimal, refl, ap, slice_index}
-use Rattle.csv.specs.Writing.{comma}
-use Rattle.srm_ledger.specs.declared.kind.Kind.{Kind}
-use Rattle.srm_ledger.specs.declared.kind.Kind.TheVariants.{Drawop, Request, Repair, Session, Dropped}
-use Rattle.srm_ledger.specs.Counts.{place_of}
-use Rattle.srm_report.proofs.LineLemmas.{HasFields, line_is_row, no_field, field, decimal_is_plain}
+use Rattle.std.proofs.Common.{◌∙◌, ◌++◌, [], ◌∷◌, ℕ, decimal, ap, slice_index, subst}
+use Rattle.std.specs.Result.{OnOk}
+use Rattle.csv.specs.Writing.{default_writer, row_text}
+use Rattle.srm_report.specs.Records.{HasText}
 use Rattle.srm_report.proofs.links.put_link.Goals as goal
 
--- the number of one kind more
-number : {fs : List (List ℕ)} {old new : List ℕ} (numbers : List ℕ) (k : Kind) {place : ℕ} → place ≡ place_of k
-    → new ≡ comma ∷ (decimal (slice_index numbers place) ++ old) → HasFields old fs
-    → HasFields new (decimal (slice_index numbers (place_of k)) ∷ fs)
-number numbers k e written old =
-    let n = slice_index numbers (place_of k) in field (decimal n) (decimal_is_plain n) written (ap (λ i. decimal (slice_index numbers i)) e)
-    old
-
 pub returns : goal.returns
-returns c =
-    let ns = c.args.numbers.now in
-    let dropped = number ns Dropped c.place.ensures.place c.put_number.ensures.written (no_field c.requires.empty) in
-    let session = number ns Session c.place-2.ensures.place c.put_number-2.ensures.written dropped in
-    let repair = number ns Repair c.place-3.ensures.place c.put_number-3.ensures.written session in
-    let request = number ns Request c.place-4.ensures.place c.put_number-4.ensures.written repair in
-    let drawop = number ns Drawop c.place-5.ensures.place c.put_number-5.ensures.written request in
-    line_is_row c.put_number-6.new.line (field (decimal c.args.link) (decimal_is_plain c.args.link) c.put_number-6.ensures.written refl
-    drawop)
+returns c text h =
+    let number = λ (place : ℕ). decimal (slice_index c.args.numbers.now place) in
+    let drawop = c.text-2.ensures ∙ c.number-2.ensures ∙ ap number c.place.ensures.place in
+    let request = c.text-3.ensures ∙ c.number-3.ensures ∙ ap number c.place-2.ensures.place in
+    let repair = c.text-4.ensures ∙ c.number-4.ensures ∙ ap number c.place-3.ensures.place in
+    let session = c.text-5.ensures ∙ c.number-5.ensures ∙ ap number c.place-4.ensures.place in
+    let dropped = c.text-6.ensures ∙ c.number-6.ensures ∙ ap number c.place-5.ensures.place in
+    subst (λ fields. OnOk c.put_record.result (HasText c.put_record.new.writer (text ++ row_text default_writer fields)))
+    (λ i. (c.text.ensures ∙ c.number.ensures) i ∷ drawop i ∷ request i ∷ repair i ∷ session i ∷ dropped i ∷ [])
+    (c.put_record.ensures text h)

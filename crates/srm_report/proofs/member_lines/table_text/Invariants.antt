@@ -1,7 +1,8 @@
-use Rattle.std.proofs.Common.{◌≡◌, List, length, take}
+use Rattle.std.proofs.Common.{List, length, take}
 use Rattle.srm_member.specs.declared.row.Row.{Row}
 use Rattle.srm_report.specs.MemberCounts.{AreCounts}
 use Rattle.srm_report.specs.Members.{member_columns, member_rows}
+use Rattle.srm_report.specs.Records.{HasText}
 use Rattle.srm_report.specs.Tables.{table_lines}
 use Rattle.srm_report.proofs.member_lines.table_text.Given as goal
 
@@ -9,4 +10,4 @@ use Rattle.srm_report.proofs.member_lines.table_text.Given as goal
 abbrev pub invariant-loop-member : goal.invariant-loop-member
 invariant-loop-member l =
     (rows : List Row) → AreCounts (length l.scenario.members) rows l.counts
-    → l.text.items ≡ table_lines member_columns (member_rows rows 0 (take l.member l.scenario.members))
+    → HasText l.writer (table_lines member_columns (member_rows rows 0 (take l.member l.scenario.members)))

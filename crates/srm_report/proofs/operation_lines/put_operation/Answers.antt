@@ -1,46 +1,33 @@
-use Rattle.std.proofs.Common.{◌≡◌, ◌∙◌, [], ◌∷◌, ◌++◌, Option, None, Some, codes, decimal, refl, ap, sym, subst}
+use Rattle.std.proofs.Common.{◌∙◌, ◌<◌, ◌++◌, [], ◌∷◌, IfSome, decimal, ap, length, subst, sym}
+use Rattle.std.specs.Result.{OnOk}
+use Rattle.csv.specs.Writing.{default_writer, row_text}
 use Rattle.srm_report.specs.declared.recovery.Recovery.{Recovery}
-use Rattle.srm_report.specs.Lines.{line_written}
 use Rattle.srm_report.specs.Losses.{delay_of}
-use Rattle.srm_report.specs.Operations.{last_told}
-use Rattle.srm_report.proofs.LineLemmas.{HasFields, line_is_row, no_field, field, decimal_is_plain, delay_is_plain, time_is_plain}
-use Rattle.srm_report.proofs.operation_lines.put_operation.Goals.{in-None, in-Some}
-use Rattle.srm_report.proofs.operation_lines.put_operation.Goals as goal
+use Rattle.srm_report.specs.Records.{HasText}
 use Rattle.srm_report.specs.Rows.{or_dash}
+use Rattle.srm_report.proofs.operation_lines.put_operation.Goals as goal
+
+pub delay-requires : goal.delay-requires
+delay-requires c =
+    let members = length c.args.net.now.hosts in
+    subst (λ o. IfSome o (λ r. (r.member < members) × (c.args.name.source < members))) (sym c.last_of-last.ensures)
+    c.requires.members
 
 pub returns : goal.returns
-returns c =
-    let n = c.args.name in
-    let t = c.args.tally.now in
-    let s = c.args.sending.now in
-    let net = c.args.net.now in
-    let empty = no_field c.requires.empty in
-    let last_fields = λ (o : Option Recovery). or_dash (λ r. decimal r.member) o ∷ or_dash (delay_of net n.source) o ∷ [] in
-    let ends : HasFields (line_written c.match-last_of.line) (last_fields (last_told t)) =
-    elim c.match-last_of.branch [
-      | in-None w ↦
-          let told : None ≡ last_told t = sym w.in-None.is ∙ c.last_of.ensures in
-          let delay = field (codes "-") refl w.put_dash.ensures.written refl empty in
-          let last = field (codes "-") refl w.put_dash-in-None.ensures.written refl delay in
-          subst (λ o. HasFields (line_written c.match-last_of.line) (last_fields o)) told
-          (subst (λ l. HasFields (line_written l) (last_fields None)) (sym w.line-is) last)
-      | in-Some w ↦
-          let r = w.in-Some.last in
-          let told : Some r ≡ last_told t = sym w.in-Some.is ∙ c.last_of.ensures in
-          let delay = field _ (delay_is_plain net n.source (Some r)) w.put_delay.ensures.written
-          (λ i. decimal (w.saturating_sub-took.ensures i) ++ codes "/" ++ decimal (w.round.ensures.value i)) empty in
-          let last = field (decimal r.member) (decimal_is_plain r.member) w.put_number.ensures.written (ap decimal w.from.ensures) delay in
-          subst (λ o. HasFields (line_written c.match-last_of.line) (last_fields o)) told
-          (subst (λ l. HasFields (line_written l) (last_fields (Some r))) (sym w.line-is) last)
-    ] in
-    let repairs = field (decimal s.repairs) (decimal_is_plain s.repairs) c.put_number-2.ensures.written refl ends in
-    let requests = field (decimal s.requests) (decimal_is_plain s.requests) c.put_number-3.ensures.written refl repairs in
-    let asked = field _ (time_is_plain s.asked) c.put_time.ensures.written refl requests in
-    let detected = field _ (time_is_plain t.detected) c.put_time-2.ensures.written refl asked in
-    let left = field (decimal t.left) (decimal_is_plain t.left) c.put_number-4.ensures.written refl detected in
-    let recovered = field (decimal t.recovered) (decimal_is_plain t.recovered) c.put_number-5.ensures.written refl left in
-    let losers = field (decimal t.losers) (decimal_is_plain t.losers) c.put_number-6.ensures.written refl recovered in
-    let number = field (decimal n.number) (decimal_is_plain n.number) c.put_number-7.ensures.written (ap decimal c.from-2.ensures) losers in
-    let page = field (decimal n.page) (decimal_is_plain n.page) c.put_number-8.ensures.written (ap decimal c.from-3.ensures) number in
-    let source = field (decimal n.source) (decimal_is_plain n.source) c.put_number-9.ensures.written (ap decimal c.from-4.ensures) page in
-    line_is_row c.put_number-9.new.line source
+returns c text h =
+    let source = c.text.ensures ∙ c.number.ensures ∙ ap decimal c.from.ensures in
+    let page = c.text-2.ensures ∙ c.number-2.ensures ∙ ap decimal c.from-2.ensures in
+    let number = c.text-3.ensures ∙ c.number-3.ensures ∙ ap decimal c.from-3.ensures in
+    let losers = c.text-4.ensures ∙ c.number-4.ensures in
+    let recovered = c.text-5.ensures ∙ c.number-5.ensures in
+    let left = c.text-6.ensures ∙ c.number-6.ensures in
+    let detected = c.text-7.ensures ∙ c.or_dash.ensures in
+    let asked = c.text-8.ensures ∙ c.or_dash-2.ensures in
+    let requests = c.text-9.ensures ∙ c.number-7.ensures in
+    let repairs = c.text-10.ensures ∙ c.number-8.ensures in
+    let last = c.text-11.ensures ∙ c.member_of.ensures ∙ ap (or_dash (λ (r : Recovery). decimal r.member)) c.last_of-last.ensures in
+    let delay = c.text-12.ensures ∙ c.delay.ensures ∙ ap (or_dash (delay_of c.args.net.now c.args.name.source)) c.last_of-last.ensures in
+    subst (λ fields. OnOk c.put_record.result (HasText c.put_record.new.writer (text ++ row_text default_writer fields)))
+    (λ i. source i ∷ page i ∷ number i ∷ losers i ∷ recovered i ∷ left i ∷ detected i ∷ asked i ∷ requests i ∷ repairs i
+    ∷ last i ∷ delay i ∷ [])
+    (c.put_record.ensures text h)

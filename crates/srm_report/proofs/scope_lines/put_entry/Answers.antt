@@ -1,37 +1,26 @@
-use Rattle.std.proofs.Common.{[], ◌∷◌, codes, decimal, refl, ap, sym, subst}
-use Rattle.srm_net.specs.declared.packet.Local.{Local}
-use Rattle.srm_report.specs.Lines.{line_written}
-use Rattle.srm_report.specs.Rows.{or_dash}
-use Rattle.srm_report.proofs.LineLemmas.{HasFields, line_is_row, no_field, field, decimal_is_plain, name_is_plain, packet_is_plain}
-use Rattle.srm_report.proofs.LineLemmas.{cause_is_plain, local_is_plain}
-use Rattle.srm_report.proofs.scope_lines.put_entry.Goals.{in-None, in-Some}
+use Rattle.std.proofs.Common.{◌≡◌, ◌∙◌, ◌+◌, ◌-◌, ◌++◌, [], ◌∷◌, decimal, drop, ap, subst, sym, arith}
+use Rattle.std.proofs.lemmas.List.{drop-drop}
+use Rattle.std.specs.Result.{OnOk}
+use Rattle.csv.specs.Writing.{default_writer, row_text}
+use Rattle.srm_report.specs.Records.{HasText}
+use Rattle.srm_report.specs.Trace.{cause_word}
 use Rattle.srm_report.proofs.scope_lines.put_entry.Goals as goal
 
 pub returns : goal.returns
-returns c =
-    let e = c.args.entry.now in
-    let heard = field (decimal c.args.heard) (decimal_is_plain c.args.heard) c.put_number.ensures.written refl
-    (no_field c.requires.empty) in
-    let width = field _ (local_is_plain (λ l. l.width) e.local) refl refl heard in
-    let local = field _ (local_is_plain (λ l. l.requester) e.local) c.put_local.ensures.written refl width in
-    let rest = or_dash (λ (l : Local). decimal l.requester) e.local ∷ or_dash (λ (l : Local). decimal l.width) e.local
-    ∷ decimal c.args.heard ∷ [] in
-    let scope : HasFields (line_written c.match-entry.line) (or_dash decimal e.scope ∷ rest) =
-    elim c.match-entry.branch [
-      | in-None w ↦
-          subst (λ o. HasFields (line_written c.match-entry.line) (or_dash decimal o ∷ rest)) (sym w.in-None.is)
-          (subst (λ l. HasFields (line_written l) (codes "-" ∷ rest)) (sym w.line-is)
-          (field (codes "-") refl w.put_dash.ensures.written refl local))
-      | in-Some w ↦
-          subst (λ o. HasFields (line_written c.match-entry.line) (or_dash decimal o ∷ rest)) (sym w.in-Some.is)
-          (subst (λ l. HasFields (line_written l) (decimal w.in-Some.scope ∷ rest)) (sym w.line-is)
-          (field (decimal w.in-Some.scope) (decimal_is_plain w.in-Some.scope) w.put_number-in-Some.ensures.written
-          (ap decimal w.from.ensures) local))
-    ] in
-    let sent = field _ (packet_is_plain e.sent) c.put_packet.ensures.written refl scope in
-    let name = field _ (name_is_plain e.name) c.put_name.ensures.written refl sent in
-    let cause = field _ (cause_is_plain e.cause) c.put_cause.ensures.written refl name in
-    let member = field (decimal e.key.member) (decimal_is_plain e.key.member) c.put_number-2.ensures.written
-    (ap decimal c.from-2.ensures) cause in
-    let time = field (decimal e.key.time) (decimal_is_plain e.key.time) c.put_number-3.ensures.written refl member in
-    line_is_row c.put_number-3.new.line time
+returns c text h =
+    let (bytes, count) = c.tag_of_cause-count.result in
+    let some : 9 - count ≡ 8 - count + 1 = omega arith in
+    let word : c.word_of_tag.result.now ≡ cause_word c.args.entry.now.cause =
+    c.word_of_tag.ensures ∙ ap (λ n. drop n bytes) some ∙ sym (drop-drop 1 (8 - count) bytes)
+    ∙ ap (drop 1) c.tag_of_cause-count.ensures.word in
+    let time = c.text.ensures ∙ c.number.ensures in
+    let member = c.text-2.ensures ∙ c.number-2.ensures ∙ ap decimal c.from.ensures in
+    let name = c.text-3.ensures ∙ c.name.ensures in
+    let sent = c.text-4.ensures ∙ c.packet.ensures in
+    let scope = c.text-5.ensures ∙ c.hops.ensures in
+    let requester = c.text-6.ensures ∙ c.fields_of_local-requester.ensures.requester in
+    let width = c.text-7.ensures ∙ c.fields_of_local-requester.ensures.width in
+    let heard = c.text-8.ensures ∙ c.number-3.ensures in
+    subst (λ fields. OnOk c.put_record.result (HasText c.put_record.new.writer (text ++ row_text default_writer fields)))
+    (λ i. time i ∷ member i ∷ word i ∷ name i ∷ sent i ∷ scope i ∷ requester i ∷ width i ∷ heard i ∷ [])
+    (c.put_record.ensures text h)

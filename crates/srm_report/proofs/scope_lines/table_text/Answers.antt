@@ -1,26 +1,43 @@
-use Rattle.std.proofs.Common.{◌∙◌, ◌<◌, length, map, ap}
+use Rattle.std.proofs.Common.{◌≡◌, ◌∙◌, ◌+◌, ◌<◌, ◌++◌, ℕ, List, length, get_or, map, take, ap, subst}
 use Rattle.std.proofs.lemmas.List.{take_all}
-use Rattle.csv.specs.Writing.{fields_text, is_blank}
+use Rattle.std.specs.Result.{IfOk}
+use Rattle.csv.specs.Writing.{default_writer, fields_text, is_blank, row_text}
+use Rattle.srm_net.specs.declared.packet.PacketId.{PacketId}
+use Rattle.std.specs.Global.{Vec}
+use Rattle.csv.specs.declared.writer.Writer.{Writer}
 use Rattle.srm_report.specs.declared.scope_entry.ScopeEntry.{ScopeEntry}
 use Rattle.srm_report.specs.KeptScopes.{count_in}
+use Rattle.srm_report.specs.Records.{HasText}
 use Rattle.srm_report.specs.Scopes.{scope_columns, scope_fields}
 use Rattle.srm_report.specs.Tables.{table_lines}
-use Rattle.srm_report.proofs.ScopeLemmas.{entry_more}
-use Rattle.srm_report.proofs.TableLemmas.{table_first}
+use Rattle.srm_report.proofs.TableLemmas.{mapped_more, table_first}
 use Rattle.srm_report.proofs.scope_lines.table_text.Goals as goal
 
 pub loop-entry-init : goal.loop-entry-init
 unfolding fields_text is_blank
-loop-entry-init c = table_first scope_columns _ c.in_ok-text.ensures.items
+loop-entry-init c = subst (HasText _) (c.in_ok-from_slice.ensures.items ∙ table_first scope_columns) c.writer_behind-writer.ensures
+
+-- the fields of each of these entries
+abbrev all_fields : List (PacketId × ℕ) → List ScopeEntry → List (List (List ℕ))
+all_fields heard es = map (λ e. scope_fields e (count_in heard e.sent)) es
+
+-- the record of one entry more
+entry_more : (r : Writer (Vec ℕ)) (es : List ScopeEntry) (heard : List (PacketId × ℕ)) (i : ℕ) (d : ScopeEntry) (n : ℕ) → i < length es
+    → HasText r (table_lines scope_columns (all_fields heard (take i es)) ++ row_text default_writer (scope_fields (get_or es i d) n))
+    → n ≡ count_in heard (get_or es i d).sent → HasText r (table_lines scope_columns (all_fields heard (take (i + 1) es)))
+entry_more r es heard i d n lt put counted =
+    subst (HasText r)
+    (ap (λ k. table_lines scope_columns (all_fields heard (take i es)) ++ row_text default_writer (scope_fields (get_or es i d) k)) counted
+    ∙ mapped_more scope_columns (λ e. scope_fields e (count_in heard e.sent)) es i d lt) put
 
 pub loop-entry-preserved : goal.loop-entry-preserved
 loop-entry-preserved c =
-    let lt : c.loop-entry.entry-index < length c.args.entries.now = c.loop-entry-test.true in
-    entry_more c.args.entries.now c.args.heard.now c.loop-entry.entry-index _ _ _ _ _ lt c.loop-entry.invariant
-    (c.text.ensures ∙ c.put_entry.ensures) c.of.ensures c.in_ok-extend_from_slice.ensures.items
+    entry_more _ c.args.entries.now c.args.heard.now c.loop-entry.entry-index _ _ c.loop-entry-test.true
+    (c.in_ok-put_entry.ensures _ c.loop-entry.invariant) c.of.ensures
 
 pub returns : goal.returns
 returns c =
-    let fields = λ (e : ScopeEntry). scope_fields e (count_in c.args.heard.now e.sent) in
-    c.loop-entry.invariant
-    ∙ ap (λ l. table_lines scope_columns (map fields l)) (take_all c.loop-entry.entry-index c.args.entries.now c.loop-entry-test.false)
+    subst (λ (l : List ℕ). IfOk c.text_of.result (λ text. text.items ≡ l))
+    (ap (λ l. table_lines scope_columns (all_fields c.args.heard.now l))
+    (take_all c.loop-entry.entry-index c.args.entries.now c.loop-entry-test.false))
+    (c.text_of.ensures _ c.loop-entry.invariant)
