@@ -39,6 +39,10 @@ impl<V: Copy> Named<V> {
     pub fn get(&self, name: Name) -> Option<V>
         ensures { result ≡ find name_cmp name self.now }
     {
+        // an emptied map still has a node, elsewhere in memory
+        if self.map.is_empty() {
+            return None;
+        }
         self.map.get(&name).copied()
     }
 
@@ -59,7 +63,7 @@ impl<V: Copy> Named<V> {
         ensures value { result ≡ find name_cmp name self.old }
         ensures rest { self.new ≡ without name self.old }
     {
-        // an emptied map still has a node, elsewhere in memory
+        // as in `get`
         if self.map.is_empty() {
             return None;
         }
