@@ -67,11 +67,32 @@ module _ {K V : Type 0} (cmp : K → K → Ordering) (total : IsTotalOrder cmp) 
       not_before true h g = let x : true ≡ false = sym (h refl) ∙ g in cc
       not_before false h g = refl
 
-  -- where the first entry is the key's, that is its place
-  pub place_first : (k : K) (es : List (K × V)) → T (is_sorted cmp es) → is_at cmp k es 0 ≡ true → IsPlaceOf cmp k es 0
-  place_first k [] s h = cc
-  place_first k (e ∷ es) s h = place_between k (e ∷ es) 0 s (omega arith) (λ some. absurd (omega arith))
-      (λ some. (e, ap is_lt (total.antisymm e.0 k ∙ ap ordering_reverse (is_Equal _ h))))
+  rises : (es : List (K × V)) (i j : ℕ) (d : K × V) → T (is_sorted cmp es) → i < j → j < length es
+      → cmp (slice_index_or es i d).0 (slice_index_or es j d).0 ≡ Less
+  rises [] i j d s lt le = absurd (omega arith)
+  rises (e ∷ es) i zero d s lt le = absurd (omega arith)
+  rises (e ∷ es) zero (suc j) d s lt le = below_at e.0 es j d (T_first _ _ s) (omega arith)
+  rises (e ∷ es) (suc i) (suc j) d s lt le = rises es i j d (T_second _ _ s) (omega arith) (omega arith)
+
+  stands_at : (k : K) (es : List (K × V)) (p : ℕ) (d : K × V) → is_at cmp k es p ≡ true
+      → (p < length es) × (cmp k (slice_index_or es p d).0 ≡ Equal)
+  stands_at k [] p d h = cc
+  stands_at k (e ∷ es) zero d h = (omega arith, is_Equal _ h)
+  stands_at k (e ∷ es) (suc p) d h = let a = stands_at k es p d h in ((let lt = a.0 in omega arith), a.1)
+
+  -- where the entry at a place is the key's, that is the key's place
+  pub place_there : (k : K) (es : List (K × V)) (p : ℕ) → T (is_sorted cmp es) → is_at cmp k es p ≡ true → IsPlaceOf cmp k es p
+  place_there k [] p s h = cc
+  place_there k (e ∷ es) p s h =
+      let a = stands_at k (e ∷ es) p e h in
+      let lt = a.0 in
+      place_between k (e ∷ es) p s (omega arith)
+      (λ some. (
+        e,
+        ap is_lt (subst (λ x. cmp (slice_index_or (e ∷ es) (p - 1) e).0 x ≡ Less) (sym (tied k _ a.1))
+            (rises (e ∷ es) (p - 1) p e s (omega arith) lt)),
+      ))
+      (λ some. (e, ap is_lt (total.antisymm (slice_index_or (e ∷ es) p e).0 k ∙ ap ordering_reverse a.1)))
 
   -- a key's place, entry by entry
   Stands : K → List (K × V) → ℕ → Type 0

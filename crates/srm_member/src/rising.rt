@@ -16,6 +16,8 @@ use std::marker::Model;
 #[derive(Debug, Drop)]
 pub struct Rising<V> {
     entries: Vec<(Name, V)>,
+    // where the name stood that was given another value last: mostly the next one is the same
+    last: usize,
 }
 
 impl<V> Model for Rising<V> {
@@ -37,6 +39,7 @@ impl<V: Copy> Rising<V> {
     {
         Rising {
             entries: Vec::new(alloc),
+            last: 0,
         }
     }
 
@@ -71,6 +74,9 @@ impl<V: Copy> Rising<V> {
     fn place(&self, name: Name) -> usize
         ensures { IsPlaceOf name_cmp name self.now result }
     {
+        if self.is_at(self.last, name) {
+            return self.last;
+        }
         if self.is_behind(name) {
             return self.entries.len();
         }
@@ -146,6 +152,7 @@ impl<V: Copy> Rising<V> {
         if self.is_at(place, name) {
             let before = self.entries[place].1;
             self.entries[place] = (name, value);
+            self.last = place;
             return Ok(Some(before));
         }
         self.entries.insert(place, (name, value))?;

@@ -2,7 +2,7 @@ use Rattle.std.proofs.Common.{◌∙◌, sym, ap, subst, Some, T, slice_index_or
 use Rattle.std.specs.FinMap.Entries.{is_sorted}
 use Rattle.srm_net.specs.Names.{page_cmp}
 use Rattle.srm_net.proofs.TotalOrders.{page_total, tied_pages}
-use Rattle.srm_member.proofs.PlaceLemmas.{found_there, place_first}
+use Rattle.srm_member.proofs.PlaceLemmas.{found_there, place_there}
 use Rattle.srm_member.proofs.TableChanges.{put_found}
 use Rattle.srm_member.proofs.pages.Pages.get.Goals as goal
 
@@ -14,7 +14,7 @@ returns-then-is_at-clause-value c =
     let here = sym c.is_at.ensures ∙ c.if-is_at.true in
     ap (λ xs. Some (slice_index_or xs 0 entry).1) (c.deref.ensures ∙ c.self.view_is)
     ∙ sym (found_there page_cmp page_total tied_pages c.args.page es 0 entry
-    (place_first page_cmp page_total tied_pages c.args.page es sorted here) here)
+    (place_there page_cmp page_total tied_pages c.args.page es 0 sorted here) here)
 
 pub returns-then-is_at-clause-kept : goal.returns-then-is_at-clause-kept
 returns-then-is_at-clause-kept c =

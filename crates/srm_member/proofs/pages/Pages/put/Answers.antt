@@ -6,7 +6,7 @@ use Rattle.srm_net.specs.declared.packet.PageId.{PageId}
 use Rattle.srm_net.specs.Names.{page_cmp}
 use Rattle.srm_net.proofs.TotalOrders.{page_total, tied_pages}
 use Rattle.srm_member.specs.Record.{Progress}
-use Rattle.srm_member.proofs.PlaceLemmas.{put_over, place_first}
+use Rattle.srm_member.proofs.PlaceLemmas.{put_over, place_there}
 use Rattle.srm_member.proofs.pages.Pages.put.Goals as goal
 
 pub returns-then-is_at-clause-ok : goal.returns-then-is_at-clause-ok
@@ -19,7 +19,7 @@ returns-then-is_at-clause-ok c =
     items-with_items c.self.inside.entries (slice_set now 0 entry) (length-set now 0 entry ∙ ap length c.deref_mut.ensures.value)
     ∙ ap (λ xs. slice_set xs 0 entry) (c.deref_mut.ensures.value ∙ c.self.view_is)
     ∙ sym (put_over page_cmp page_total tied_pages c.args.page c.args.progress es 0
-    (place_first page_cmp page_total tied_pages c.args.page es sorted here) here)
+    (place_there page_cmp page_total tied_pages c.args.page es 0 sorted here) here)
 
 pub invariant_of-self : goal.invariant_of-self
 invariant_of-self c =
