@@ -104,11 +104,12 @@ impl MemberState {
     }
 
     // The distance to a member that timers and rests go by, in ticks.
-    fn distance_to(&self, who: u16) -> u64
-        ensures value { result ≡ distance_to self.now who }
+    fn distance_to(&mut self, who: u16) -> u64
+        ensures value { result ≡ distance_to self.old who }
         ensures bound { result ≤ greatest_distance }
+        ensures same { self.new ≡ self.old }
     {
-        self.fixed.dist.get(who).unwrap_or(0)
+        self.fixed.dist.to(who)
     }
 
     // The length of a new timer, in ticks, which takes one word of the generator.
@@ -363,9 +364,10 @@ impl MemberState {
 
     // The distance on which a name's rest is based, in ticks: that to its source; at the source itself that to whoever set the
     // pending repair timer, or without one to the member that sent the repair.
-    pub(crate) fn base(&self, name: Name, who: u16) -> u64
-        ensures value { result ≡ base self.now name who }
+    pub(crate) fn base(&mut self, name: Name, who: u16) -> u64
+        ensures value { result ≡ base self.old name who }
         ensures bound { result ≤ greatest_distance }
+        ensures same { self.new ≡ self.old }
     {
         if name.source != self.fixed.member {
             return self.distance_to(name.source);
