@@ -48,12 +48,12 @@ pub fn advance<M: Participant>(
     })
 }
 
-/// The cells' own runs, one after the other: each handles its own events before tick `till`, in key order, and none of another cell.
-/// A list of rows for each cell.
+/// The cells' own runs, one after the other: each handles its own events before tick `till`, in key order, and none of another
+/// cell. A list of rows for each cell.
 ///
 /// # Errors
-/// `Spent` or `CountFull`, that of the first cell whose own run is refused; or `NoMemory`, but not where there is no cell, or where
-/// the first has an event and no member to answer it. Nothing is known of the cells then, and they are of no more use.
+/// `Spent` or `CountFull`, that of the first cell whose own run is refused; or `NoMemory`, but not where there is no cell, or
+/// where the first has an event and no member to answer it. Nothing is known of the cells then, and they are of no more use.
 pub fn run_each<M: Participant>(
     alloc: Global,
     till: u64,

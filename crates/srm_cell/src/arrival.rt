@@ -9,8 +9,8 @@ use srm_net::packet::Packet;
 use srm_net::spread::Spread;
 use srm_scenario::scenario::Scenario;
 
-/// When a member is handed a packet, in ticks, if it is: another member than the sender, that the packet reaches, and that is present
-/// on arrival, before the run ends. The spread is that of the packet.
+/// When a member is handed a packet, in ticks, if it is: another member than the sender, that the packet reaches, and that is
+/// present on arrival, before the run ends. The spread is that of the packet.
 #[inline(always)]
 pub fn arrival(
     scenario: &Scenario,

@@ -147,8 +147,8 @@ impl<M: Participant> Cell<M> {
         }
     }
 
-    /// As [`Cell::step`], where the row is put behind others: a row is large, and is made where it is to stand. Tells whether there was
-    /// an event.
+    /// As [`Cell::step`], where the row is put behind others: a row is large, and is made where it is to stand. Tells whether
+    /// there was an event.
     ///
     /// # Errors
     /// As of [`Cell::step`]. Nothing is known of the rows then.
@@ -177,7 +177,8 @@ impl<M: Participant> Cell<M> {
         }
     }
 
-    /// The cell's own events before tick `till`, one after the other, and a row for each. Where there is none it does not allocate.
+    /// The cell's own events before tick `till`, one after the other, and a row for each. Where there is none it does not
+    /// allocate.
     ///
     /// # Errors
     /// That of the first [`Cell::step`] that is refused: `Spent`, `CountFull`, or `NoMemory`, only where there is a first event

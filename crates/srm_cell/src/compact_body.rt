@@ -9,8 +9,8 @@ use std::alloc::{AllocError, Global};
 
 /// What a packet carries, in 16 bytes instead of 32, and the member that sent it.
 ///
-/// The sender stands first in each variant, in room that the alignment of what follows leaves. The list of a session message is in
-/// a box, and so is a repair with a scope.
+/// The sender stands first in each variant, in room that the alignment of what follows leaves. The list of a session message is
+/// in a box, and so is a repair with a scope.
 #[derive(Drop)]
 pub(crate) enum CompactBody {
     /// A drawing operation, from its source.

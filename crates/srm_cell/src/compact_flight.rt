@@ -37,7 +37,8 @@ impl Model for CompactFlight {
 }
 
 impl CompactFlight {
-    /// Whether the flight of a packet is a short one: it takes below 2^32 ticks, and its packet is one of the first 2^32 of its sender.
+    /// Whether the flight of a packet is a short one: it takes below 2^32 ticks, and its packet is one of the first 2^32 of its
+    /// sender.
     pub(crate) fn is_short(packet: &Packet, arrival: u64) -> bool
         ensures { IsTrue result ↔ IsShort packet.now arrival }
     {

@@ -19,8 +19,8 @@ const MOST_MOVED: usize = 8;
 
 /// The packets on their way to one member, by arrival, sender and count. Contracts see them as a list of flights.
 ///
-/// Packets are mostly accepted in this order or nearly so, and then stand in a line, if they have short flights. The others are kept
-/// in an ordered map.
+/// Packets are mostly accepted in this order or nearly so, and then stand in a line, if they have short flights. The others are
+/// kept in an ordered map.
 #[derive(Drop)]
 pub struct Inbox {
     line: VecDeque<CompactFlight>,

@@ -11,7 +11,8 @@ pub fn settings_are_fit()
     ensures { SettingsAreFit }
 {}
 
-/// The setting of a text's scenario is fit with every seed, so that the laws of fit settings hold of each text that is not refused.
+/// The setting of a text's scenario is fit with every seed, so that the laws of fit settings hold of each text that is not
+/// refused.
 pub fn settings_of_texts_are_fit()
     ensures { SettingsOfTextsAreFit }
 {}

@@ -16,8 +16,8 @@ use std::alloc::{AllocError, Global};
 
 /// The crossings and drops of packets in one network: five numbers for each link, as [`Totals`] has them.
 ///
-/// All packets that go everywhere cross the same links, whoever sends them. So these are counted once, by their kinds, and are put to
-/// the numbers of the links only at the end; the packets that were stopped somewhere are counted link by link.
+/// All packets that go everywhere cross the same links, whoever sends them. So these are counted once, by their kinds, and are
+/// put to the numbers of the links only at the end; the packets that were stopped somewhere are counted link by link.
 #[derive(Debug, Drop)]
 pub struct Tally {
     /// The packets that went everywhere.
@@ -40,8 +40,8 @@ impl Tally {
         })
     }
 
-    /// Counts a packet, of which this is the spread: once, where it goes everywhere, and else at each link that it crosses, and at each
-    /// that drops it. It does not allocate.
+    /// Counts a packet, of which this is the spread: once, where it goes everywhere, and else at each link that it crosses, and
+    /// at each that drops it. It does not allocate.
     pub fn count(&mut self, net: &Net, spread: &Spread, packet: &Packet)
         requires sender { packet.now.id.sender < length net.now.hosts }
         requires room { (s : PlainScenario) × (ps : List Packet) × IsSpreadOf net.now s.drops packet.now spread.now

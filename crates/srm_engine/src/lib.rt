@@ -1,15 +1,16 @@
 //! Engines: the sequential run of all members, and the run in windows of time.
 //!
 //! In reading order: `Start`; `step_run`, `step_stream` and `step_rows`, one event after the other; `Windows`, and `window_run`,
-//! `window_stream`, `window_kept` and `window_watch`, which come to the same; `ByRows`, a crew as one of watched jobs; `RunFault` and
-//! `StreamFault`. Inside, `Engine` takes steps, and `WatchEngine` windows of `Groups`, with what is kept of each member beside them.
+//! `window_stream`, `window_kept` and `window_watch`, which come to the same; `ByRows`, a crew as one of watched jobs; `RunFault`
+//! and `StreamFault`. Inside, `Engine` takes steps, and `WatchEngine` windows of `Groups`, with what is kept of each member
+//! beside them.
 //!
-//! In their clauses `InRuns` and `InRunsOf` say what holds with each seed whose opening records the members hold. `IsOutcome` are rows,
-//! exits and totals of the whole sequential run, and `IsLast` its last world. `TakesUpTo` and `TakesTraceFront` tell what a sink took, and
-//! `TellsKept` what is kept of each member. `MayCome`: windows come to a world, and the next may be refused so.
+//! In their clauses `InRuns` and `InRunsOf` say what holds with each seed whose opening records the members hold. `IsOutcome` are
+//! rows, exits and totals of the whole sequential run, and `IsLast` its last world. `TakesUpTo` and `TakesTraceFront` tell what a
+//! sink took, and `TellsKept` what is kept of each member. `MayCome`: windows come to a world, and the next may be refused so.
 //!
-//! Proved: both engines give the sequential run, and are refused only where that is told. Tested, in `srm_engine_and_report_tests`: that
-//! they answer where there is memory, and that each member is dropped once.
+//! Proved: both engines give the sequential run, and are refused only where that is told. Tested, in
+//! `srm_engine_and_report_tests`: that they answer where there is memory, and that each member is dropped once.
 #![tactic(auto)]
 
 pub mod by_rows;
