@@ -1,8 +1,8 @@
 -- A cell's next event after it hears a packet: the packet's arrival, or what was next.
 use Rattle.std.proofs.Common.{arith}
-use Rattle.std.proofs.Common.{◌≡◌, ◌≢◌, ℕ, Bool, cond, List, [], ◌∷◌, Option, Some, None, option_map, refl, sym, ap, ◌∙◌, subst, Ordering}
-use Rattle.std.proofs.Common.{Less, Equal, Greater, is_lt}
-use Rattle.std.specs.Ordering.{is_gt, min_by_ordering, ordering_reverse}
+use Rattle.std.proofs.Common.{◌≡◌, ◌≢◌, ◌<◌, ◌≤◌, ℕ, Bool, cond, List, [], ◌∷◌, Option, Some, None, option_map, refl, sym, ap, ◌∙◌}
+use Rattle.std.proofs.Common.{subst, Ordering, Less, Equal, Greater, is_lt}
+use Rattle.std.specs.Ordering.{min_by_ordering, ordering_reverse}
 use Rattle.srm_net.specs.declared.key.Key.{Key}
 use Rattle.srm_net.specs.declared.packet.Packet.{Packet}
 use Rattle.srm_net.specs.Keys.{key_cmp}
@@ -14,12 +14,13 @@ use Rattle.srm_member.specs.declared.due.Due.{Due}
 use Rattle.srm_member.proofs.OrderLemmas.{from_refl, from_trans, from_not_greater, not_greater}
 use Rattle.srm_cell.specs.declared.flight.Flight.{Flight}
 use Rattle.srm_cell.specs.declared.pending.Source.{Source}
-use Rattle.srm_cell.specs.declared.pending.Source.TheVariants.{Inbox}
-use Rattle.srm_cell.specs.declared.pending.Pending.{Pending}
+use Rattle.srm_cell.specs.declared.pending.Source.TheVariants.{Inbox, Nowhere}
+use Rattle.srm_cell.specs.declared.pending.Next.{Next}
 use Rattle.srm_cell.specs.Flights.{flight_cmp}
 use Rattle.srm_cell.specs.Cells.{PlainCell, Event, arrival_key, earlier, first_arrival, first_mark, next_timer, next_event, hear_at}
-use Rattle.srm_cell.specs.Pending.{Stands, arriving, first_of, sooner_pending}
-use Rattle.srm_cell.proofs.CellLemmas.{earlier-map, event_map}
+use Rattle.srm_cell.specs.Pending.{IsNext, Stands, arriving, first_of, never}
+use Rattle.srm_cell.proofs.CellLemmas.{earlier-map, event_map, first_le, second_le}
+use Rattle.srm_cell.proofs.Nexts.{keyed_next}
 use Rattle.srm_cell.proofs.Tidy.{Least, flight_keys, least_earlier}
 use Rattle.srm_cell.specs.Cells.{due_in}
 
@@ -168,21 +169,37 @@ module _ (m : ℕ) (p : Packet) (at : ℕ) where
     is_first c (λ a q. lesser_once (arrival_key m flight) e.key a.key b (none_before c e a h q)),
   )
 
-  stands_some : (c : PlainCell) (q : Pending) (r : Ordering) → key_cmp (arrival_key m flight) q.key ≡ r
-      → Stands m c (Some q) (next_event m c)
-      → Stands m (heard c) (cond (is_gt r) (Some q) (Some (arriving m at p.id))) (next_event m (heard c))
-  stands_some c q Less k h = stands_first c h.0 h.1 (less_not _ (ap (key_cmp (arrival_key m flight)) (sym h.2) ∙ k))
-  stands_some c q Equal k h = stands_first c h.0 h.1 (equal_not _ (ap (key_cmp (arrival_key m flight)) (sym h.2) ∙ k))
-  stands_some c q Greater k h =
-      let after : key_cmp (arrival_key m flight) h.0.key ≡ Greater = ap (key_cmp (arrival_key m flight)) (sym h.2) ∙ k in (
-        event_map heard h.0,
-        next_with c (Some h.0) h.1 ∙ ap Some (second_kept _ (coming flight c) (event_map heard h.0) after),
-        h.2,
-        source_alike c q.source h.0 h.3 after,
-      )
+  at_one_tick : (c : PlainCell) (n : Next) (e : Event) → key_cmp (arrival_key m flight) e.key ≢ Greater
+      → next_event m c ≡ Some e → IsNext m c n (Some e) → n.time ≤ at → (at ≡ n.time → n.source ≡ Inbox)
+      → IsNext m (heard c) n (next_event m (heard c))
+  at_one_tick c n e ng q h le b =
+      let sooner = first_le (arrival_key m flight) e.key ng in
+      let is = h.0 in
+      let time : at ≡ n.time = omega arith in
+      subst (λ (n : Next). IsNext m (heard c) n (next_event m (heard c)))
+      (λ i. record { time = time i; source = sym (b time) i })
+      (keyed_next m (heard c) (Some (arriving m at p.id)) _ (stands_first c e q ng))
 
-  -- the sooner of the packet and what was next stands for what is next now
-  pub stands_heard : (c : PlainCell) (o : Option Pending) → Stands m c o (next_event m c)
-      → Stands m (heard c) (sooner_pending (Some (arriving m at p.id)) o) (next_event m (heard c))
-  stands_heard c None h = stands_none c h
-  stands_heard c (Some q) h = stands_some c q _ refl h
+  -- the packet's arrival is next where it is sooner than what was next
+  pub next_sooner : (c : PlainCell) (n : Next) (o : Option Event) → next_event m c ≡ o → IsNext m c n o → at < n.time
+      → IsNext m (heard c) (record { time = at; source = Inbox }) (next_event m (heard c))
+  next_sooner c n None q h lt = keyed_next m (heard c) (Some (arriving m at p.id)) _ (stands_none c q)
+  next_sooner c n (Some e) q h lt = keyed_next m (heard c) (Some (arriving m at p.id)) _
+      (stands_first c e q (λ g. let le = second_le (arrival_key m flight) e.key g in let is = h.0 in omega arith))
+
+  -- and what was next is so where it is sooner, or an arrival no later
+  next_kept : (c : PlainCell) (n : Next) (e : Event) (r : Ordering) → key_cmp (arrival_key m flight) e.key ≡ r
+      → next_event m c ≡ Some e → IsNext m c n (Some e) → n.time ≤ at → (at ≡ n.time → n.source ≡ Inbox)
+      → IsNext m (heard c) n (next_event m (heard c))
+  next_kept c n e Greater k q h le b = subst (IsNext m (heard c) n)
+      (sym (next_with c (Some e) q ∙ ap Some (second_kept _ (coming flight c) (event_map heard e) k)))
+      (h.0, source_alike c n.source e h.1 k)
+  next_kept c n e Less k q h le b = at_one_tick c n e (less_not _ k) q h le b
+  next_kept c n e Equal k q h le b = at_one_tick c n e (equal_not _ k) q h le b
+
+  pub next_later : (c : PlainCell) (n : Next) (o : Option Event) → next_event m c ≡ o → IsNext m c n o → n.time ≤ at
+      → (at ≡ n.time → n.source ≡ Inbox) → at ≤ never → IsNext m (heard c) n (next_event m (heard c))
+  next_later c n None q h le b most =
+      let time = ap (λ (n : Next). n.time) h in
+      let x : Inbox ≡ Nowhere = sym (b (omega arith)) ∙ ap (λ (n : Next). n.source) h in cc
+  next_later c n (Some e) q h le b most = next_kept c n e _ refl q h le b

@@ -1,8 +1,8 @@
 -- Where a cell has its next event.
 use Rattle.std.proofs.Common.{arith}
 use Rattle.std.proofs.Common.{◌≡◌, ◌<◌, ◌≤◌, cond, ℕ, List, [], ◌∷◌, Option, Some, None, option_map}
-use Rattle.std.proofs.Common.{slice_get, refl, sym, ap, subst, le-ltb, Ordering}
-use Rattle.std.specs.Ordering.{is_gt}
+use Rattle.std.proofs.Common.{slice_get, refl, sym, ap, ◌∙◌, subst, le-ltb, lt-ltb, Ordering, Less, Equal, Greater}
+use Rattle.std.specs.Ordering.{is_gt, min_by_ordering}
 use Rattle.srm_net.specs.Keys.{key_cmp}
 use Rattle.srm_net.specs.declared.key.Key.{Key}
 use Rattle.srm_net.specs.declared.packet.PacketId.{PacketId}
@@ -11,9 +11,12 @@ use Rattle.srm_scenario.specs.declared.mark.Mark.{Mark}
 use Rattle.srm_member.specs.declared.due.Due.{Due}
 use Rattle.srm_cell.specs.declared.flight.Flight.{Flight}
 use Rattle.srm_cell.specs.Cells.{PlainCell, Event, first_arrival, first_mark, next_timer, next_event, earlier, before}
-use Rattle.srm_cell.specs.Cells.{step_at, own_step, handle, time_of, Idle}
+use Rattle.srm_cell.specs.Cells.{step_at, own_step, handle, Idle}
+use Rattle.srm_cell.specs.declared.pending.Next.{Next}
 use Rattle.srm_cell.specs.declared.pending.Pending.{Pending}
-use Rattle.srm_cell.specs.Pending.{Stands, sooner_pending}
+use Rattle.srm_cell.specs.declared.pending.Source.{Source}
+use Rattle.srm_cell.specs.declared.pending.Source.TheVariants.{Inbox, Script, Timer}
+use Rattle.srm_cell.specs.Pending.{IsNext, Stands, first_of, never, next_of, no_next, sooner_pending, tick_of}
 
 -- an event with this key, which is what is pending
 abbrev pub Known : Key → Option Event → Option Event → Type 0
@@ -53,26 +56,90 @@ pub sooner_stands : (m : ℕ) (c : PlainCell) (d e : Option Pending) (x y : Opti
     → Stands m c (sooner_pending d e) (earlier x y)
 sooner_stands m c d e x y h g = grind (arith, sooner_by)
 
+-- what is pending with the least key tells when and where the next event is
+pub keyed_next : (m : ℕ) (c : PlainCell) (d : Option Pending) (o : Option Event) → Stands m c d o → IsNext m c (next_of d) o
+keyed_next m c None o h = subst (IsNext m c no_next) (sym h) refl
+keyed_next m c (Some p) o h =
+    subst (IsNext m c (record { time = p.key.time; source = p.source })) (sym h.1) (ap (λ (k : Key). k.time) h.2, h.3)
+
+-- ---- one that is sooner than both others has the least key
+
+sooner_key : (k l : Key) → k.time < l.time → key_cmp k l ≡ Less
+sooner_key k l h = grind arith
+
+later_key : (k l : Key) → l.time < k.time → key_cmp k l ≡ Greater
+later_key k l h = grind arith
+
+first_sooner : (x y : Option Event) → tick_of x < tick_of y → tick_of y ≤ never → earlier x y ≡ x
+first_sooner None y lt le = absurd (omega arith)
+first_sooner (Some d) None lt le = refl
+first_sooner (Some d) (Some e) lt le = ap (λ r. Some (min_by_ordering r d e)) (sooner_key d.key e.key lt)
+
+second_sooner : (x y : Option Event) → tick_of y < tick_of x → tick_of x ≤ never → earlier x y ≡ y
+second_sooner None y lt le = refl
+second_sooner (Some d) None lt le = absurd (omega arith)
+second_sooner (Some d) (Some e) lt le = ap (λ r. Some (min_by_ordering r d e)) (later_key d.key e.key lt)
+
+-- the earlier of two is one of them
+one_of_two : (P : Option Event → Type 0) (x y : Option Event) → P x → P y → P (earlier x y)
+one_of_two P None y a b = b
+one_of_two P (Some d) None a b = a
+one_of_two P (Some d) (Some e) a b = elim (key_cmp d.key e.key) as (λ r. P (Some (min_by_ordering r d e))) [
+  | Less ↦ a
+  | Equal ↦ a
+  | Greater ↦ b
+]
+
+module _ (m : ℕ) (c : PlainCell) where
+  abbrev first : Source → Option Event
+  first s = first_of s m c
+
+  soonest : (s : Source) (t : ℕ) → next_event m c ≡ first s → tick_of (first s) < t → t ≤ never
+      → IsNext m c (record { time = tick_of (first s); source = s }) (next_event m c)
+  soonest s t is lt le = subst (IsNext m c (record { time = tick_of (first s); source = s })) (sym is) (by (first s) refl lt)
+    where
+      by : (x : Option Event) → first s ≡ x → tick_of x < t → IsNext m c (record { time = tick_of x; source = s }) x
+      by None h lt = absurd (omega arith)
+      by (Some e) h lt = (refl, h)
+
+  pub arrival_next : tick_of (first Inbox) < tick_of (first Script) → tick_of (first Inbox) < tick_of (first Timer)
+      → tick_of (first Script) ≤ never → tick_of (first Timer) ≤ never
+      → IsNext m c (record { time = tick_of (first Inbox); source = Inbox }) (next_event m c)
+  unfolding next_event
+  arrival_next lk lt nk nt = soonest Inbox _ (first_sooner (first Inbox) (earlier (first Script) (first Timer))
+      (one_of_two (λ o. tick_of (first Inbox) < tick_of o) (first Script) (first Timer) lk lt)
+      (one_of_two (λ o. tick_of o ≤ never) (first Script) (first Timer) nk nt)) lk nk
+
+  pub mark_next : tick_of (first Script) < tick_of (first Inbox) → tick_of (first Script) < tick_of (first Timer)
+      → tick_of (first Inbox) ≤ never → tick_of (first Timer) ≤ never
+      → IsNext m c (record { time = tick_of (first Script); source = Script }) (next_event m c)
+  unfolding next_event
+  mark_next la lt na nt = soonest Script _ (ap (earlier (first Inbox)) (first_sooner (first Script) (first Timer) lt nt)
+      ∙ second_sooner (first Inbox) (first Script) la na) la na
+
+  pub timer_next : tick_of (first Timer) < tick_of (first Inbox) → tick_of (first Timer) < tick_of (first Script)
+      → tick_of (first Inbox) ≤ never → tick_of (first Script) ≤ never
+      → IsNext m c (record { time = tick_of (first Timer); source = Timer }) (next_event m c)
+  unfolding next_event
+  timer_next la lk na nk = soonest Timer _ (ap (earlier (first Inbox)) (second_sooner (first Script) (first Timer) lk nk)
+      ∙ second_sooner (first Inbox) (first Timer) la na) la na
+
 -- ---- the own step
 
--- where nothing is due before the end
-pub none_due : (till : ℕ) (o : Option Event) → ((u : ℕ) → time_of o ≡ Some u → till ≤ u) → before till o ≡ None
-none_due till None h = refl
-none_due till (Some e) h = ap (λ b. cond b (Some e) None) (le-ltb e.key.time till (h e.key.time refl))
-
 module _ (till m : ℕ) (p : PlainCell) where
-  pub idle_step : before till (next_event m p) ≡ None → own_step till m p ≡ Idle
+  -- where the next event is not before the end there is none
+  pub none_before : (n : Next) (o : Option Event) → next_event m p ≡ o → IsNext m p n o → till ≤ n.time → own_step till m p ≡ Idle
   unfolding own_step
-  idle_step h = ap step_at h
+  none_before n None q h le = ap (λ o. step_at (before till o)) q
+  none_before n (Some e) q h le =
+      ap (λ o. step_at (before till o)) q ∙ ap (λ b. step_at (cond b (Some e) None)) (le-ltb e.key.time till (omega (arith, h.0)))
 
-  pub none_pending : Stands m p None (next_event m p) → own_step till m p ≡ Idle
-  none_pending h = idle_step (ap (before till) h)
+  -- and where it is before the end there is one
+  pub some_before : (n : Next) (o : Option Event) → IsNext m p n o → n.time < till → till ≤ never → (e : Event) × (o ≡ Some e)
+      × IsNext m p n (Some e)
+  some_before n None h lt le = let t = ap (λ (n : Next). n.time) h in absurd (omega arith)
+  some_before n (Some e) h lt le = (e, refl, h)
 
-  pub none_before : (q : Pending) → Stands m p (Some q) (next_event m p) → till ≤ q.key.time → own_step till m p ≡ Idle
+  pub takes : (e : Event) → next_event m p ≡ Some e → e.key.time < till → own_step till m p ≡ handle e e.rest.holds e.cause
   unfolding own_step
-  none_before q h le = grind arith
-
-  pub takes : (q : Pending) → (h : Stands m p (Some q) (next_event m p)) → q.key.time < till → own_step till m p
-      ≡ handle h.0 h.0.rest.holds h.0.cause
-  unfolding own_step
-  takes q h lt = grind arith
+  takes e q lt = ap (λ o. step_at (before till o)) q ∙ ap (λ b. step_at (cond b (Some e) None)) (lt-ltb e.key.time till lt)

@@ -10,10 +10,10 @@ use Rattle.srm_member.specs.Record.{Record}
 use Rattle.srm_cell.specs.declared.cell.Cell.{Cell}
 use Rattle.srm_cell.specs.declared.fault.CellFault.{CellFault}
 use Rattle.srm_cell.specs.declared.fault.CellFault.TheVariants as fault
-use Rattle.srm_cell.specs.declared.pending.Source.{Source}
+use Rattle.srm_cell.specs.declared.pending.Next.{Next}
 use Rattle.srm_cell.specs.declared.pending.Pending.{Pending}
 use Rattle.srm_cell.specs.Cells.{PlainCell, Event, StepOutcome, Done, Stepped, handle}
-use Rattle.srm_cell.specs.Pending.{Stands, first_of}
+use Rattle.srm_cell.specs.Pending.{Stands, IsNext}
 use Rattle.srm_cell.specs.Views.{plain_cell, known_in, NoneOnceLeft, Refuses}
 
 -- of an answer's body at an event with this key, and of the member's packet count: the packet, if there is a body, and
@@ -36,12 +36,13 @@ module _ {M : Type 0} where
     pub number : new.number ≡ old.number
     pub left : NoneOnceLeft old → NoneOnceLeft new
 
-  -- the first event of a source is taken out of the cell, and this is its cause
-  pub record TakesFirst (f : M → Record) (source : Source) (old : Cell M) (cause : Option Cause) (new : Cell M)
-      : Type 0 where
+  -- the next event is taken out of the cell, and this is its key and cause
+  pub record TakesFirst (f : M → Record) (next : Next) (old : Cell M) (taken : Option (Key × Option Cause))
+      (new : Cell M) : Type 0 where
     pub one : StaysOne old new
-    pub event : (e : Event) → first_of source old.number (plain_cell f old) ≡ Some e
-        → (plain_cell f new ≡ e.rest) × (cause ≡ e.cause)
+    pub time : (key : Key) (cause : Option Cause) → taken ≡ Some (key, cause) → key.time ≡ next.time
+    pub event : (e : Event) → IsNext old.number (plain_cell f old) next (Some e)
+        → (taken ≡ Some (e.key, e.cause)) × (plain_cell f new ≡ e.rest)
 
   -- the event with this key and cause, without which this is the cell
   abbrev pub taken_event : (M → Record) → Key → Option Cause → Cell M → Event

@@ -6,12 +6,13 @@ use Rattle.srm_member.specs.declared.exit.Exit.{Exit}
 use Rattle.srm_member.specs.declared.row.Row.{Row}
 use Rattle.srm_member.specs.Record.{Record, MemberState, fixed_part, exit_of}
 use Rattle.srm_cell.specs.declared.cell.Cell.{Cell}
+use Rattle.srm_cell.specs.declared.pending.Next.{Next}
 use Rattle.srm_cell.specs.declared.fault.CellFault.{CellFault}
 use Rattle.srm_cell.specs.declared.fault.CellFault.TheVariants as fault
 use Rattle.srm_cell.specs.Cells.{PlainCell, OwnCell, Event, StepOutcome, Idle, Full, Spent, Done, Stepped, new_cell}
 use Rattle.srm_cell.specs.Cells.{next_event}
 use Rattle.srm_cell.specs.Cells.{own_step, time_of, known_of}
-use Rattle.srm_cell.specs.Pending.{Stands}
+use Rattle.srm_cell.specs.Pending.{IsNext}
 
 -- what a member ends with that is there
 abbrev pub EndsWith : Option MemberState → Exit → Type 0
@@ -77,6 +78,10 @@ module _ {M : Type 0} where
   abbrev pub event_of : (M → Record) → Cell M → Option Event
   event_of f c = next_event c.number (plain_cell f c)
 
+  -- when that is, and where the cell has it
+  abbrev pub IsNextOf : (M → Record) → Cell M → Next → Type 0
+  IsNextOf f c next = IsNext c.number (plain_cell f c) next (event_of f c)
+
   -- its own step to an end
   abbrev pub step_of : (M → Record) → ℕ → Cell M → StepOutcome Stepped
   step_of f till c = own_step till c.number (plain_cell f c)
@@ -85,9 +90,9 @@ module _ {M : Type 0} where
   abbrev pub NoneOnceLeft : Cell M → Type 0
   NoneOnceLeft c = (x : Exit) → exit_in c.exit ≡ Some x → c.member ≡ None
 
-  -- a sound cell, where f is what is seen of its box: what it keeps as its next event is that
+  -- a sound cell, where f is what is seen of its box: what it keeps of its next event is so
   pub record IsSoundCell (f : M → Record) (c : Cell M) : Type 0 where
-    pub next : Stands c.number (plain_cell f c) c.next (event_of f c)
+    pub next : IsNextOf f c c.next
     pub none_once_left : NoneOnceLeft c
 
   -- the cell is sound, and is seen as this one

@@ -4,8 +4,8 @@ ghost use Rattle.srm_net.specs.Limits.{end_of_time, most_sent};
 ghost use Rattle.srm_net.specs.Orders.{Rises};
 ghost use Rattle.srm_scenario.specs.Plain.{mark_cmp, network_of};
 ghost use Rattle.srm_cell.specs.Flights.{BringsNone};
-ghost use Rattle.srm_cell.specs.Cells.{hear_at, next_event, first_arrival, first_mark, next_timer, due_in};
-ghost use Rattle.srm_cell.specs.Views.{AreWaiting, IsNew, Becomes, Steps, Ends, IsNextTime, TellsMember, known_in};
+ghost use Rattle.srm_cell.specs.Cells.{hear_at, first_arrival, first_mark, next_timer, due_in};
+ghost use Rattle.srm_cell.specs.Views.{AreWaiting, IsNew, Becomes, Steps, Ends, IsNextOf, IsNextTime, TellsMember, known_in};
 ghost use Rattle.srm_cell.specs.InnerSteps.{StandsFor, TakesFirst, AnswersEvent};
 ghost use Rattle.srm_cell.specs.PutRows.{PutsRow, PutsStep};
 ghost use Rattle.srm_cell.specs.Jobs.{Runs};
@@ -16,7 +16,7 @@ use crate::arrival::arrival;
 use crate::boxes::{finish, react};
 use crate::fault::CellFault;
 use crate::inbox::Inbox;
-use crate::pending::{Pending, Source};
+use crate::pending::{Next, Pending, Source, arrival_time, mark_time, timer_time};
 use crate::rows::{about, cause_at, expiry, packet, word};
 use crate::script::Script;
 use crate::sent::Sent;
@@ -43,7 +43,7 @@ use std::alloc::{AllocError, Global};
 #[derive(Drop)]
 pub struct Cell<M = Box<dyn Member>> {
     number: u16,
-    next: Option<Pending>,
+    next: Next,
     inbox: Inbox,
     member: Option<M>,
     script: Script,
@@ -67,7 +67,7 @@ impl<M: Participant> Cell<M> {
             script: Script::new(script),
             sent,
             exit: None,
-            next: None,
+            next: Next::of(None),
         };
         cell.next = cell.least();
         cell
@@ -78,8 +78,10 @@ impl<M: Participant> Cell<M> {
     pub fn next_time(&self) -> Option<u64>
         ensures { IsNextTime M.plain self.now result }
     {
-        let next = self.next?;
-        Some(next.key.time)
+        match self.next.source {
+            Source::Nowhere => None,
+            Source::Inbox | Source::Script | Source::Timer => Some(self.next.time),
+        }
     }
 
     /// How many packets are on their way to the member, or fewer: as it is written, exactly so many. It does not allocate.
@@ -103,7 +105,15 @@ impl<M: Participant> Cell<M> {
         if self.inbox.accept(packet, arrival).is_err() {
             return Err(CellFault::NoMemory);
         }
-        Pending::arriving(self.number, arrival, packet.id).take_place(&mut self.next);
+        if arrival < self.next.time {
+            self.next = Next {
+                time: arrival,
+                source: Source::Inbox,
+            };
+        } else if arrival == self.next.time && !self.next.is_arrival() {
+            // At one tick keys decide which is next, but of two packets either comes then.
+            self.next = self.by_keys();
+        }
         Ok(())
     }
 
@@ -161,14 +171,14 @@ impl<M: Participant> Cell<M> {
         requires { till ≤ end_of_time }
         ensures { PutsStep (λ r. Steps M.plain till self.old r self.new) rows.old.items result rows.new.items }
     {
-        let Some(next) = self.next else {
-            return Ok(false);
-        };
-        if next.key.time >= till {
+        let next = self.next;
+        if next.time >= till {
             return Ok(false);
         }
-        let cause = self.take(next.source);
-        match self.answer(alloc, next.key, cause, rows) {
+        let Some((key, cause)) = self.take(next) else {
+            return Ok(false);
+        };
+        match self.answer(alloc, key, cause, rows) {
             Ok(()) => {
                 self.next = self.least();
                 Ok(true)
@@ -212,25 +222,31 @@ impl<M: Participant> Cell<M> {
         ended(alloc, member)
     }
 
-    // Takes the first event of a source, and gives its cause; at a leave there is none.
-    fn take(&mut self, source: Source) -> Option<Cause>
-        ensures { TakesFirst M.plain source self.old result self.new }
+    // Takes the next event, and gives its key and its cause; at a leave there is no cause.
+    #[inline(always)]
+    fn take(&mut self, next: Next) -> Option<(Key, Option<Cause>)>
+        ensures { TakesFirst M.plain next self.old result self.new }
     {
-        match source {
+        match next.source {
             Source::Inbox => {
                 let flight = self.inbox.pop_first()?;
-                Some(Cause::Arrival {
+                let key = Pending::arriving(self.number, next.time, flight.packet.id).key;
+                let cause = Cause::Arrival {
                     packet: flight.packet,
-                })
+                };
+                Some((key, Some(cause)))
             }
             Source::Script => {
                 let mark = self.script.pop_first()?;
-                cause_at(mark)
+                let key = Pending::marked(self.number, next.time, mark).key;
+                Some((key, cause_at(mark)))
             }
             Source::Timer => {
                 let due = self.due()?;
-                Some(expiry(due))
+                let key = Pending::expiring(self.number, next.time, due).key;
+                Some((key, Some(expiry(due))))
             }
+            Source::Nowhere => None,
         }
     }
 
@@ -333,15 +349,44 @@ impl<M: Participant> Cell<M> {
         }
     }
 
-    // The least event of the cell, looked for among all that it has.
+    // The least event of the cell, looked for among all that it has. Where one is sooner than both others no key is made.
     #[inline(always)]
-    fn least(&self) -> Option<Pending>
-        ensures { StandsFor M.plain (λ m p. next_event m p) self.now result }
+    fn least(&self) -> Next
+        ensures { IsNextOf M.plain self.now result }
+    {
+        let arrival = arrival_time(&self.inbox);
+        let mark = mark_time(&self.script);
+        let timer = timer_time(self.due());
+        if arrival < mark && arrival < timer {
+            return Next {
+                time: arrival,
+                source: Source::Inbox,
+            };
+        }
+        if timer < arrival && timer < mark {
+            return Next {
+                time: timer,
+                source: Source::Timer,
+            };
+        }
+        if mark < arrival && mark < timer {
+            return Next {
+                time: mark,
+                source: Source::Script,
+            };
+        }
+        self.by_keys()
+    }
+
+    // The least event by keys.
+    #[inline(never)]
+    fn by_keys(&self) -> Next
+        ensures { IsNextOf M.plain self.now result }
     {
         let mut next = self.timer();
         Pending::take_place_if_any(self.mark(), &mut next);
         Pending::take_place_if_any(self.arrival(), &mut next);
-        next
+        Next::of(next)
     }
 
     fn arrival(&self) -> Option<Pending>
@@ -355,34 +400,14 @@ impl<M: Participant> Cell<M> {
         ensures { StandsFor M.plain (λ m p. first_mark m p p.script) self.now result }
     {
         let mark = self.script.first()?;
-        Some(Pending {
-            key: Key {
-                time: mark.at,
-                member: self.number,
-                rank: mark.rank,
-                a: 0,
-                b: 0,
-                c: u64::from(mark.place),
-            },
-            source: Source::Script,
-        })
+        Some(Pending::marked(self.number, mark.at, mark))
     }
 
     fn timer(&self) -> Option<Pending>
         ensures { StandsFor M.plain (λ m p. next_timer m p (due_in p.holds)) self.now result }
     {
         let due = self.due()?;
-        Some(Pending {
-            key: Key {
-                time: due.time,
-                member: self.number,
-                rank: due.rank,
-                a: due.name.source,
-                b: due.name.page,
-                c: u64::from(due.name.number),
-            },
-            source: Source::Timer,
-        })
+        Some(Pending::expiring(self.number, due.time, due))
     }
 
     fn due(&self) -> Option<Due>

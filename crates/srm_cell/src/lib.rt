@@ -5,9 +5,9 @@
 //! which count packets at links; `laws`.
 //!
 //! In their clauses `plain_cell f` is a cell as it is seen, where f is what is seen of its member, and a cell that `IsSoundCell`
-//! keeps its next event. `Steps`, `Runs` and `Ends` tell what comes of a cell, and `Advances` of a job; events before `till` are
-//! handled. A `Traffic` says what becomes of packets; a `Setting` adds the fixed parts of members and their scripts. `crossings`
-//! are five numbers of each link, and a `Tally` that `Tallies` packets has theirs.
+//! knows when its next event is. `Steps`, `Runs` and `Ends` tell what comes of a cell, and `Advances` of a job; events before
+//! `till` are handled. A `Traffic` says what becomes of packets; a `Setting` adds the fixed parts of members and their scripts.
+//! `crossings` are five numbers of each link, and a `Tally` that `Tallies` packets has theirs.
 //!
 //! Proved: rows, counts and refusals are those of the definitions. Tested, in `srm_cell_and_ledger_tests`: that calls answer
 //! where there is memory. Which calls ask for none is told by some clauses, and else only by the code.

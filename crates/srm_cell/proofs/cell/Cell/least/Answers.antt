@@ -1,19 +1,40 @@
-use Rattle.std.proofs.Common.{sym, ◌∙◌, ap, subst}
-use Rattle.srm_cell.specs.Cells.{first_arrival, first_mark, next_timer, earlier, next_event, due_in}
-use Rattle.srm_cell.specs.Pending.{Stands, sooner_pending}
+use Rattle.std.proofs.Common.{◌≡◌, ◌∙◌, sym, ap, subst, arith}
+use Rattle.srm_cell.specs.Cells.{next_event, next_timer}
+use Rattle.srm_cell.specs.declared.pending.Source.TheVariants.{Inbox, Script, Timer}
+use Rattle.srm_cell.specs.Pending.{IsNext, first_of, tick_of}
 use Rattle.srm_cell.specs.Views.{plain_cell}
-use Rattle.srm_cell.proofs.Nexts.{sooner_stands}
+use Rattle.srm_cell.proofs.Nexts.{arrival_next, mark_next, timer_next}
 use Rattle.srm_cell.proofs.cell.Cell.least.Goals as goal
 
-pub returns : goal.returns
-unfolding next_event
-returns g c =
+pub returns-then-arrival-timer : goal.returns-then-arrival-timer
+returns-then-arrival-timer g c =
     let m = c.args.self.now.number in
     let p = plain_cell g.M.Participant.plain c.args.self.now in
-    let a = first_arrival m p p.inbox in
-    let k = first_mark m p p.script in
-    let t = next_timer m p (due_in p.holds) in
-    let is = c.take_place_if_any-2.ensures ∙ ap (sooner_pending c.arrival.result) c.take_place_if_any.ensures in
-    subst (λ o. Stands m p o (earlier a (earlier k t))) (sym is)
-    (sooner_stands m p c.arrival.result _ a (earlier k t) c.arrival.ensures
-    (sooner_stands m p c.mark.result c.timer-next.result k t c.mark.ensures c.timer-next.ensures))
+    let a : c.arrival_time-arrival.result ≡ tick_of (first_of Inbox m p) = c.arrival_time-arrival.ensures m p in
+    let k : c.mark_time-mark.result ≡ tick_of (first_of Script m p) = c.mark_time-mark.ensures m p in
+    let t : c.timer_time-timer.result ≡ tick_of (first_of Timer m p) =
+    c.timer_time-timer.ensures m p ∙ ap (λ d. tick_of (next_timer m p d)) c.due.ensures in
+    subst (λ n. IsNext m p (record { time = n; source = Inbox }) (next_event m p)) (sym a)
+    (arrival_next m p (omega (arith, a, k)) (omega (arith, a, t)) (omega (arith, k)) (omega (arith, t)))
+
+pub returns-then-timer-mark : goal.returns-then-timer-mark
+returns-then-timer-mark g c =
+    let m = c.args.self.now.number in
+    let p = plain_cell g.M.Participant.plain c.args.self.now in
+    let a : c.arrival_time-arrival.result ≡ tick_of (first_of Inbox m p) = c.arrival_time-arrival.ensures m p in
+    let k : c.mark_time-mark.result ≡ tick_of (first_of Script m p) = c.mark_time-mark.ensures m p in
+    let t : c.timer_time-timer.result ≡ tick_of (first_of Timer m p) =
+    c.timer_time-timer.ensures m p ∙ ap (λ d. tick_of (next_timer m p d)) c.due.ensures in
+    subst (λ n. IsNext m p (record { time = n; source = Timer }) (next_event m p)) (sym t)
+    (timer_next m p (omega (arith, a, t)) (omega (arith, k, t)) (omega (arith, a)) (omega (arith, k)))
+
+pub returns-then-mark-timer : goal.returns-then-mark-timer
+returns-then-mark-timer g c =
+    let m = c.args.self.now.number in
+    let p = plain_cell g.M.Participant.plain c.args.self.now in
+    let a : c.arrival_time-arrival.result ≡ tick_of (first_of Inbox m p) = c.arrival_time-arrival.ensures m p in
+    let k : c.mark_time-mark.result ≡ tick_of (first_of Script m p) = c.mark_time-mark.ensures m p in
+    let t : c.timer_time-timer.result ≡ tick_of (first_of Timer m p) =
+    c.timer_time-timer.ensures m p ∙ ap (λ d. tick_of (next_timer m p d)) c.due.ensures in
+    subst (λ n. IsNext m p (record { time = n; source = Script }) (next_event m p)) (sym k)
+    (mark_next m p (omega (arith, a, k)) (omega (arith, k, t)) (omega (arith, a)) (omega (arith, t)))

@@ -1,47 +1,38 @@
-use Rattle.std.proofs.Common.{◌≡◌, sym, ◌∙◌, ap, subst, refl}
-use Rattle.srm_cell.specs.Cells.{Event, handle, next_event}
-use Rattle.srm_cell.specs.Pending.{Stands}
+use Rattle.std.proofs.Common.{◌≡◌, ◌∙◌, Option, Some, refl, sym, ap, subst, arith}
+use Rattle.srm_net.specs.declared.key.Key.{Key}
+use Rattle.srm_member.specs.declared.cause.Cause.{Cause}
+use Rattle.srm_cell.specs.Cells.{Event, PlainCell, handle}
 use Rattle.srm_cell.specs.InnerSteps.{taken_event}
 use Rattle.srm_cell.specs.Views.{plain_cell, Refuses}
-use Rattle.srm_cell.proofs.Nexts.{none_pending, none_before, takes}
+use Rattle.srm_cell.proofs.Nexts.{none_before, some_before, takes}
 use Rattle.srm_cell.proofs.cell.Cell.step_onto.Goals as goal
 
-pub returns-in_default : goal.returns-in_default
-returns-in_default g c =
-    let m = c.args.self.now.number in
-    let p = plain_cell g.M.Participant.plain c.args.self.now in (
-      λ h. (
-        none_pending c.args.till m p (subst (λ o. Stands m p o (next_event m p)) c.in_default.is h.next),
-        record { sound = h; is = refl },
-      ),
-      refl,
-    )
+-- the event with the key and the cause that were taken
+is_taken : (e : Event) (key : Key) (cause : Option Cause) (rest : PlainCell) (o : Option (Key × Option Cause))
+    → (o ≡ Some (e.key, e.cause)) × (rest ≡ e.rest) → o ≡ Some (key, cause) → e ≡ record { key = key; cause = cause; rest = rest }
+is_taken e key cause rest o h is =
+    let pair : ◌≡◌ {A = Key × Option Cause} (e.key, e.cause) (key, cause) = cc (h.0, is) in
+    (λ i. record { key = (pair i).0; cause = (pair i).1; rest = sym h.1 i })
 
 pub returns-then-next-till : goal.returns-then-next-till
 returns-then-next-till g c =
     let m = c.args.self.now.number in
-    let p = plain_cell g.M.Participant.plain c.args.self.now in (
-      λ h. (
-        none_before c.args.till m p c.in-Some.next (subst (λ o. Stands m p o (next_event m p)) c.in-Some.is h.next)
-            c.if-next-till.true,
-        record { sound = h; is = refl },
-      ),
-      refl,
-    )
+    let p = plain_cell g.M.Participant.plain c.args.self.now in
+    (λ h. (none_before c.args.till m p c.args.self.now.next _ refl h.next c.if-next-till.true, record { sound = h; is = refl }), refl)
 
 pub returns-in-Ok : goal.returns-in-Ok
 returns-in-Ok g c =
     let m = c.args.self.now.number in
     let p = plain_cell g.M.Participant.plain c.args.self.now in
     let put = c.in-Ok.ensures in
-    let one = c.take-cause.ensures.one in (
+    let one = c.take.ensures.one in (
       put.0,
       λ h.
-          let s = subst (λ o. Stands m p o (next_event m p)) c.in-Some.is h.next in
-          let t = c.take-cause.ensures.event s.0 s.3 in
-          let same : s.0 ≡ taken_event g.M.Participant.plain c.in-Some.next.key c.take-cause.result c.take-cause.new.self =
-          (λ i. record { key = sym s.2 i; cause = sym t.1 i; rest = sym t.0 i }) in (
-            takes c.args.till m p c.in-Some.next s c.if-next-till.false
+          let e = some_before c.args.till m p c.args.self.now.next _ h.next c.if-next-till.false (omega arith) in
+          let t = c.take.ensures.event e.0 e.2 in
+          let same : e.0 ≡ taken_event g.M.Participant.plain c.in-Some.key c.in-Some.cause c.take.new.self =
+          is_taken e.0 c.in-Some.key c.in-Some.cause _ c.take.result t c.in-Some.is in (
+            takes c.args.till m p e.0 e.1 (omega (arith, e.2.0))
                 ∙ ap (λ (e : Event). handle e e.rest.holds e.cause) same ∙ put.1.0,
             (
               record {
@@ -58,10 +49,10 @@ pub returns-in-Err : goal.returns-in-Err
 returns-in-Err g c = λ h.
     let m = c.args.self.now.number in
     let p = plain_cell g.M.Participant.plain c.args.self.now in
-    let s = subst (λ o. Stands m p o (next_event m p)) c.in-Some.is h.next in
-    let t = c.take-cause.ensures.event s.0 s.3 in
-    let same : s.0 ≡ taken_event g.M.Participant.plain c.in-Some.next.key c.take-cause.result c.take-cause.new.self =
-    (λ i. record { key = sym s.2 i; cause = sym t.1 i; rest = sym t.0 i }) in
+    let e = some_before c.args.till m p c.args.self.now.next _ h.next c.if-next-till.false (omega arith) in
+    let t = c.take.ensures.event e.0 e.2 in
+    let same : e.0 ≡ taken_event g.M.Participant.plain c.in-Some.key c.in-Some.cause c.take.new.self =
+    is_taken e.0 c.in-Some.key c.in-Some.cause _ c.take.result t c.in-Some.is in
     subst (λ o. Refuses o c.in-Err.fault)
-    (sym (takes c.args.till m p c.in-Some.next s c.if-next-till.false ∙ ap (λ (e : Event). handle e e.rest.holds e.cause) same))
+    (sym (takes c.args.till m p e.0 e.1 (omega (arith, e.2.0)) ∙ ap (λ (e : Event). handle e e.rest.holds e.cause) same))
     c.in-Err.ensures
