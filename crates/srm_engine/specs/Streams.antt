@@ -1,5 +1,5 @@
 -- Runs that hand their rows on as they come, and what they tell.
-use Rattle.std.specs.Prelude.{◌≡◌, ◌⊎◌, ◌<◌, ◌≤◌, ◌^◌, ℕ, List, ◌++◌, length, Option, Some, None, Result, Ok, Err}
+use Rattle.std.specs.Prelude.{◌≡◌, ◌⊎◌, ◌+◌, ◌<◌, ◌≤◌, ◌^◌, ℕ, List, ◌++◌, length, Option, Some, None, Result, Ok, Err}
 use Rattle.std.specs.Prelude.{MatchResult, IfErr}
 use Rattle.std.specs.Global.{Vec}
 use Rattle.srm_member.specs.declared.row.Row.{Row}
@@ -13,6 +13,7 @@ use Rattle.srm_engine.specs.declared.fault.RunFault.{RunFault}
 use Rattle.srm_engine.specs.declared.fault.RunFault.TheVariants as fault
 use Rattle.srm_engine.specs.declared.halt.Halt.{Halt}
 use Rattle.srm_engine.specs.declared.halt.Halt.TheVariants as halt
+use Rattle.srm_interfaces.specs.declared.sink.RowSink as row_sink
 use Rattle.srm_interfaces.specs.declared.sink.SinkFault.{SinkFault}
 use Rattle.srm_interfaces.specs.declared.sink.SinkFault.TheVariants as sink
 use Rattle.srm_interfaces.specs.declared.sink.Stage.{Stage}
@@ -56,6 +57,13 @@ StandsAs (Err (Run fault.CountFull)) at = at ≡ Live
 StandsAs (Err (Run fault.ShareFull)) at = at ≡ Live
 StandsAs (Err (Run e)) at = Unit {0}
 StandsAs (Err (Stopped n)) at = at ≡ Refused (sink.Stopped n)
+
+-- how a run left the sink that took its rows: over the same device, where it stands, how often the device failed
+pub record LeavesSink {S A : Type 0} (s : row_sink.Ghosts S) (old : S) (r : Result A StreamFault) (new : S)
+    : Type 0 where
+  pub device : s.same old new
+  pub stands : StandsAs r (s.stage new)
+  pub failures : s.failures new ≡ s.failures old + stopped_in r
 
 -- ---- rows
 

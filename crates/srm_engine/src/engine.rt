@@ -1,5 +1,5 @@
 //! The sequential engine.
-ghost use Rattle.std.specs.Prelude.{◌≡◌, ◌<◌, ◌≤◌, ◌+◌, ◌-◌, ◌^◌, ℕ, IfOk, length, map};
+ghost use Rattle.std.specs.Prelude.{◌≡◌, ◌≤◌, ◌+◌, ℕ, IfOk, length, map};
 ghost use Rattle.srm_net.specs.Scopes.{scope_of};
 ghost use Rattle.srm_net.specs.Spreads.{IsSpread};
 ghost use Rattle.srm_cell.specs.PutRows.{PutsStep};
@@ -7,7 +7,7 @@ ghost use Rattle.srm_engine.specs.Starts.{AreOpening, InRunsOn};
 ghost use Rattle.srm_engine.specs.Engines.{MayStep, StepsOn, MaySendNow, Sends, MayDeliver, Delivers, IsOpened};
 ghost use Rattle.srm_engine.specs.Engines.{Shows};
 ghost use Rattle.srm_interfaces.specs.Sinks.{IsReady, stage_after, stops_in};
-ghost use Rattle.srm_engine.specs.Streams.{sink_in, MayTake, TakesSteps, StreamsRows, StandsAs, stopped_in, MayLackSteps};
+ghost use Rattle.srm_engine.specs.Streams.{LeavesSink, sink_in, MayTake, TakesSteps, StreamsRows, MayLackSteps};
 ghost use Rattle.srm_engine.specs.Streams.{TellsRefusal};
 ghost use Rattle.srm_engine.specs.RowRuns.{TellsLast, TellsUndone};
 ghost use Rattle.srm_model.specs.World.{opening};
@@ -72,9 +72,7 @@ impl<'a, M: Participant> Engine<'a, M> {
         requires boxes { AreOpening session (map M.plain members.items) }
         requires sink { IsReady (S.stage sink.old) (S.failures sink.old) }
         ensures session { IfOk result (λ e. e.session ≡ session.entry) }
-        ensures device { S.same sink.old sink.new }
-        ensures stands { StandsAs result (S.stage sink.new) }
-        ensures failures { S.failures sink.new ≡ S.failures sink.old + stopped_in result }
+        ensures sink { LeavesSink S.RowSink sink.old result sink.new }
         ensures last { InRunsOn session.entry (map M.plain members.items)
             (λ s. TellsLast S.took S.part (Shows M.plain) s sink.old result sink.new) }
         ensures refused { InRunsOn session.entry (map M.plain members.items)

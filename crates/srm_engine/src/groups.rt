@@ -3,6 +3,7 @@ ghost use Rattle.std.specs.Prelude.{◌≡◌, ◌<◌, ◌≤◌, [], ℕ, List
 ghost use Rattle.srm_member.specs.declared.row.Row.{Row as OneRow};
 ghost use Rattle.srm_cell.specs.Crossings.{packets_of};
 ghost use Rattle.srm_cell.specs.Hearing.{IsSent, packets_in};
+ghost use Rattle.srm_interfaces.specs.Watches.{MayLead};
 ghost use Rattle.srm_engine.specs.Starts.{setting_on};
 ghost use Rattle.srm_engine.specs.Seen.{AreInOrder};
 ghost use Rattle.srm_engine.specs.Groups.{AreCuts, sizes, all_in};
@@ -78,13 +79,11 @@ impl<M: Participant> Groups<M> {
         crew: &mut C,
         sent: Vec<Vec<Sent>>,
     ) -> Result<Groups<M>, AllocError>
-        requires ready { C.ready crew.old }
-        requires serves { C.serves crew.old session.scenario.now session.net.now }
+        requires lead { MayLead C.ready C.serves crew.old session }
         requires sent { All (λ x. IsSent session.scenario.now session.net.now x) (all_in sent.items) }
         requires may { (seed : ℕ) × (rows : List OneRow) × (packets_of rows ≡ packets_in (all_in sent.items))
             × MayHearInAnyOrder M.plain (setting_on session seed) rows self }
-        ensures ready { C.ready crew.new }
-        ensures serves { C.serves crew.new session.entry.scenario.now session.entry.net.now }
+        ensures lead { MayLead C.ready C.serves crew.new session.entry }
         ensures same { C.same crew.old crew.new }
         ensures handed { C.handed crew.old [] crew.new }
         ensures cut { IfOk result (λ heard. heard.cut ≡ self.cut) }

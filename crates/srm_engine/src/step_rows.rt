@@ -1,7 +1,6 @@
 //! The sequential run of those who ask for no exits, its rows handed on as they come.
-ghost use Rattle.std.specs.Prelude.{◌≡◌, ◌<◌, ◌+◌, ◌-◌, ◌^◌};
-ghost use Rattle.srm_interfaces.specs.Sinks.{IsOpen};
-ghost use Rattle.srm_engine.specs.Streams.{StandsAs, stopped_in, MayLackSteps, TellsRefusal};
+ghost use Rattle.srm_interfaces.specs.Sinks.{IsReady};
+ghost use Rattle.srm_engine.specs.Streams.{LeavesSink, MayLackSteps, TellsRefusal};
 ghost use Rattle.srm_engine.specs.RowRuns.{TellsTotals, TellsUndone};
 ghost use Rattle.srm_engine.specs.Starts.{InRunsOf};
 
@@ -29,11 +28,8 @@ pub fn step_rows<M: Participant, S: RowSink>(
     start: Start<M>,
     sink: &mut S,
 ) -> Result<Totals, StreamFault>
-    requires open { IsOpen (S.stage sink.old) }
-    requires failures { S.failures sink.old < 2 ^ 64 - 1 }
-    ensures device { S.same sink.old sink.new }
-    ensures stands { StandsAs result (S.stage sink.new) }
-    ensures failures { S.failures sink.new ≡ S.failures sink.old + stopped_in result }
+    requires sink { IsReady (S.stage sink.old) (S.failures sink.old) }
+    ensures sink { LeavesSink S.RowSink sink.old result sink.new }
     ensures totals { InRunsOf start.entry (λ s. TellsTotals S.took S.part s sink.old result sink.new) }
     ensures refused { InRunsOf start.entry (λ s. TellsRefusal S.took S.part s sink.old result sink.new) }
     ensures undone { InRunsOf start.entry (λ s. TellsUndone S.stage S.took S.part (MayLackSteps s) s sink.old result sink.new) }

@@ -1,9 +1,9 @@
 //! The sequential run, its rows handed on as they come.
-ghost use Rattle.std.specs.Prelude.{◌≡◌, ◌<◌, ◌+◌, ◌-◌, ◌^◌, ℕ, map};
+ghost use Rattle.std.specs.Prelude.{◌≡◌, ℕ, map};
 ghost use Rattle.srm_scenario.specs.Plain.{network_of};
+ghost use Rattle.srm_interfaces.specs.Sinks.{IsReady};
 ghost use Rattle.srm_engine.specs.Openings.{HoldOpeningRecords, InRuns};
-ghost use Rattle.srm_interfaces.specs.Sinks.{IsOpen};
-ghost use Rattle.srm_engine.specs.Streams.{StandsAs, stopped_in, TellsStream, TellsRefusal};
+ghost use Rattle.srm_engine.specs.Streams.{LeavesSink, TellsStream, TellsRefusal};
 
 use crate::cells::finish_cells;
 use crate::engine::Engine;
@@ -39,11 +39,8 @@ pub fn step_stream<S: RowSink>(
 ) -> Result<(Vec<Exit>, Totals), StreamFault>
     requires network { net.now ≡ network_of scenario.now }
     requires boxes { (seed : ℕ) × HoldOpeningRecords scenario.now net.now seed (map (λ b. plain b) members.items) }
-    requires open { IsOpen (S.stage sink.old) }
-    requires failures { S.failures sink.old < 2 ^ 64 - 1 }
-    ensures device { S.same sink.old sink.new }
-    ensures stands { StandsAs result (S.stage sink.new) }
-    ensures failures { S.failures sink.new ≡ S.failures sink.old + stopped_in result }
+    requires sink { IsReady (S.stage sink.old) (S.failures sink.old) }
+    ensures sink { LeavesSink S.RowSink sink.old result sink.new }
     ensures stream { InRuns scenario.now net.now (map (λ b. plain b) members.items)
         (λ s. TellsStream S.took S.part s sink.old result sink.new) }
     ensures refused { InRuns scenario.now net.now (map (λ b. plain b) members.items)

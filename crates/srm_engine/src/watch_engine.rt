@@ -4,7 +4,8 @@ ghost use Rattle.srm_member.specs.declared.row.Row.{Row as OneRow};
 ghost use Rattle.srm_interfaces.specs.declared.sink.Stage.{Stage as AStage};
 ghost use Rattle.srm_interfaces.specs.Sinks.{IsReady, stage_after, stops_in};
 ghost use Rattle.srm_interfaces.specs.InTurn.{KeepInTurn};
-ghost use Rattle.srm_engine.specs.Streams.{sink_in, StandsAs, stopped_in};
+ghost use Rattle.srm_interfaces.specs.Watches.{MayLead};
+ghost use Rattle.srm_engine.specs.Streams.{LeavesSink, sink_in};
 ghost use Rattle.srm_engine.specs.Starts.{BeginsWith, InRunsOf};
 ghost use Rattle.srm_engine.specs.WindowStreams.{IsLeft, TellsStreamAsked, CallsInWindows, RefusedInWindows};
 ghost use Rattle.srm_engine.specs.RowRuns.{TellsLast, MayLackWindow, TellsUndone};
@@ -66,17 +67,13 @@ impl<'a, M: Participant, K: Drop> WatchEngine<'a, M, K> {
         watch: W,
         sink: &mut S,
     ) -> Result<WindowEngine<'a, M>, StreamFault>
-        requires ready { C.ready crew.old }
-        requires serves { C.serves crew.old start.session.scenario.now start.session.net.now }
+        requires lead { MayLead C.ready C.serves crew.old start.session }
         requires keeps { (k : K) (rows : List OneRow) → W.keeps watch k rows → S.keeps k rows }
         requires sink { IsReady (S.stage sink.old) (S.failures sink.old) }
-        ensures ready { C.ready crew.new }
-        ensures serves { C.serves crew.new start.entry.session.scenario.now start.entry.session.net.now }
+        ensures lead { MayLead C.ready C.serves crew.new start.entry.session }
         ensures same { C.same crew.old crew.new }
         ensures under_way { IfOk result (λ e. IsUnderWay M.plain e) }
-        ensures device { S.same sink.old sink.new }
-        ensures stands { StandsAs result (S.stage sink.new) }
-        ensures failures { S.failures sink.new ≡ S.failures sink.old + stopped_in result }
+        ensures sink { LeavesSink S.RowSink sink.old result sink.new }
         ensures asked { TellsStreamAsked start.entry.session.net.now asked result }
         ensures left { IsLeft sink.old result sink.new }
         ensures last { InRunsOf start.entry (λ s. TellsLast S.took S.part (IsAt M.plain s) s sink.old result sink.new) }
@@ -109,13 +106,11 @@ impl<'a, M: Participant, K: Drop> WatchEngine<'a, M, K> {
         watch: W,
         begin: u64,
     ) -> Result<WatchEngine<'a, M, K>, RunFault>
-        requires ready { C.ready crew.old }
-        requires serves { C.serves crew.old self.engine.session.scenario.now self.engine.session.net.now }
+        requires lead { MayLead C.ready C.serves crew.old self.engine.session }
         requires stands { IsWatching M.plain self }
         requires begin { BeginsNext M.plain self.engine begin }
         requires early { begin < self.engine.session.scenario.now.until }
-        ensures ready { C.ready crew.new }
-        ensures serves { C.serves crew.new self.entry.engine.session.scenario.now self.entry.engine.session.net.now }
+        ensures lead { MayLead C.ready C.serves crew.new self.entry.engine.session }
         ensures same { C.same crew.old crew.new }
         ensures frame { IfOk result (λ e. frame_of e.engine ≡ frame_of self.entry.engine) }
         ensures stands { IfOk result (λ e. IsWatching M.plain e) }
@@ -157,11 +152,9 @@ impl<'a, M: Participant, K: Drop> WatchEngine<'a, M, K> {
         crew: &mut C,
         watch: W,
     ) -> Result<WatchEngine<'a, M, K>, RunFault>
-        requires ready { C.ready crew.old }
-        requires serves { C.serves crew.old self.engine.session.scenario.now self.engine.session.net.now }
+        requires lead { MayLead C.ready C.serves crew.old self.engine.session }
         requires stands { IsWatching M.plain self }
-        ensures ready { C.ready crew.new }
-        ensures serves { C.serves crew.new self.entry.engine.session.scenario.now self.entry.engine.session.net.now }
+        ensures lead { MayLead C.ready C.serves crew.new self.entry.engine.session }
         ensures frame { IfOk result (λ e. frame_of e.engine ≡ frame_of self.entry.engine) }
         ensures stands { IfOk result (λ e. IsWatching M.plain e) }
         ensures windows { TellsAllWatched C.handed M.plain (W.keeps watch) self.entry crew.old result crew.new }
@@ -215,14 +208,12 @@ impl<'a, M: Participant, K: Drop> WatchEngine<'a, M, K> {
         watch: W,
         sink: &mut S,
     ) -> Result<WindowEngine<'a, M>, Halt>
-        requires ready { C.ready crew.old }
-        requires serves { C.serves crew.old self.engine.session.scenario.now self.engine.session.net.now }
+        requires lead { MayLead C.ready C.serves crew.old self.engine.session }
         requires stands { IsWatching M.plain self }
         requires none { KeepsRows (W.keeps watch) self [] }
         requires keeps { (k : K) (rows : List OneRow) → W.keeps watch k rows → S.keeps k rows }
         requires sink { IsReady (S.stage sink.old) (S.failures sink.old) }
-        ensures ready { C.ready crew.new }
-        ensures serves { C.serves crew.new self.entry.engine.session.scenario.now self.entry.engine.session.net.now }
+        ensures lead { MayLead C.ready C.serves crew.new self.entry.engine.session }
         ensures same { C.same crew.old crew.new }
         ensures stands { IfOk result (λ e. IsUnderWay M.plain e) }
         ensures frame { IfOk result (λ e. frame_of e ≡ frame_of self.entry.engine) }

@@ -1,9 +1,10 @@
 //! The run in windows whose rows stay where they were made, and what is kept of them is handed on.
-ghost use Rattle.std.specs.Prelude.{◌≡◌, ◌<◌, ◌+◌, ◌-◌, ◌^◌, List};
+ghost use Rattle.std.specs.Prelude.{List};
 ghost use Rattle.srm_member.specs.declared.row.Row.{Row as OneRow};
+ghost use Rattle.srm_interfaces.specs.Watches.{MayLead};
+ghost use Rattle.srm_engine.specs.Streams.{LeavesSink};
+ghost use Rattle.srm_interfaces.specs.Sinks.{IsReady};
 ghost use Rattle.srm_engine.specs.Starts.{InRunsOf};
-ghost use Rattle.srm_interfaces.specs.Sinks.{IsOpen};
-ghost use Rattle.srm_engine.specs.Streams.{StandsAs, stopped_in};
 ghost use Rattle.srm_engine.specs.WindowStreams.{IsLeft, TellsStreamAsked, CallsInWindows, RefusedInWindows};
 ghost use Rattle.srm_engine.specs.RowRuns.{TellsTotals, MayLackWindow, TellsUndone};
 
@@ -46,16 +47,11 @@ pub fn window_kept<
     watch: W,
     sink: &mut S,
 ) -> Result<Totals, StreamFault>
-    requires ready { C.ready crew.old }
-    requires serves { C.serves crew.old start.session.scenario.now start.session.net.now }
+    requires lead { MayLead C.ready C.serves crew.old start.session }
     requires keeps { (k : K) (rows : List OneRow) → W.keeps watch k rows → S.keeps k rows }
-    requires open { IsOpen (S.stage sink.old) }
-    requires failures { S.failures sink.old < 2 ^ 64 - 1 }
-    ensures ready { C.ready crew.new }
-    ensures serves { C.serves crew.new start.entry.session.scenario.now start.entry.session.net.now }
-    ensures device { S.same sink.old sink.new }
-    ensures stands { StandsAs result (S.stage sink.new) }
-    ensures failures { S.failures sink.new ≡ S.failures sink.old + stopped_in result }
+    requires sink { IsReady (S.stage sink.old) (S.failures sink.old) }
+    ensures lead { MayLead C.ready C.serves crew.new start.entry.session }
+    ensures sink { LeavesSink S.RowSink sink.old result sink.new }
     ensures asked { TellsStreamAsked start.entry.session.net.now asked result }
     ensures left { IsLeft sink.old result sink.new }
     ensures totals { InRunsOf start.entry (λ s. TellsTotals S.took S.part s sink.old result sink.new) }

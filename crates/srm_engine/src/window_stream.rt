@@ -1,9 +1,9 @@
 //! The run in windows, its rows handed on as they come.
-ghost use Rattle.std.specs.Prelude.{◌≡◌, ◌<◌, ◌+◌, ◌-◌, ◌^◌, ℕ, map};
+ghost use Rattle.std.specs.Prelude.{◌≡◌, ℕ, map};
 ghost use Rattle.srm_scenario.specs.Plain.{network_of};
+ghost use Rattle.srm_interfaces.specs.Sinks.{IsReady};
 ghost use Rattle.srm_engine.specs.Openings.{HoldOpeningRecords, InRuns};
-ghost use Rattle.srm_interfaces.specs.Sinks.{IsOpen};
-ghost use Rattle.srm_engine.specs.Streams.{StandsAs, stopped_in, TellsStream};
+ghost use Rattle.srm_engine.specs.Streams.{LeavesSink, TellsStream};
 ghost use Rattle.srm_engine.specs.WindowStreams.{IsLeft, TellsStreamAsked, CallsInWindows, RefusedInWindows};
 
 use crate::by_rows::ByRows;
@@ -53,12 +53,9 @@ pub fn window_stream<M: Participant, C: Crew<M>, S: RowSink>(
     requires ready { C.ready crew.old }
     requires network { net.now ≡ network_of scenario.now }
     requires boxes { (seed : ℕ) × HoldOpeningRecords scenario.now net.now seed (map M.plain members.items) }
-    requires open { IsOpen (S.stage sink.old) }
-    requires failures { S.failures sink.old < 2 ^ 64 - 1 }
+    requires sink { IsReady (S.stage sink.old) (S.failures sink.old) }
     ensures ready { C.ready crew.new }
-    ensures device { S.same sink.old sink.new }
-    ensures stands { StandsAs result (S.stage sink.new) }
-    ensures failures { S.failures sink.new ≡ S.failures sink.old + stopped_in result }
+    ensures sink { LeavesSink S.RowSink sink.old result sink.new }
     ensures asked { TellsStreamAsked net.now asked result }
     ensures left { IsLeft sink.old result sink.new }
     ensures stream { InRuns scenario.now net.now (map M.plain members.items)

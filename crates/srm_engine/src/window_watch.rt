@@ -1,4 +1,5 @@
 //! The run in windows whose rows are not handed on, but watched.
+ghost use Rattle.srm_interfaces.specs.Watches.{MayLead};
 ghost use Rattle.srm_engine.specs.Starts.{InRunsOf};
 ghost use Rattle.srm_engine.specs.WindowWatches.{TellsWatchAsked, TellsKept, CallsOfWatch};
 
@@ -34,10 +35,8 @@ pub fn window_watch<M: Participant, K: Drop, W: Watch<K> + Copy, C: WatchCrew<M,
     asked: Windows,
     watch: W,
 ) -> Result<(Vec<K>, Totals), RunFault>
-    requires ready { C.ready crew.old }
-    requires serves { C.serves crew.old start.session.scenario.now start.session.net.now }
-    ensures ready { C.ready crew.new }
-    ensures serves { C.serves crew.new start.entry.session.scenario.now start.entry.session.net.now }
+    requires lead { MayLead C.ready C.serves crew.old start.session }
+    ensures lead { MayLead C.ready C.serves crew.new start.entry.session }
     ensures asked { TellsWatchAsked start.entry.session.net.now asked result }
     ensures kept { InRunsOf start.entry (λ s. TellsKept (W.keeps watch) s result) }
     ensures windows { InRunsOf start.entry (λ s. CallsOfWatch C.handed s start.entry.session.net.now asked

@@ -1,6 +1,5 @@
 //! Runs whose rows are written as they come: how far such a run is when the first one is.
-ghost use Rattle.std.specs.Prelude.{◌<◌, ◌-◌, ◌^◌};
-ghost use Rattle.srm_interfaces.specs.Sinks.{IsOpen};
+ghost use Rattle.srm_interfaces.specs.Sinks.{IsReady};
 
 use crate::opening::{members_of, opened};
 use srm_crew::plain::PlainCrew;
@@ -30,8 +29,7 @@ fn stream_text<S: RowSink>(
     asked: Option<Windows>,
     sink: &mut S,
 ) -> Result<Option<StreamFault>, AllocError>
-    requires open { IsOpen (S.stage sink.old) }
-    requires failures { S.failures sink.old < 2 ^ 64 - 1 }
+    requires sink { IsReady (S.stage sink.old) (S.failures sink.old) }
 {
     let (scenario, net) = opened(rt, alloc, text)?;
     let members = members_of(alloc, &scenario, &net, watch)?;

@@ -5,6 +5,7 @@ use Rattle.std.specs.Global.{Vec}
 use Rattle.srm_net.specs.Limits.{most_nodes}
 use Rattle.srm_net.specs.Network.{Network}
 use Rattle.srm_scenario.specs.Plain.{PlainScenario}
+use Rattle.srm_scenario.specs.declared.session.Session.{Session}
 use Rattle.srm_member.specs.declared.row.Row.{Row}
 use Rattle.srm_member.specs.Record.{Record}
 use Rattle.srm_member.specs.ByMember.{rows_of_member}
@@ -37,6 +38,12 @@ KeepMembers keeps m (k ∷ ks) rows = keeps k (rows_of_member m rows) × KeepMem
 abbrev pub KeepOn : {K : Type 0} → (K → List Row → Type 0) → List K → List Row → List K → Type 0
 KeepOn keeps old rows new =
     (before : List Row) → KeepMembers keeps 0 old before → KeepMembers keeps 0 new (before ++ rows)
+
+-- a crew may lead the runs of a session, where this says that it may be called and what it serves
+pub record MayLead {C : Type 0} (ready : C → Type 0) (serves : C → PlainScenario → Network → Type 0) (by : C)
+    (of : Session) : Type 0 where
+  pub called : ready by
+  pub served : serves by of.scenario.now of.net.now
 
 module _ {M K : Type 0} where
   -- the job without what is kept

@@ -3,7 +3,6 @@ use Rattle.std.specs.Prelude.{◌≡◌, ◌<◌, ◌-◌, ◌^◌, ℕ, List, [
 use Rattle.std.specs.Global.{Vec}
 use Rattle.srm_net.specs.Network.{Network}
 use Rattle.srm_scenario.specs.Plain.{PlainScenario}
-use Rattle.srm_scenario.specs.declared.session.Session.{Session}
 use Rattle.srm_member.specs.Record.{Record}
 use Rattle.srm_member.specs.declared.row.Row.{Row}
 use Rattle.srm_cell.specs.Setting.{setting_of}
@@ -27,12 +26,6 @@ abbrev pub ForEachSeed : Task → List Record → (PlainScenario → Network →
 ForEachSeed task rs holds =
     (seed : ℕ) → HoldOpeningRecords task.session.scenario.now task.session.net.now seed rs
     → holds task.session.scenario.now task.session.net.now seed
-
--- a crew may lead the runs of a session, where this says that it may be called and what it serves
-pub record MayLead {C : Type 0} (ready : C → Type 0) (serves : C → PlainScenario → Network → Type 0) (by : C)
-    (of : Session) : Type 0 where
-  pub called : ready by
-  pub served : serves by of.scenario.now of.net.now
 
 -- a table of a run of one event after the other may be written: it is asked for, and one more failure of the outlet can
 -- be counted

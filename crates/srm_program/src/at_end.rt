@@ -3,7 +3,8 @@ ghost use Rattle.std.specs.Prelude.{◌≡◌, ◌<◌, ◌-◌, ◌^◌, List, 
 ghost use Rattle.srm_member.specs.Record.{Record};
 ghost use Rattle.srm_engine.specs.Starts.{AreOpening};
 ghost use Rattle.srm_options.specs.declared.options.Engine.TheVariants.{Window};
-ghost use Rattle.srm_program.specs.Askings.{IsKept, MayLead, MayStep, Reports};
+ghost use Rattle.srm_interfaces.specs.Watches.{MayLead};
+ghost use Rattle.srm_program.specs.Askings.{IsKept, MayStep, Reports};
 
 use crate::asked::Asked;
 use crate::end_table::EndTable;

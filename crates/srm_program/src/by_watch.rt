@@ -1,7 +1,8 @@
 //! The run in windows of time, by a team of threads that live as long as it and keep of rows what a watch keeps.
 ghost use Rattle.std.specs.Prelude.{◌≡◌, Some, map};
 ghost use Rattle.srm_engine.specs.Starts.{AreOpening};
-ghost use Rattle.srm_program.specs.Askings.{MayLead, MayTabulate, Reports};
+ghost use Rattle.srm_interfaces.specs.Watches.{MayLead};
+ghost use Rattle.srm_program.specs.Askings.{MayTabulate, Reports};
 
 use crate::asked::Asked;
 use crate::fault::LabFault;

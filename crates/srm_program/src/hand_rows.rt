@@ -1,9 +1,10 @@
 //! The rows of a run, or what a watch keeps of them, handed to a sink.
-ghost use Rattle.std.specs.Prelude.{◌≡◌, ◌<◌, ◌-◌, ◌^◌, List, map};
+ghost use Rattle.std.specs.Prelude.{◌≡◌, List, map};
 ghost use Rattle.srm_member.specs.declared.row.Row.{Row as OneRow};
-ghost use Rattle.srm_interfaces.specs.Sinks.{IsOpen};
-ghost use Rattle.srm_program.specs.Askings.{HandsOn, MayLead};
+ghost use Rattle.srm_interfaces.specs.Watches.{MayLead};
+ghost use Rattle.srm_program.specs.Askings.{HandsOn};
 ghost use Rattle.srm_program.specs.Runs.{fault_of_stream};
+ghost use Rattle.srm_interfaces.specs.Sinks.{IsReady};
 
 use crate::asked::Asked;
 use crate::fault::LabFault;
@@ -30,8 +31,7 @@ pub(crate) fn hand_rows<M: Participant, S: RowSink>(
     sink: &mut S,
 ) -> Result<Totals, LabFault>
     requires steps { asked.task.options.engine ≡ Engine.Step }
-    requires open { IsOpen (S.stage sink.old) }
-    requires failures { S.failures sink.old < 2 ^ 64 - 1 }
+    requires sink { IsReady (S.stage sink.old) (S.failures sink.old) }
     ensures { HandsOn S.RowSink asked.entry.task (map M.plain asked.entry.members.items) sink.old result sink.new }
 {
     let Asked { task, members } = asked;
@@ -56,8 +56,7 @@ pub(crate) fn hand_kept<
     requires windows { asked.task.options.engine ≡ Engine.Window }
     requires crew { MayLead C.ready C.serves crew.old asked.task.session }
     requires keeps { (k : K) (rows : List OneRow) → W.keeps watch k rows → S.keeps k rows }
-    requires open { IsOpen (S.stage sink.old) }
-    requires failures { S.failures sink.old < 2 ^ 64 - 1 }
+    requires sink { IsReady (S.stage sink.old) (S.failures sink.old) }
     ensures { HandsOn S.RowSink asked.entry.task (map M.plain asked.entry.members.items) sink.old result sink.new }
 {
     let Asked { task, members } = asked;

@@ -1,6 +1,7 @@
 //! What a watch keeps of the rows of a run.
 ghost use Rattle.std.specs.Prelude.{◌≡◌, map};
-ghost use Rattle.srm_program.specs.Askings.{IsKept, MayLead};
+ghost use Rattle.srm_interfaces.specs.Watches.{MayLead};
+ghost use Rattle.srm_program.specs.Askings.{IsKept};
 ghost use Rattle.srm_program.specs.Runs.{fault_of_run};
 
 use crate::asked::Asked;

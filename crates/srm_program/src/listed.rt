@@ -7,7 +7,8 @@ ghost use Rattle.srm_report.specs.declared.listing_sink.ListingSink.{ListingSink
 ghost use Rattle.srm_report.specs.ListingSinks.{stage_of, outlet_under, AreOverOne};
 ghost use Rattle.srm_engine.specs.Starts.{AreOpening};
 ghost use Rattle.srm_program.specs.declared.task.Task.{Task as ATask};
-ghost use Rattle.srm_program.specs.Askings.{HandsOn, IsFresh, IsListed, MayLead, MayStep};
+ghost use Rattle.srm_interfaces.specs.Watches.{MayLead};
+ghost use Rattle.srm_program.specs.Askings.{HandsOn, IsFresh, IsListed, MayStep};
 
 use crate::asked::Asked;
 use crate::fault::LabFault;

@@ -1,7 +1,8 @@
 //! Tables that are made of what a watch keeps.
 ghost use Rattle.std.specs.Prelude.{map};
 ghost use Rattle.srm_options.specs.declared.options.Show.{Show};
-ghost use Rattle.srm_program.specs.Askings.{MayLead, MayTabulate, Reports};
+ghost use Rattle.srm_interfaces.specs.Watches.{MayLead};
+ghost use Rattle.srm_program.specs.Askings.{MayTabulate, Reports};
 
 use crate::asked::Asked;
 use crate::fault::LabFault;

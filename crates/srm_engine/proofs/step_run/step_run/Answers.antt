@@ -8,7 +8,7 @@ use Rattle.srm_engine.proofs.StreamLemmas.{told_why, run_refused}
 use Rattle.srm_engine.proofs.step_run.step_run.Goals as goal
 
 pub unwrap-requires : goal.unwrap-requires
-unwrap-requires g c = rw c.run_fault.ensures (told_why (Vec Exit × List ℕ) 0 c.in-Err.fault c.in-Err.ensures.failures)
+unwrap-requires g c = rw c.run_fault.ensures (told_why (Vec Exit × List ℕ) 0 c.in-Err.fault c.in-Err.ensures.sink.failures)
 
 pub returns-in-Err : goal.returns-in-Err
 returns-in-Err g c = λ seed h.

@@ -8,7 +8,7 @@ use Rattle.srm_engine.proofs.WindowLemmas.{asked_told}
 use Rattle.srm_engine.proofs.window_run.window_run.Goals as goal
 
 pub unwrap-requires : goal.unwrap-requires
-unwrap-requires g c = rw c.run_fault.ensures (told_why (Vec Exit × List ℕ) 0 c.in-Err.fault c.in-Err.ensures.failures)
+unwrap-requires g c = rw c.run_fault.ensures (told_why (Vec Exit × List ℕ) 0 c.in-Err.fault c.in-Err.ensures.sink.failures)
 
 pub returns-in-Err-clause-asked : goal.returns-in-Err-clause-asked
 returns-in-Err-clause-asked g c =

@@ -7,9 +7,9 @@ returns-in-Err g c =
     let told = c.in-Err.ensures in
     let fault = c.in-Err.fault in
     let named = c.lab_fault.ensures in record {
-      device = told.device;
-      stands = rw named (stands_after (List ℕ) (List ℕ) fault _ told.stands);
-      failures = rw named (failures_after (List ℕ) (List ℕ) fault _ _ told.failures);
+      device = told.sink.device;
+      stands = rw named (stands_after (List ℕ) (List ℕ) fault _ told.sink.stands);
+      failures = rw named (failures_after (List ℕ) (List ℕ) fault _ _ told.sink.failures);
       rows = λ seed h.
           rw named
           (windows_refused g.S.RowSink.took g.S.RowSink.part c.args.asked.task.session.scenario.now c.args.asked.task.session.net.now seed

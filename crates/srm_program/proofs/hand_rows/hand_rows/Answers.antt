@@ -4,9 +4,9 @@ use Rattle.srm_program.proofs.hand_rows.hand_rows.Goals as goal
 
 pub returns-in-Err : goal.returns-in-Err
 returns-in-Err g c = record {
-  device = c.in-Err.ensures.device;
-  stands = rw c.lab_fault.ensures (stands_after (List ℕ) (List ℕ) c.in-Err.fault _ c.in-Err.ensures.stands);
-  failures = rw c.lab_fault.ensures (failures_after (List ℕ) (List ℕ) c.in-Err.fault _ _ c.in-Err.ensures.failures);
+  device = c.in-Err.ensures.sink.device;
+  stands = rw c.lab_fault.ensures (stands_after (List ℕ) (List ℕ) c.in-Err.fault _ c.in-Err.ensures.sink.stands);
+  failures = rw c.lab_fault.ensures (failures_after (List ℕ) (List ℕ) c.in-Err.fault _ _ c.in-Err.ensures.sink.failures);
   rows = λ seed h.
       rw c.lab_fault.ensures
       (steps_refused g.S.RowSink.took g.S.RowSink.part c.args.asked.task.session.scenario.now c.args.asked.task.session.net.now seed

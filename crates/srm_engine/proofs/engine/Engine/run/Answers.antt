@@ -25,16 +25,15 @@ returns-in-Err-clause-undone g c = λ seed h.
     let s = setting_on c.args.session seed in
     uncalled g.S.RowSink.took g.S.RowSink.part g.S.RowSink.stage (MayLackSteps s) s c.args.sink.now _
 
-pub returns-in-Err-stream-clause-stands : goal.returns-in-Err-stream-clause-stands
-returns-in-Err-stream-clause-stands g c =
-    rw c.into-in-Err-stream.ensures
-    (halt_stands (Unit {0}) (Unit {0}) c.in-Err-stream.halt (g.S.RowSink.stage c.stream.new.sink) c.in-Err-stream.ensures.stage)
-
-pub returns-in-Err-stream-clause-failures : goal.returns-in-Err-stream-clause-failures
-returns-in-Err-stream-clause-failures g c =
-    rw c.into-in-Err-stream.ensures
-    (c.in-Err-stream.ensures.failures
-    ∙ ap (λ n. g.S.RowSink.failures c.args.sink.now + n) (halt_stops (Unit {0}) (Unit {0}) c.in-Err-stream.halt))
+pub returns-in-Err-stream-clause-sink : goal.returns-in-Err-stream-clause-sink
+returns-in-Err-stream-clause-sink g c =
+    let x = c.in-Err-stream.halt in
+    rw c.into-in-Err-stream.ensures (record {
+      device = c.in-Err-stream.ensures.device;
+      stands = halt_stands (Unit {0}) (Unit {0}) x (g.S.RowSink.stage c.stream.new.sink) c.in-Err-stream.ensures.stage;
+      failures = c.in-Err-stream.ensures.failures
+          ∙ ap (λ n. g.S.RowSink.failures c.args.sink.now + n) (halt_stops (Unit {0}) (Unit {0}) x);
+    })
 
 pub returns-in-Err-stream-clause-last : goal.returns-in-Err-stream-clause-last
 returns-in-Err-stream-clause-last g c = λ seed h.

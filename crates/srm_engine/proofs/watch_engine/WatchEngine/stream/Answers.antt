@@ -1,6 +1,7 @@
 use Rattle.std.proofs.Common.{◌∙◌, ◌<◌, ℕ, List, sym, ◌++◌, ◌∷◌, [], add-zero, arith, ap, subst, refl}
 use Rattle.srm_scenario.specs.declared.session.Session.{Session}
 use Rattle.srm_member.specs.declared.row.Row.{Row}
+use Rattle.srm_interfaces.specs.Watches.{MayLead}
 use Rattle.srm_model.specs.World.{opening, IsReached, IsLast}
 use Rattle.srm_model.specs.WindowChains.{window_jobs}
 use Rattle.srm_model.proofs.WindowChain.{calls_follow}
@@ -27,8 +28,7 @@ returns-in-Err-clause-windows g c = λ seed h.
 
 pub loop-begin-init : goal.loop-begin-init
 loop-begin-init g c = record {
-  ready = c.requires.ready;
-  serves = c.requires.serves;
+  lead = c.requires.lead;
   same = g.met.C.WatchCrew.same_self c.args.crew.now;
   stands = c.requires.stands;
   none = c.requires.none;
@@ -48,10 +48,10 @@ loop-begin-init g c = record {
       );
 }
 
-pub window-requires-clause-serves : goal.window-requires-clause-serves
-window-requires-clause-serves g c =
-    subst (λ (k : Session × ℕ × Ends). g.C.WatchCrew.serves c.loop-begin.crew k.0.scenario.now k.0.net.now)
-    (sym c.loop-begin.invariant.frame) c.loop-begin.invariant.serves
+pub window-requires-clause-lead : goal.window-requires-clause-lead
+window-requires-clause-lead g c =
+    subst (λ (k : Session × ℕ × Ends). MayLead g.C.WatchCrew.ready g.C.WatchCrew.serves c.loop-begin.crew k.0)
+    (sym c.loop-begin.invariant.frame) c.loop-begin.invariant.lead
 
 pub window-requires-clause-early : goal.window-requires-clause-early
 window-requires-clause-early g c =
@@ -60,10 +60,10 @@ window-requires-clause-early g c =
     let early : c.loop-begin.begin < c.until-until.result = c.loop-begin-test.true in
     omega (arith, same)
 
-pub returns-in-Err-window-clause-serves : goal.returns-in-Err-window-clause-serves
-returns-in-Err-window-clause-serves g c =
-    subst (λ (k : Session × ℕ × Ends). g.C.WatchCrew.serves c.window.new.crew k.0.scenario.now k.0.net.now)
-    c.loop-begin.invariant.frame c.in-Err-window.ensures.serves
+pub returns-in-Err-window-clause-lead : goal.returns-in-Err-window-clause-lead
+returns-in-Err-window-clause-lead g c =
+    subst (λ (k : Session × ℕ × Ends). MayLead g.C.WatchCrew.ready g.C.WatchCrew.serves c.window.new.crew k.0)
+    c.loop-begin.invariant.frame c.in-Err-window.ensures.lead
 
 pub returns-in-Err-window-clause-windows : goal.returns-in-Err-window-clause-windows
 returns-in-Err-window-clause-windows g c = λ seed h.
@@ -82,10 +82,10 @@ pub returns-in-Err-handed_on-clause-device : goal.returns-in-Err-handed_on-claus
 returns-in-Err-handed_on-clause-device g c = g.met.S.RowSink.same_more c.args.sink.now c.loop-begin.sink c.handed_on.new.sink
     c.loop-begin.invariant.device c.in-Err-handed_on.ensures.device
 
-pub returns-in-Err-handed_on-clause-serves : goal.returns-in-Err-handed_on-clause-serves
-returns-in-Err-handed_on-clause-serves g c =
-    subst (λ (k : Session × ℕ × Ends). g.C.WatchCrew.serves c.window.new.crew k.0.scenario.now k.0.net.now)
-    c.loop-begin.invariant.frame c.in-Ok.ensures.serves
+pub returns-in-Err-handed_on-clause-lead : goal.returns-in-Err-handed_on-clause-lead
+returns-in-Err-handed_on-clause-lead g c =
+    subst (λ (k : Session × ℕ × Ends). MayLead g.C.WatchCrew.ready g.C.WatchCrew.serves c.window.new.crew k.0)
+    c.loop-begin.invariant.frame c.in-Ok.ensures.lead
 
 pub returns-in-Err-handed_on-clause-windows : goal.returns-in-Err-handed_on-clause-windows
 returns-in-Err-handed_on-clause-windows g c = λ seed h.
@@ -128,9 +128,8 @@ loop-begin-preserved g c =
     let handed = c.in-Ok-handed_on.ensures in
     let same = handed.engine in
     let frame = ap frame_of same ∙ done.frame in record {
-      ready = done.ready;
-      serves = subst (λ (k : Session × ℕ × Ends). g.C.WatchCrew.serves c.window.new.crew k.0.scenario.now k.0.net.now)
-          v.frame done.serves;
+      lead = subst (λ (k : Session × ℕ × Ends). MayLead g.C.WatchCrew.ready g.C.WatchCrew.serves c.window.new.crew k.0)
+          v.frame done.lead;
       same = g.met.C.WatchCrew.same_more c.args.crew.now c.loop-begin.crew c.window.new.crew v.same done.same;
       stands = handed.stands;
       none = handed.none;

@@ -1,5 +1,6 @@
 use Rattle.std.proofs.Common.{◌≡◌, ℕ, ◌-◌, List, []}
 use Rattle.srm_interfaces.specs.declared.sink.Stage.TheVariants.{Live}
+use Rattle.srm_interfaces.specs.Watches.{MayLead}
 use Rattle.srm_model.specs.World.{World}
 use Rattle.srm_model.specs.WindowChains.{window_jobs}
 use Rattle.srm_engine.specs.WindowEngines.{BeginsNext, OpensAt, ComesTo, frame_of, rule_by}
@@ -9,8 +10,7 @@ use Rattle.srm_engine.proofs.watch_engine.WatchEngine.stream.Given as goal
 -- the sink took the rows of the windows so far, for which the crew was handed their jobs, and what is kept now is of none
 abbrev pub invariant-loop-begin : goal.invariant-loop-begin
 invariant-loop-begin g l = record {
-  ready : g.C.WatchCrew.ready l.crew;
-  serves : g.C.WatchCrew.serves l.crew l.fn.self.engine.session.scenario.now l.fn.self.engine.session.net.now;
+  lead : MayLead g.C.WatchCrew.ready g.C.WatchCrew.serves l.crew l.fn.self.engine.session;
   same : g.C.WatchCrew.same l.fn.crew l.crew;
   stands : IsWatching g.M.Participant.plain l.ran;
   none : KeepsRows (g.W.Watch.keeps l.watch) l.ran [];

@@ -1,6 +1,7 @@
 use Rattle.std.proofs.Common.{◌∙◌, ◌<◌, ℕ, List, sym, ◌++◌, ◌∷◌, [], arith, ap, subst, refl}
 use Rattle.srm_scenario.specs.declared.session.Session.{Session}
 use Rattle.srm_member.specs.declared.row.Row.{Row}
+use Rattle.srm_interfaces.specs.Watches.{MayLead}
 use Rattle.srm_engine.specs.Starts.{setting_on}
 use Rattle.srm_engine.specs.declared.ends.Ends.{Ends}
 use Rattle.srm_engine.specs.Ends.{ends_rule}
@@ -16,8 +17,7 @@ use Rattle.srm_engine.proofs.watch_engine.WatchEngine.windows.Goals as goal
 
 pub loop-begin-init : goal.loop-begin-init
 loop-begin-init g c = record {
-  ready = c.requires.ready;
-  serves = c.requires.serves;
+  lead = c.requires.lead;
   stands = c.requires.stands;
   frame = refl;
   next = c.begin-begin.ensures;
@@ -31,10 +31,10 @@ loop-begin-init g c = record {
       );
 }
 
-pub window-requires-clause-serves : goal.window-requires-clause-serves
-window-requires-clause-serves g c =
-    subst (λ (k : Session × ℕ × Ends). g.C.WatchCrew.serves c.loop-begin.crew k.0.scenario.now k.0.net.now)
-    (sym c.loop-begin.invariant.frame) c.loop-begin.invariant.serves
+pub window-requires-clause-lead : goal.window-requires-clause-lead
+window-requires-clause-lead g c =
+    subst (λ (k : Session × ℕ × Ends). MayLead g.C.WatchCrew.ready g.C.WatchCrew.serves c.loop-begin.crew k.0)
+    (sym c.loop-begin.invariant.frame) c.loop-begin.invariant.lead
 
 pub window-requires-clause-early : goal.window-requires-clause-early
 window-requires-clause-early g c =
@@ -43,10 +43,10 @@ window-requires-clause-early g c =
     let early : c.loop-begin.begin < c.until-until.result = c.loop-begin-test.true in
     omega (arith, same)
 
-pub returns-in-Err-clause-serves : goal.returns-in-Err-clause-serves
-returns-in-Err-clause-serves g c =
-    subst (λ (k : Session × ℕ × Ends). g.C.WatchCrew.serves c.window.new.crew k.0.scenario.now k.0.net.now)
-    c.loop-begin.invariant.frame c.in-Err.ensures.serves
+pub returns-in-Err-clause-lead : goal.returns-in-Err-clause-lead
+returns-in-Err-clause-lead g c =
+    subst (λ (k : Session × ℕ × Ends). MayLead g.C.WatchCrew.ready g.C.WatchCrew.serves c.window.new.crew k.0)
+    c.loop-begin.invariant.frame c.in-Err.ensures.lead
 
 pub returns-in-Err-clause-windows : goal.returns-in-Err-clause-windows
 returns-in-Err-clause-windows g c = λ seed h none.
@@ -65,9 +65,8 @@ loop-begin-smaller g c =
 
 pub loop-begin-preserved : goal.loop-begin-preserved
 loop-begin-preserved g c = record {
-  ready = c.in-Ok.ensures.ready;
-  serves = subst (λ (k : Session × ℕ × Ends). g.C.WatchCrew.serves c.window.new.crew k.0.scenario.now k.0.net.now)
-      c.loop-begin.invariant.frame c.in-Ok.ensures.serves;
+  lead = subst (λ (k : Session × ℕ × Ends). MayLead g.C.WatchCrew.ready g.C.WatchCrew.serves c.window.new.crew k.0)
+      c.loop-begin.invariant.frame c.in-Ok.ensures.lead;
   stands = c.in-Ok.ensures.stands;
   frame = c.in-Ok.ensures.frame ∙ c.loop-begin.invariant.frame;
   next = c.begin-begin-in-loop-begin.ensures;

@@ -1,4 +1,5 @@
 use Rattle.std.proofs.Common.{◌≡◌, ℕ, ◌-◌, List, []}
+use Rattle.srm_interfaces.specs.Watches.{MayLead}
 use Rattle.srm_model.specs.World.{World}
 use Rattle.srm_model.specs.WindowChains.{window_jobs}
 use Rattle.srm_engine.specs.WindowEngines.{BeginsNext, OpensAt, ComesTo, frame_of, rule_by}
@@ -8,8 +9,7 @@ use Rattle.srm_engine.proofs.watch_engine.WatchEngine.windows.Given as goal
 -- what is kept keeps the rows of the windows so far, for which the crew was handed their jobs
 abbrev pub invariant-loop-begin : goal.invariant-loop-begin
 invariant-loop-begin g l = record {
-  ready : g.C.WatchCrew.ready l.crew;
-  serves : g.C.WatchCrew.serves l.crew l.fn.self.engine.session.scenario.now l.fn.self.engine.session.net.now;
+  lead : MayLead g.C.WatchCrew.ready g.C.WatchCrew.serves l.crew l.fn.self.engine.session;
   stands : IsWatching g.M.Participant.plain l.ran;
   frame : frame_of l.ran.engine ≡ frame_of l.fn.self.engine;
   next : BeginsNext g.M.Participant.plain l.ran.engine l.begin;
