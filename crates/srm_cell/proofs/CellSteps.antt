@@ -7,7 +7,7 @@ use Rattle.std.specs.Cmp.Lexicographic.{nat_list_cmp_total}
 use Rattle.srm_cell.proofs.CellLemmas.{first_timer, keep, next_event_is, outcome_map, own_step_late, stepped_map}
 use Rattle.srm_cell.specs.Cells.{Done, Event, Full, Idle, PlainCell, Spent, StepOutcome, Stepped, before, earlier, first_arrival}
 use Rattle.srm_cell.specs.Cells.{first_mark, handle, hear, hear_at, next_event, own_step, step_at}
-use Rattle.srm_cell.specs.Flights.{flight_cmp, numbers_of_flight}
+use Rattle.srm_cell.specs.Flights.{flight_cmp}
 use Rattle.srm_cell.specs.OwnRuns.{told_to}
 use Rattle.srm_cell.specs.Setting.{Traffic, arrival_of}
 use Rattle.srm_cell.specs.declared.flight.Flight.{Flight}
@@ -82,7 +82,7 @@ own_step_is till m c d e = subst (IsStepOf m) e (own_step_of till m c)
 -- ---- two packets of different senders may be heard in either order
 
 pub flight_total : IsTotalOrder flight_cmp
-flight_total = on_total numbers_of_flight nat_list_cmp_total
+flight_total = on_total (λ (f : Flight). f.arrival ∷ f.packet.id.sender ∷ f.packet.id.count ∷ []) nat_list_cmp_total
 
 hear_at_comm : (p q : Packet) (a b : Option ℕ) (c : PlainCell) → p.id.sender ≢ q.id.sender → hear_at p a (hear_at q b c)
     ≡ hear_at q b (hear_at p a c)

@@ -11,7 +11,7 @@ use Rattle.srm_ledger.specs.declared.kind.Kind.{Kind}
 use Rattle.srm_ledger.specs.declared.kind.Kind.TheVariants as kind
 use Rattle.srm_ledger.specs.Counts.{place_of}
 use Rattle.srm_cell.specs.Setting.{Traffic}
-use Rattle.srm_cell.specs.Crossings.{kind_of, crossed, dropped, crossings_at}
+use Rattle.srm_cell.specs.Crossings.{kind_of, crossed, crossings_at}
 use Rattle.srm_cell.specs.Totalled.{numbers_of, bump}
 
 -- ---- one link
@@ -51,7 +51,7 @@ module _ (s : Traffic) (ps : List Packet) (p : Packet) where
       ≡ crossed s k l ps + one_if ((place_of (kind_of p.body) == place_of k) && s.crosses p l)
   crossed_more k l = count_last (λ q. (place_of (kind_of q.body) == place_of k) && s.crosses q l) ps p
 
-  dropped_more : (l : ℕ) → dropped s l all ≡ dropped s l ps + one_if (s.drops_at p l)
+  dropped_more : (l : ℕ) → count_by (λ q. s.drops_at q l) all ≡ count_by (λ q. s.drops_at q l) ps + one_if (s.drops_at p l)
   dropped_more l = count_last (λ q. s.drops_at q l) ps p
 
   -- the five numbers of each of n links from l on; those of links below k with the packet
@@ -88,7 +88,7 @@ module _ (s : Traffic) (ps : List Packet) (p : Packet) where
       ≡ crossings_at s all l ++ t
   here l t = head p.body (s.crosses p l) (s.drops_at p l) (crossed s kind.Drawop l ps) (crossed s kind.Request l ps)
       (crossed s kind.Repair l ps) (crossed s kind.Session l ps)
-      (dropped s l ps) t
+      (count_by (λ q. s.drops_at q l) ps) t
       ∙ (λ i. sym (crossed_more kind.Drawop l) i ∷ sym (crossed_more kind.Request l) i ∷ sym (crossed_more kind.Repair l) i
       ∷ sym (crossed_more kind.Session l) i ∷ sym
       (dropped_more l) i ∷ t)
@@ -117,10 +117,11 @@ module _ (s : Traffic) (ps : List Packet) (p : Packet) where
       ∙ ap (bump (s.drops_at p (l + suc j)) (5 * suc j + 4))
       (skip (s.crosses p (l + suc j)) j (place_of (kind_of p.body)) (crossed s kind.Drawop l all) (crossed s kind.Request l all)
       (crossed s kind.Repair l all)
-      (crossed s kind.Session l all) (dropped s l all) (mixed (l + suc j) (l + 1) n))
+      (crossed s kind.Session l all) (count_by (λ q. s.drops_at q l) all) (mixed (l + suc j) (l + 1) n))
       ∙ skip (s.drops_at p (l + suc j)) j 4 (crossed s kind.Drawop l all) (crossed s kind.Request l all) (crossed s kind.Repair l all)
       (crossed s kind.Session l all)
-      (dropped s l all) (bump (s.crosses p (l + suc j)) (5 * j + place_of (kind_of p.body)) (mixed (l + suc j) (l + 1) n))
+      (count_by (λ q. s.drops_at q l) all)
+      (bump (s.crosses p (l + suc j)) (5 * j + place_of (kind_of p.body)) (mixed (l + suc j) (l + 1) n))
       ∙ ap (λ t. crossings_at s all l ++ t)
       (ap (λ m. bump (s.drops_at p m) (5 * j + 4) (bump (s.crosses p m) (5 * j + place_of (kind_of p.body)) (mixed m (l + 1) n))) e
       ∙ more (l + 1) j n (omega arith) ∙ ap (λ m. mixed (m + 1) (l + 1) n) (sym e))

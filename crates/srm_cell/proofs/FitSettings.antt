@@ -1,6 +1,6 @@
 -- The setting of an accepted scenario is fit.
-use Rattle.std.proofs.Common.{◌≡◌, ℕ, ◌<◌, List, [], ◌∷◌, refl, sym, ap, ◌∙◌, subst, arith, Some, None}
-use Rattle.std.proofs.Common.{unwrap_or, length, slice_get, Less}
+use Rattle.std.proofs.Common.{◌≡◌, ℕ, ◌<◌, List, [], ◌∷◌, refl, sym, subst, arith, Some, None}
+use Rattle.std.proofs.Common.{length, slice_get, Less}
 use Rattle.std.proofs.lemmas.List.{length-map}
 use Rattle.std.proofs.lemmas.Option.{slice_get-get_or}
 use Rattle.srm_net.specs.declared.rank.Rank.TheVariants.{Leave}
@@ -14,14 +14,14 @@ use Rattle.srm_scenario.specs.Accepted.{IsAccepted}
 use Rattle.srm_scenario.specs.Scripts.{IsMark, IsScript}
 use Rattle.srm_scenario.proofs.ScriptLemmas.{scripts_fit}
 use Rattle.srm_member.proofs.AllIn.{AllIn, AllIn-at_places}
-use Rattle.srm_cell.specs.Setting.{HasOwnRanks, EndsAtLeave, cause_of_mark, member_at, no_member}
+use Rattle.srm_cell.specs.Setting.{HasOwnRanks, EndsAtLeave, cause_of_mark, member_at}
 use Rattle.srm_cell.specs.Laws.{SettingsAreFit}
 
 -- ---- a member's script
 
 module _ (until : ℕ) (k : MemberSpec) where
   -- a mark without a cause is a leave
-  leave_rank : (x : Mark) → IsMark until k x → cause_of_mark x ≡ None → x.rank ≡ Leave
+  leave_rank : (x : Mark) → IsMark until k x → cause_of_mark x.rank x ≡ None → x.rank ≡ Leave
   leave_rank x h none = grind arith
 
   ranks_of : (xs : List Mark) → AllIn (IsMark until k) xs → HasOwnRanks xs
@@ -48,10 +48,9 @@ module _ (until : ℕ) (k : MemberSpec) where
 -- ---- the members of a scenario
 
 module _ (s : PlainScenario) (a : IsAccepted s) where
-  present : (m : ℕ) → m < length s.members → slice_get s.members m ≡ Some (member_at s m)
+  pub present : (m : ℕ) → m < length s.members → slice_get s.members m ≡ Some (member_at s m)
   present m lt =
-      let e = slice_get-get_or s.members m no_member lt in
-      e ∙ ap Some (sym (ap (λ o. unwrap_or o no_member) e))
+      let e = slice_get-get_or s.members m (member_at s m) lt in rw e refl
 
   script_is : (m : ℕ) → m < length s.members → IsScript s.until (member_at s m) (script_of s m)
   script_is m lt = scripts_fit s a m (member_at s m) (present m lt)

@@ -81,7 +81,8 @@ not_spent e a h = handle_not_spent e e.rest.holds e.cause a h
 
 -- a leave is the first mark of the script
 abbrev LeaveOf : ℕ → PlainCell → Event → Type 0
-LeaveOf m c e = e.cause ≡ None → (k : Mark) × (ks : List Mark) × (c.script ≡ k ∷ ks) × (cause_of_mark k ≡ None) × (e.rest.inbox ≡ c.inbox)
+LeaveOf m c e = e.cause ≡ None
+    → (k : Mark) × (ks : List Mark) × (c.script ≡ k ∷ ks) × (cause_of_mark k.rank k ≡ None) × (e.rest.inbox ≡ c.inbox)
     × (e.rest.script ≡ ks) × (e.key ≡ mark_key m k)
 
 arrival_leaves : (m : ℕ) (c : PlainCell) (fs : List Flight) → OnEvent (LeaveOf m c) (first_arrival m c fs)
@@ -100,7 +101,7 @@ next_leaves : (m : ℕ) (c : PlainCell) → OnEvent (LeaveOf m c) (next_event m 
 next_leaves m c = grind (arith, next_event_is, earlier_on, arrival_leaves, mark_leaves, timer_leaves)
 
 -- a mark without a cause is a leave
-leave_rank : (k : Mark) → is_mark_rank k.rank ≡ true → cause_of_mark k ≡ None → k.rank ≡ Leave
+leave_rank : (k : Mark) → is_mark_rank k.rank ≡ true → cause_of_mark k.rank k ≡ None → k.rank ≡ Leave
 leave_rank k own none = grind arith
 
 -- an arrival at the tick of a leave, or before it, comes before the leave

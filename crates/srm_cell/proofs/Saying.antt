@@ -1,5 +1,5 @@
 -- What a member's answer makes of an event.
-use Rattle.std.proofs.Common.{arith}
+use Rattle.std.proofs.Common.{arith, []}
 use Rattle.std.proofs.Common.{◌≡◌, ℕ, ◌+◌, cond, Option, Some, None, Ok, Err, refl, sym, ap, ◌∙◌, subst, lt-ltb, le-ltb}
 use Rattle.srm_net.specs.declared.key.Key.{Key}
 use Rattle.srm_net.specs.declared.packet.Body.{Body}
@@ -11,10 +11,12 @@ use Rattle.srm_member.specs.declared.fault.MemberFault.TheVariants as member
 use Rattle.srm_member.specs.Record.{Record, Active, Gone}
 use Rattle.srm_member.specs.React.{Reaction}
 use Rattle.srm_member.specs.Reacts.{Reacts, Finishes}
-use Rattle.srm_cell.specs.Cells.{PlainCell, Event, Full, Spent, Done, handle, sending_step, row_of, packet_of, parting, known_of}
+use Rattle.srm_cell.specs.Cells.{PlainCell, Event, Full, Spent, Done, handle, sending_step, row_of, packet_of, known_of}
 use Rattle.srm_cell.specs.declared.fault.CellFault.{CellFault}
 use Rattle.srm_cell.specs.InnerSteps.{Packs}
 use Rattle.srm_cell.specs.Views.{HasWork, Refuses, known_in}
+use Rattle.srm_member.specs.declared.told.Told.TheVariants.{Parted}
+use Rattle.srm_member.specs.declared.row.Row.{Row}
 
 -- a member that is gone has no answer
 gone_has_none : (e : Event) (c : Option Cause) → handle e None c ≡ Spent
@@ -50,18 +52,21 @@ module _ {B : Type 0} (f : B → Record) (o : Option B) where
       abbrev leave : Event
       leave = record { key = key; cause = None; rest = rest }
 
+      abbrev farewell : Row
+      farewell = row_of leave (record { told = Parted; lost = []; body = None; adapted = None }) None
+
       pub cannot_leave : (s : Record) → Finishes (f b) (Err member.Spent) s → handle leave (known_in f o) None ≡ Spent
       cannot_leave s h = no_answer leave None (ended_is_gone (f b) s h)
 
       leaves_so : (r s : Record) (x : Exit) → Finishes r (Ok x) s → handle leave (known_of r) None
-          ≡ Done (record { cell = record rest { holds = None; exit = Some x }; row = row_of leave parting None })
+          ≡ Done (record { cell = record rest { holds = None; exit = Some x }; row = farewell })
       unfolding handle
       leaves_so (Active m) s x h =
-          ap (λ y. Done (record { cell = record rest { holds = None; exit = Some y }; row = row_of leave parting None })) (sym h.0)
+          ap (λ y. Done (record { cell = record rest { holds = None; exit = Some y }; row = farewell })) (sym h.0)
       leaves_so (Gone g) s x h = absurd h
 
       pub left : (s : Record) (x : Exit) → Finishes (f b) (Ok x) s → handle leave (known_in f o) None
-          ≡ Done (record { cell = record rest { holds = None; exit = Some x }; row = row_of leave parting None })
+          ≡ Done (record { cell = record rest { holds = None; exit = Some x }; row = farewell })
       left s x h = ap (λ k. handle leave k None) box ∙ leaves_so (f b) s x h
 
       wants_so : (r s : Record) → Finishes r (Err member.NoMemory) s → HasWork (handle leave (known_of r) None)

@@ -2,7 +2,7 @@
 use Rattle.std.proofs.Common.{◌≡◌, ℕ, zero, suc, ◌+◌, ◌*◌, ◌<◌, ◌≤◌, ◌^◌, Bool, true, false, cond, ◌&&◌, ◌==◌, List, [], ◌∷◌, ◌++◌}
 use Rattle.std.proofs.Common.{length, refl, sym, ap, ◌∙◌, subst, slice_index, nat_lt, lt-ltb, le-ltb, arith, add-zero}
 use Rattle.std.proofs.Common.{zero-add, le_refl, length-append}
-use Rattle.std.specs.List.{flat_map, range_with_len}
+use Rattle.std.specs.List.{flat_map, range_with_len, count_by}
 use Rattle.std.proofs.lemmas.List.{get_or-set_other}
 use Rattle.std.proofs.lemmas.List.Sums.{count_by-le-length}
 use Rattle.srm_net.specs.declared.packet.Body.{Body}
@@ -19,7 +19,7 @@ use Rattle.srm_ledger.specs.Counts.{counted_at, more_by, nothing_at, place_at, p
 use Rattle.srm_cell.specs.declared.everywhere.Everywhere.{Everywhere}
 use Rattle.srm_cell.specs.declared.tally.Tally.{Tally}
 use Rattle.srm_cell.specs.Setting.{Traffic, traffic_of, IsSpreadOf}
-use Rattle.srm_cell.specs.Crossings.{kind_of, crossed, dropped, crossings_at, added_each}
+use Rattle.srm_cell.specs.Crossings.{kind_of, crossed, crossings_at, added_each}
 use Rattle.srm_cell.specs.Totalled.{numbers_of, CountsBesides, MayCount}
 use Rattle.srm_cell.specs.Tallies.{number_of, none_everywhere, one_everywhere, with_everywhere, everywhere_at, tallied, Tallies}
 use Rattle.srm_cell.proofs.CrossingLemmas.{links_add}
@@ -187,14 +187,16 @@ module _ (s : Traffic) (net : Network) (e : Everywhere) (some : List Packet) whe
 
   before : (b : Bool) (l j : ℕ) (t : List ℕ) → with_everywhere e (suc j) (five b l ++ t) ≡ five b l ++ with_everywhere e j t
   before false l j t = skip_all e j (crossed s kind.Drawop l some) (crossed s kind.Request l some) (crossed s kind.Repair l some)
-      (crossed s kind.Session l some) (dropped s l some) t
+      (crossed s kind.Session l some) (count_by (λ q. s.drops_at q l) some) t
   before true l j t = by (joins_members net l) refl
     where
       by : (b : Bool) → joins_members net l ≡ b → with_everywhere e (suc j) (five true l ++ t) ≡ five true l ++ with_everywhere e j t
       by true h = rw h (skip_all e j (crossed s kind.Drawop l some + e.drawops) (crossed s kind.Request l some + e.requests)
-          (crossed s kind.Repair l some + e.repairs) (crossed s kind.Session l some + e.sessions) (dropped s l some + 0) t)
+          (crossed s kind.Repair l some + e.repairs) (crossed s kind.Session l some + e.sessions)
+          (count_by (λ q. s.drops_at q l) some + 0) t)
       by false h = rw h (skip_all e j (crossed s kind.Drawop l some + 0) (crossed s kind.Request l some + 0)
-          (crossed s kind.Repair l some + 0) (crossed s kind.Session l some + 0) (dropped s l some + 0) t)
+          (crossed s kind.Repair l some + 0) (crossed s kind.Session l some + 0)
+          (count_by (λ q. s.drops_at q l) some + 0) t)
 
   more : (l j n : ℕ) → j < n → joins_members net (l + j) ≡ true
       → with_everywhere e j (put_below (l + j) l n) ≡ put_below (l + j + 1) l n

@@ -23,10 +23,10 @@ use Rattle.srm_member.specs.declared.row.Row.{Row}
 use Rattle.srm_member.specs.declared.due.Due.{Due}
 use Rattle.srm_member.specs.declared.exit.Exit.{Exit}
 use Rattle.srm_member.specs.declared.react.React.{React}
-use Rattle.srm_member.specs.Record.{Record, Active, Gone, MemberState, opening_record, timers_of, earliest, exit_of}
+use Rattle.srm_member.specs.Record.{Record, Active, Gone, MemberState, timers_of, earliest, exit_of, opening_state}
 use Rattle.srm_member.specs.Record.{count_if}
 use Rattle.srm_net.specs.Roles.{is_listener}
-use Rattle.srm_member.specs.React.{Reaction, react}
+use Rattle.srm_member.specs.React.{Reaction, react, quietly}
 use Rattle.srm_cell.specs.declared.flight.Flight.{Flight}
 use Rattle.srm_cell.specs.Setting.{Traffic, Setting, arrival_of, cause_of_mark}
 use Rattle.srm_cell.specs.Flights.{flight_cmp}
@@ -68,13 +68,15 @@ pub record OwnCell : Type 0 where
   pub member : ℕ
   pub cell : PlainCell
 
--- a cell at the beginning, with a record, a script and a packet count
-abbrev pub new_cell : Record → List Mark → ℕ → PlainCell
-new_cell r script sent = record { holds = known_of r; sent = sent; inbox = []; script = script; exit = None }
-
 -- member m's cell at the beginning of a run
 abbrev pub opening_cell : Setting → ℕ → PlainCell
-opening_cell s m = new_cell (opening_record (s.fixed m)) (s.script m) 0
+opening_cell s m = record {
+  holds = Some (opening_state (s.fixed m));
+  sent = 0;
+  inbox = [];
+  script = s.script m;
+  exit = None;
+}
 
 -- a packet's flight to this cell's member, if it has one, joins the inbox
 abbrev pub hear_at : Packet → Option ℕ → PlainCell → PlainCell
@@ -141,7 +143,7 @@ abbrev pub first_mark : ℕ → PlainCell → List Mark → Option Event
 first_mark m c [] = None
 first_mark m c (k ∷ ks) = Some (record {
   key = mark_key m k;
-  cause = cause_of_mark k;
+  cause = cause_of_mark k.rank k;
   rest = record c { script = ks };
 })
 
@@ -210,17 +212,12 @@ word_of (Some (Answer n)) = word.Answer
 word_of (Some (Draw page ink)) = word.Draw
 word_of (Some Report) = word.Report
 
--- a draw is about what it drew, if it drew
-abbrev pub drawn : Option Body → About
-drawn (Some (Drawop n ink)) = Named n
-drawn _ = Nothing
-
--- what an event is about
+-- what an event is about: a draw is about what it drew, if it drew
 abbrev pub about_of : Option Cause → Option Body → About
 about_of (Some (Arrival p)) body = Of p
 about_of (Some (Ask n)) body = Named n
 about_of (Some (Answer n)) body = Named n
-about_of (Some (Draw page ink)) body = drawn body
+about_of (Some (Draw page ink)) (Some (Drawop n drawn)) = Named n
 about_of _ body = Nothing
 
 -- the row of an event, with the member's answer and the packet that it sent
@@ -253,16 +250,12 @@ sending_step e r (Some body) =
     })
     else Full
 
--- what a leave tells
-abbrev pub parting : React
-parting = record { told = Parted; lost = []; body = None; adapted = None }
-
 -- the member handles the event. At its leave it ends; once it is gone it has no answer
 unfoldable pub handle : Event → Option MemberState → Option Cause → StepOutcome Stepped
 handle e (Some m) (Some cause) = let r = react m e.key.time cause in sending_step e r r.answer.body
 handle e (Some m) None = Done (record {
   cell = record e.rest { holds = None; exit = Some (exit_of m) };
-  row = row_of e parting None;
+  row = row_of e (quietly m Parted []).answer None;
 })
 handle e None cause = Spent
 

@@ -25,15 +25,11 @@ kind_of (body.Session hs) = Session
 abbrev pub crossed : Traffic → Kind → ℕ → List Packet → ℕ
 crossed t kind l ps = count_by (λ p. (place_of (kind_of p.body) == place_of kind) && t.crosses p l) ps
 
--- how many packets are dropped at link l
-abbrev pub dropped : Traffic → ℕ → List Packet → ℕ
-dropped t l ps = count_by (λ p. t.drops_at p l) ps
-
 -- of link l: data, requests, repairs and session messages that cross it, and packets dropped at it
 abbrev pub crossings_at : Traffic → List Packet → ℕ → List ℕ
 crossings_at t ps l =
     crossed t Drawop l ps ∷ crossed t Request l ps ∷ crossed t Repair l ps ∷ crossed t Session l ps
-    ∷ dropped t l ps ∷ []
+    ∷ count_by (λ p. t.drops_at p l) ps ∷ []
 
 -- two lists of numbers, added number by number
 abbrev pub added_each : List ℕ → List ℕ → List ℕ

@@ -8,13 +8,11 @@ use Rattle.srm_net.specs.declared.packet.Packet.{Packet}
 use Rattle.srm_net.specs.Orders.{place}
 use Rattle.srm_cell.specs.declared.flight.Flight.{Flight}
 
--- a flight as its numbers: when it arrives, and its packet's sender and count
-abbrev pub numbers_of_flight : Flight → List ℕ
-numbers_of_flight f = f.arrival ∷ f.packet.id.sender ∷ f.packet.id.count ∷ []
-
--- flights are compared by arrival, sender and count
+-- flights are compared by arrival, and by their packets' sender and count
 abbrev pub flight_cmp : Flight → Flight → Ordering
-flight_cmp f g = slice_cmp nat_cmp (numbers_of_flight f) (numbers_of_flight g)
+flight_cmp f g =
+    slice_cmp nat_cmp (f.arrival ∷ f.packet.id.sender ∷ f.packet.id.count ∷ [])
+    (g.arrival ∷ g.packet.id.sender ∷ g.packet.id.count ∷ [])
 
 -- what the order of flights goes by: when one arrives, and which packet it brings
 abbrev pub turn_of : Flight → ℕ × PacketId

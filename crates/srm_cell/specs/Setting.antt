@@ -25,7 +25,6 @@ use Rattle.srm_member.specs.declared.fixed.Fixed.{Fixed}
 use Rattle.srm_member.specs.declared.backoff.BackoffFactor.TheVariants.{Two, Three}
 use Rattle.srm_member.specs.declared.steps.Steps.TheVariants.{One}
 use Rattle.srm_member.specs.declared.steps.Steps.TheVariants as steps
-use Rattle.srm_member.specs.Intervals.{Limits}
 
 -- what becomes of packets. Events before `until` are handled. Of each member: when it joins and when it leaves. Of each
 -- two members: how long a packet is on its way from the one to the other. Of each packet: whom it reaches, which links
@@ -49,17 +48,10 @@ pub record Setting : Type 0 where
 
 -- ---- the setting of a scenario
 
--- in place of a member that is not there
-abbrev pub no_member : MemberSpec
-no_member = record { node = 0; role = Receiver; stream = 0; join = 0; leave = None; pages = []; scope = 0 }
-
--- member m of a scenario
+-- member m of a scenario, and any member where there is none
 abbrev pub member_at : PlainScenario → ℕ → MemberSpec
-member_at s m = unwrap_or (slice_get s.members m) no_member
-
--- a constant of timers, with the least and the most that it is adapted to
-abbrev pub limits_of : ℕ → ℕ → ℕ → Limits
-limits_of first least most = record { first = first; least = least; most = most }
+member_at s m = unwrap_or (slice_get s.members m)
+    (record { node = 0; role = Receiver; stream = 0; join = 0; leave = None; pages = []; scope = 0 })
 
 -- the part of member m's record that never changes
 abbrev pub fixed_of : PlainScenario → Network → ℕ → ℕ → Fixed
@@ -67,10 +59,10 @@ fixed_of s net seed m = record {
   member = m;
   role = (member_at s m).role;
   backoff = if s.room.backoff == 3 then Three else Two;
-  c1 = limits_of s.constants.c1 s.room.least.c1 s.room.most.c1;
-  c2 = limits_of s.constants.c2 s.room.least.c2 s.room.most.c2;
-  d1 = limits_of s.constants.d1 s.room.least.d1 s.room.most.d1;
-  d2 = limits_of s.constants.d2 s.room.least.d2 s.room.most.d2;
+  c1 = record { first = s.constants.c1; least = s.room.least.c1; most = s.room.most.c1 };
+  c2 = record { first = s.constants.c2; least = s.room.least.c2; most = s.room.most.c2 };
+  d1 = record { first = s.constants.d1; least = s.room.least.d1; most = s.room.most.d1 };
+  d2 = record { first = s.constants.d2; least = s.room.least.d2; most = s.room.most.d2 };
   dist = half_rounds_from net m;
   hops = hops_from net m;
   scope = (member_at s m).scope;
@@ -117,15 +109,11 @@ arrival_of t p m =
 -- ---- marks
 
 -- what a mark of this rank is to a member: a join, a draw, a report, or, where there is no cause, its leave
-abbrev pub cause_by_rank : Rank → Mark → Option Cause
-cause_by_rank rank.Join k = Some Join
-cause_by_rank rank.Draw k = Some (Draw k.page k.ink)
-cause_by_rank rank.Report k = Some Report
-cause_by_rank _ k = None
-
--- what a mark of a script is to a member
-abbrev pub cause_of_mark : Mark → Option Cause
-cause_of_mark k = cause_by_rank k.rank k
+abbrev pub cause_of_mark : Rank → Mark → Option Cause
+cause_of_mark rank.Join k = Some Join
+cause_of_mark rank.Draw k = Some (Draw k.page k.ink)
+cause_of_mark rank.Report k = Some Report
+cause_of_mark _ k = None
 
 -- ---- fit settings
 
@@ -137,7 +125,7 @@ HasOwnRanks (k ∷ ks) = (is_mark_rank k.rank ≡ true) × HasOwnRanks ks
 -- a leave is at the time at which the member leaves, and no mark comes after it
 abbrev pub EndsAtLeave : Option ℕ → List Mark → Type 0
 EndsAtLeave leave [] = Unit {0}
-EndsAtLeave leave (k ∷ ks) = (cause_of_mark k ≡ None → (leave ≡ Some k.at) × (ks ≡ [])) × EndsAtLeave leave ks
+EndsAtLeave leave (k ∷ ks) = (cause_of_mark k.rank k ≡ None → (leave ≡ Some k.at) × (ks ≡ [])) × EndsAtLeave leave ks
 
 -- what the setting of a scenario has: members' numbers in their fixed parts, scripts in order, with nothing after a
 -- leave, and no two members at one place

@@ -1,5 +1,5 @@
 -- What is seen of a cell, and what its calls tell.
-use Rattle.std.specs.Prelude.{◌≡◌, ◌≤◌, ◌⊎◌, ℕ, List, length, Option, Some, None, Result, Ok, Err}
+use Rattle.std.specs.Prelude.{◌≡◌, ◌≤◌, ◌⊎◌, ℕ, List, length, Option, Some, None, Result, Ok, Err, []}
 use Rattle.std.specs.Global.{Box}
 use Rattle.srm_scenario.specs.declared.mark.Mark.{Mark}
 use Rattle.srm_member.specs.declared.exit.Exit.{Exit}
@@ -9,7 +9,7 @@ use Rattle.srm_cell.specs.declared.cell.Cell.{Cell}
 use Rattle.srm_cell.specs.declared.pending.Next.{Next}
 use Rattle.srm_cell.specs.declared.fault.CellFault.{CellFault}
 use Rattle.srm_cell.specs.declared.fault.CellFault.TheVariants as fault
-use Rattle.srm_cell.specs.Cells.{PlainCell, OwnCell, Event, StepOutcome, Idle, Full, Spent, Done, Stepped, new_cell}
+use Rattle.srm_cell.specs.Cells.{PlainCell, OwnCell, Event, StepOutcome, Idle, Full, Spent, Done, Stepped}
 use Rattle.srm_cell.specs.Cells.{next_event}
 use Rattle.srm_cell.specs.Cells.{own_step, time_of, known_of}
 use Rattle.srm_cell.specs.Pending.{IsNext}
@@ -102,7 +102,10 @@ module _ {M : Type 0} where
 
   -- the cell is that of a member with this record, at the beginning, with this script and packet count
   abbrev pub IsNew : (M → Record) → Record → List Mark → ℕ → Cell M → Type 0
-  IsNew f r script sent c = IsCell f c (record { member = (fixed_part r).member; cell = new_cell r script sent })
+  IsNew f r script sent c = IsCell f c (record {
+    member = (fixed_part r).member;
+    cell = record { holds = known_of r; sent = sent; inbox = []; script = script; exit = None };
+  })
 
   -- a sound cell becomes, by h, another of the same member
   abbrev pub Becomes : (M → Record) → (PlainCell → PlainCell) → Cell M → Cell M → Type 0

@@ -78,7 +78,7 @@ pub(crate) fn packet(
 
 // What a mark is to a member; at its leave nothing.
 pub(crate) fn cause_at(mark: Mark) -> Option<Cause>
-    ensures { result ≡ cause_of_mark mark }
+    ensures { result ≡ cause_of_mark mark.rank mark }
 {
     match mark.rank {
         Rank::Join => Some(Cause::Join),

@@ -1,5 +1,5 @@
 -- The cells at the beginning of a run.
-use Rattle.std.proofs.Common.{◌≡◌, ◌⊎◌, ℕ, zero, suc, ◌+◌, List, [], ◌∷◌, ◌++◌, length, refl}
+use Rattle.std.proofs.Common.{◌≡◌, ◌⊎◌, ℕ, zero, suc, ◌+◌, List, [], ◌∷◌, ◌++◌, length, refl, None}
 use Rattle.std.proofs.Common.{sym, ap, ◌∙◌, subst, map, arith, length-append, add-one, zero-add, Vec, Global}
 use Rattle.std.specs.List.{range_with_len}
 use Rattle.srm_net.specs.Network.{Network}
@@ -10,8 +10,8 @@ use Rattle.srm_member.specs.Record.{Record, opening_record, fixed_part}
 use Rattle.srm_cell.specs.declared.cell.Cell.{Cell}
 use Rattle.srm_cell.specs.Setting.{Setting, setting_of, fixed_of}
 use Rattle.srm_cell.specs.Crossings.{packets_of, crossings}
-use Rattle.srm_cell.specs.Cells.{PlainCell, new_cell, opening_cell}
-use Rattle.srm_cell.specs.Views.{IsCell}
+use Rattle.srm_cell.specs.Cells.{PlainCell, opening_cell, known_of}
+use Rattle.srm_cell.specs.Views.{IsCell, IsNew}
 use Rattle.srm_model.specs.World.{World, opening, opening_cells}
 use Rattle.srm_engine.specs.Seen.{AreCellsInOrder}
 use Rattle.srm_cell.specs.Totalled.{numbers_of}
@@ -51,11 +51,14 @@ module _ {M : Type 0} where
   pub opened_cell : (f : M → Record) (p : PlainScenario) (net : Network) (seed k : ℕ) (c : Cell M) (r : Record)
       (marks : List Mark)
       → r ≡ opening_record (fixed_of p net seed k) → marks ≡ script_of p k
-      → IsCell f c (record { member = (fixed_part r).member; cell = new_cell r marks 0 })
+      → IsNew f r marks 0 c
       → IsCell f c (record { member = k; cell = opening_cell (setting_of p net seed) k })
   opened_cell f p net seed k c r marks e h is = record {
     sound = is.sound;
-    is = is.is ∙ (λ i. record { member = (fixed_part (e i)).member; cell = new_cell (e i) (h i) 0 });
+    is = is.is ∙ (λ i. record {
+      member = (fixed_part (e i)).member;
+      cell = record { holds = known_of (e i); sent = 0; inbox = []; script = h i; exit = None };
+    });
   }
 
 one_more_cell : (s : Setting) (n i : ℕ) → opening_cells s (suc n) i ≡ opening_cells s n i ++ opening_cell s (i + n) ∷ []
@@ -134,7 +137,7 @@ module _ {M : Type 0} (f : M → Record) (p : PlainScenario) (net : Network) (se
   -- the cell of the next member is opened
   pub open_next : (m : M) (ms ns : List M) (v : Vec Mark Global) (vs ws : List (Vec Mark Global)) (cs : List (Cell M)) (c : Cell M)
       → ns ≡ m ∷ ms → ws ≡ v ∷ vs → OpenSoFar ns ws cs
-      → IsCell f c (record { member = (fixed_part (f m)).member; cell = new_cell (f m) v.items 0 })
+      → IsNew f (f m) v.items 0 c
       → OpenSoFar ms vs (cs ++ c ∷ [])
   open_next m ms ns v vs ws cs c e d before is =
       let k = length cs in

@@ -13,31 +13,32 @@ use Rattle.srm_member.specs.declared.cause.Cause.{Cause}
 use Rattle.srm_member.specs.declared.cause.Cause.TheVariants.{Join, Arrival, Ask, Answer, Draw, Report}
 use Rattle.srm_member.specs.declared.fixed.Fixed.{Fixed}
 use Rattle.srm_member.specs.declared.intervals.Intervals.{Intervals}
-use Rattle.srm_member.specs.Intervals.{Interval, Limits}
+use Rattle.srm_member.specs.Intervals.{Interval, Limits, hear_duplicate}
 use Rattle.srm_member.specs.IntervalLaws.{Change, changed, HasNoRoom}
 use Rattle.srm_member.specs.AdaptingLaws.{HasFixedTimers, IsAdaptedWithin, FixedTimersIgnoreWhatIsSeen}
 use Rattle.srm_member.specs.AdaptingLaws.{DifferInAdapted, FixedTimersAreToldAtJoinsAlone, ListenersTellNoIntervals}
 use Rattle.srm_member.specs.Record.{MemberState, Missing, Repairing, Progress, timers_of}
-use Rattle.srm_member.specs.React.{Reaction, has_entry, with_next_word, request_length, repair_length, back_off}
+use Rattle.srm_member.specs.React.{Reaction, has_entry, with_next_word, request_length, repair_length, back_off, distance_to}
 use Rattle.srm_member.specs.React.{with_progress, with_request_delay, with_losses_begun, with_mending_seen, with_repair_seen}
 use Rattle.srm_member.specs.React.{with_repairs_begun}
-use Rattle.srm_member.specs.React.{with_duplicate_request, with_request_first, is_at_rest, meet, lose_one, lose_from}
+use Rattle.srm_member.specs.React.{with_request_first, meet, lose_one, lose_from}
 use Rattle.srm_member.specs.React.{lose_below, lost_below, with_held, with_mended, hear_data, with_rest, hear_repair, with_repair_timer}
 use Rattle.srm_member.specs.React.{hear_request_by_entry, hear_request_of_held, hear_request_of_missing, hear_request}
 use Rattle.srm_member.specs.React.{after_entry}
 use Rattle.srm_member.specs.React.{lost_by_entry, hear_session, hear_body, expire_request_by_entry, expire_request, expire_repair_by_entry}
 use Rattle.srm_member.specs.React.{expire_repair, draw_operation, is_skip, react_active}
-use Rattle.srm_member.specs.React.{react_listener, react_telling, react, with_adapted, intervals_of, adapted_at}
-use Rattle.srm_member.specs.React.{telling_intervals, without, rest_of, begins_second_step, second_step_length, with_timer_set}
+use Rattle.srm_member.specs.React.{react_listener, react, intervals_of, adapted_at}
+use Rattle.srm_member.specs.React.{telling_intervals, without, rest_of, begins_second_step, with_timer_set}
 use Rattle.srm_member.specs.React.{with_second_step, after_repair, with_timer_taken_over}
 use Rattle.srm_member.specs.React.{hear_request_by_timer, with_repair_first, with_answer_seen, with_own_timer_ended}
-use Rattle.srm_member.specs.LocalRecovery.{serves, mark_from, mark_after, local_of, is_second_step, takes_over}
+use Rattle.srm_member.specs.LocalRecovery.{serves, mark_from, mark_after, local_of, is_second_step, takes_over, rests_for}
 use Rattle.srm_member.specs.declared.mark.RepairMark.{RepairMark}
 use Rattle.srm_member.specs.declared.resting.Resting.{Resting}
 use Rattle.srm_net.specs.declared.packet.Local.{Local}
 use Rattle.srm_member.proofs.LawProofs.{as_listener}
 use Rattle.srm_member.proofs.IntervalChanges.{Adapts, adapts_delay, adapts_losses, adapts_mending, adapts_repair_seen, adapts_repairs_begun}
 use Rattle.srm_member.proofs.IntervalChanges.{adapts_duplicate, adapts_request_first, adapts_same, adapts_back_off, adapts_repair_first}
+use Rattle.srm_member.specs.declared.react.React.{React}
 
 -- start and width are the first values
 abbrev AreFirst : Limits → Limits → Interval → Type 0
@@ -107,12 +108,9 @@ module _ (f : Fixed) (roomless : HasFixedTimers f) where
       → request_length (swapped a b m) i n ≡ request_length m i n
   request_same a b m l r i n = grind arith
 
-  repair_same : (a b : Interval) (m : MemberState) → Fit m → Fit (swapped a b m) → (who : ℕ)
-      → repair_length (swapped a b m) who ≡ repair_length m who
-  repair_same a b m l r who = grind arith
-
-  second_same : (a b : Interval) (m : MemberState) → Fit m → Fit (swapped a b m) → second_step_length (swapped a b m) ≡ second_step_length m
-  second_same a b m l r = grind arith
+  repair_same : (a b : Interval) (m : MemberState) → Fit m → Fit (swapped a b m) → (d : ℕ)
+      → repair_length (swapped a b m) d ≡ repair_length m d
+  repair_same a b m l r d = grind arith
 
   alike_choice : (b : Bool) (x y z w : MemberState) → Alike x z → Alike y w → Alike (cond b x y) (cond b z w)
   alike_choice true x y z w h g = h
@@ -152,7 +150,7 @@ module _ (f : Fixed) (roomless : HasFixedTimers f) where
         left = same_fit (with_repairs_begun m) (with_repair_timer at n who width m) refl refl refl l;
         right = same_fit q (with_repair_timer at n who width (swapped a b m)) refl refl refl r;
         same = ap (λ len. swapped a q.repair_interval (with_timer_set at n len who width m))
-            (repair_same a q.repair_interval (with_repairs_begun m) l r who);
+            (repair_same a q.repair_interval (with_repairs_begun m) l r (distance_to m who));
       })
 
   alike_second : (at : ℕ) (n : Name) (rest : Resting) (local : Option Local) (m k : MemberState) → Alike m k
@@ -163,9 +161,9 @@ module _ (f : Fixed) (roomless : HasFixedTimers f) where
       let set = λ (ticks : ℕ) (x : MemberState). with_timer_set at n ticks m.fixed.member (Some l.width) x in
       alike_choice (begins_second_step at n rest l m) _ _ _ _
       (record {
-        left = same_fit m (set (second_step_length m) m) refl refl refl h.left;
-        right = same_fit (swapped a b m) (set (second_step_length (swapped a b m)) (swapped a b m)) refl refl refl fit;
-        same = ap (λ len. swapped a b (set len m)) (second_same a b m h.left fit);
+        left = same_fit m (set (repair_length m 0) m) refl refl refl h.left;
+        right = same_fit (swapped a b m) (set (repair_length (swapped a b m) 0) (swapped a b m)) refl refl refl fit;
+        same = ap (λ len. swapped a b (set len m)) (repair_same a b m h.left fit 0);
       })
       (swap a b m h.left fit))
 
@@ -267,8 +265,11 @@ module _ (f : Fixed) (roomless : HasFixedTimers f) where
       alike_unplanned n _ _ (alike_resting at n m.fixed.member mark _ _
       (alike_answer_seen at r m (swapped a b m) (swap a b m h.left fit))))
 
-  alike_duplicate : (m k : MemberState) → Alike m k → Alike (with_duplicate_request m) (with_duplicate_request k)
-  alike_duplicate = alike_change with_duplicate_request (λ m. refl) (adapts_duplicate f Asks Answers asks answers)
+  abbrev hearing : MemberState → MemberState
+  hearing m = record m { request_interval = hear_duplicate m.request_interval }
+
+  alike_duplicate : (m k : MemberState) → Alike m k → Alike (hearing m) (hearing k)
+  alike_duplicate = alike_change hearing (λ m. refl) (adapts_duplicate f Asks Answers asks answers)
 
   alike_request_first : (e : Missing) (m k : MemberState) → Alike m k → Alike (with_request_first e m) (with_request_first e k)
   alike_request_first e = alike_change (with_request_first e) (λ m. refl) (adapts_request_first f Asks Answers asks answers e)
@@ -352,7 +353,7 @@ module _ (f : Fixed) (roomless : HasFixedTimers f) where
   alike_held at n who width m k h =
       by_swap (λ q. AlikeReaction (hear_request_of_held at n who width m) (hear_request_of_held at n who width q)) m k h (λ a b fit.
       let g = swap a b m h.left fit in
-      alike_if (is_at_rest at n who width m) _ _ _ _ (record { answer = refl; state = g })
+      alike_if (rests_for at m.fixed (rest_of n m) who width) _ _ _ _ (record { answer = refl; state = g })
       (alike_by_timer at n who width m (swapped a b m) (find name_cmp n m.repairs) g))
 
   request_alike : (at : ℕ) (n : Name) (who : ℕ) (width : Option ℕ) (a b : Interval) (m : MemberState) → Alike m (swapped a b m)
@@ -434,7 +435,7 @@ module _ (f : Fixed) (roomless : HasFixedTimers f) where
   told_if false x y z w h g = g
 
   told_quiet : (r s : Reaction) → AlikeReaction r s → AlikeTold r s
-  told_quiet r s h = record { answer = ap (λ a. with_adapted s.answer.adapted a) h.answer; state = h.state }
+  told_quiet r s h = record { answer = ap (λ (a : React). record a { adapted = s.answer.adapted }) h.answer; state = h.state }
 
   told_alike : (cause : Cause) (i j : Intervals) (r s : Reaction) → AlikeReaction r s
       → AlikeTold (telling_intervals cause i r) (telling_intervals cause j s)
@@ -461,7 +462,8 @@ module _ (f : Fixed) (roomless : HasFixedTimers f) where
   unfolding react
   react_tells_none at cause m h other =
       let after = alike_active at cause m.request_interval m.repair_interval m (swap m.request_interval m.repair_interval m h h) in
-      quiet_if (is_listener m.fixed.role) (react_listener m cause) (react_telling m at cause) (listener_tells_none m cause)
+      quiet_if (is_listener m.fixed.role) (react_listener m cause) (telling_intervals cause (intervals_of m) (react_active m at cause))
+      (listener_tells_none m cause)
       (none_at cause m (react_active m at cause).state h after.state.left other)
 
 -- a record within limits without room has the first constants

@@ -14,15 +14,15 @@ use Rattle.srm_member.specs.declared.due.Due.{Due}
 use Rattle.srm_member.specs.Timers.{timer_length}
 use Rattle.srm_member.specs.Record.{MemberState, timers_of, Missing, Repairing, Progress}
 use Rattle.srm_net.specs.Roles.{is_listener}
-use Rattle.srm_member.specs.React.{Reaction, without, has_entry, request_length, with_progress}
+use Rattle.srm_member.specs.React.{Reaction, without, has_entry, request_length, with_progress, repair_length}
 use Rattle.srm_member.specs.React.{meet, lose_one, lose_from, lose_below, hear_data, rest_of, with_mark, with_rest}
-use Rattle.srm_member.specs.React.{with_repair_seen, begins_second_step, second_step_length}
-use Rattle.srm_member.specs.React.{with_second_step, after_repair, hear_repair, is_skip, is_at_rest}
+use Rattle.srm_member.specs.React.{with_repair_seen, begins_second_step}
+use Rattle.srm_member.specs.React.{with_second_step, after_repair, hear_repair, is_skip}
 use Rattle.srm_member.specs.React.{hear_request_by_timer, with_answer_seen, expire_repair_by_entry}
 use Rattle.srm_member.specs.React.{hear_request_by_entry, hear_request_of_held, hear_request, after_entry, hear_session}
 use Rattle.srm_member.specs.React.{hear_body, expire_request}
 use Rattle.srm_member.specs.React.{expire_repair, draw_operation}
-use Rattle.srm_member.specs.LocalRecovery.{serves, mark_from, mark_after, local_of, takes_over, is_second_step}
+use Rattle.srm_member.specs.LocalRecovery.{serves, mark_from, mark_after, local_of, takes_over, is_second_step, rests_for}
 use Rattle.srm_member.specs.declared.mark.RepairMark.{RepairMark}
 use Rattle.srm_member.specs.declared.resting.Resting.{Resting}
 use Rattle.srm_net.specs.declared.packet.Local.{Local}
@@ -125,7 +125,7 @@ module _ (f : Fixed) (A : List (Name × Missing) → Type 0) (B : List (Name × 
         answers = put_answer n _ m.repairs (let one = length_pos m in omega arith) k.answers;
       }) k
     where
-      length_pos : (m : MemberState) → 1 ≤ second_step_length m
+      length_pos : (m : MemberState) → 1 ≤ repair_length m 0
       length_pos m = draw_pos _ _
 
   kept_after : (n : Name) (who : ℕ) (local : Option Local) (m : MemberState) → Kept m → Kept (after_repair at n who local m)
@@ -148,7 +148,7 @@ module _ (f : Fixed) (A : List (Name × Missing) → Type 0) (B : List (Name × 
 
   kept_held : (n : Name) (who : ℕ) (width : Option ℕ) (m : MemberState) → Kept m → Kept (hear_request_of_held at n who width m).state
   kept_held n who width m k =
-      kept_if (is_at_rest at n who width m) _ _ k (kept_timer n who width m (find name_cmp n m.repairs) refl k)
+      kept_if (rests_for at m.fixed (rest_of n m) who width) _ _ k (kept_timer n who width m (find name_cmp n m.repairs) refl k)
 
   kept_requested : (n : Name) (who : ℕ) (width : Option ℕ) (m : MemberState) → Kept m → Kept (hear_request at n who width m).state
   unfolding hear_request

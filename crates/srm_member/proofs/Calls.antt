@@ -6,7 +6,7 @@ use Rattle.srm_member.specs.declared.intervals.Intervals.{Intervals}
 use Rattle.srm_member.specs.declared.react.React.{React}
 use Rattle.srm_member.specs.Record.{MemberState, Record, Active}
 use Rattle.srm_net.specs.Roles.{is_listener}
-use Rattle.srm_member.specs.React.{react_active, intervals_of, adapted_at, adapted_since, telling_intervals, with_adapted}
+use Rattle.srm_member.specs.React.{react_active, intervals_of, adapted_at, adapted_since, telling_intervals}
 use Rattle.srm_member.specs.Reacts.{Reacts}
 use Rattle.srm_member.specs.Fit.{Gives, record_of}
 use Rattle.srm_member.proofs.LawProofs.{as_active}
@@ -22,5 +22,5 @@ pub call_gives : (r : Record) (gone : Bool) (m m2 : MemberState) (at : ℕ) (cau
     → record_of gone m ≡ r → gone ≡ false → is_listener m.fixed.role ≡ false
     → adapted_at cause (intervals_of m) (intervals_of m2) ≡ adapted_since (intervals_of m) (intervals_of m2)
     → Gives a m2 (react_active m at cause)
-    → before ≡ intervals_of m → b ≡ with_adapted (adapted_since before (intervals_of m2)) a → Reacts r at cause (Ok b) (Active m2)
+    → before ≡ intervals_of m → b ≡ record a { adapted = adapted_since before (intervals_of m2) } → Reacts r at cause (Ok b) (Active m2)
 call_gives r gone m m2 at cause a b before view on role since g were is = grind (arith, call_tells)

@@ -19,14 +19,15 @@ use Rattle.srm_member.specs.declared.told.Told.{Told}
 use Rattle.srm_member.specs.declared.told.Told.TheVariants.{Fresh, Fixed, Skip, Sent}
 use Rattle.srm_member.specs.Record.{MemberState, Missing, Repairing, Progress}
 use Rattle.srm_net.specs.Roles.{is_sender, is_listener}
-use Rattle.srm_member.specs.React.{Reaction, quietly, send_body, without, has_entry, back_off}
-use Rattle.srm_member.specs.React.{adapted_at, intervals_of, react_telling, with_adapted}
+use Rattle.srm_member.specs.React.{Reaction, quietly, send_body, without, has_entry, back_off, repair_length, telling_intervals}
+use Rattle.srm_member.specs.React.{adapted_at, intervals_of, after_repair_delay, with_held}
 use Rattle.srm_member.specs.declared.intervals.Intervals.{Intervals}
-use Rattle.srm_member.specs.React.{with_losses_begun, with_repair_seen, with_duplicate_request, rest_of}
-use Rattle.srm_member.specs.React.{with_request_first, with_answer_seen, with_own_timer_ended, is_at_rest, with_timer_taken_over}
-use Rattle.srm_member.specs.React.{hear_request_by_timer, begins_second_step, with_timer_set, second_step_length, with_second_step}
-use Rattle.srm_member.specs.React.{after_repair, interval_after_timer}
-use Rattle.srm_member.specs.LocalRecovery.{local_of, mark_after, mark_from, serves, takes_over, are_two}
+use Rattle.srm_member.specs.React.{with_losses_begun, with_repair_seen, rest_of}
+use Rattle.srm_member.specs.React.{with_request_first, with_answer_seen, with_own_timer_ended, with_timer_taken_over}
+use Rattle.srm_member.specs.React.{hear_request_by_timer, begins_second_step, with_timer_set, with_second_step}
+use Rattle.srm_member.specs.React.{after_repair}
+use Rattle.srm_member.specs.LocalRecovery.{local_of, mark_after, mark_from, serves, takes_over, are_two, rests_for}
+use Rattle.srm_member.specs.LocalRecovery.{is_second_step}
 use Rattle.srm_member.specs.declared.mark.RepairMark.{RepairMark}
 use Rattle.srm_member.specs.declared.resting.Resting.{Resting}
 use Rattle.srm_net.specs.declared.packet.Local.{Local}
@@ -34,13 +35,14 @@ use Rattle.srm_member.specs.React.{begins_at, with_progress, meet, lose_one, los
 use Rattle.srm_member.specs.React.{hear_data, with_rest, hear_repair, with_repair_timer, hear_request_by_entry}
 use Rattle.srm_member.specs.React.{hear_request_of_held, hear_request, page_heard}
 use Rattle.srm_member.specs.React.{after_entry, lost_by_entry, hear_session, hear_body, expire_request_by_entry, expire_request}
-use Rattle.srm_member.specs.React.{expire_repair_by_entry, expire_repair, own_page}
-use Rattle.srm_member.specs.React.{own_progress, with_drawn, draw_operation, is_skip, react_active}
+use Rattle.srm_member.specs.React.{expire_repair_by_entry, expire_repair}
+use Rattle.srm_member.specs.React.{own_progress, draw_operation, is_skip, react_active}
 use Rattle.srm_member.specs.React.{react_listener}
 use Rattle.srm_member.specs.React.{react}
 use Rattle.srm_member.proofs.TableChanges.{Has, has_put, has_more, has_cases, without_less}
 use Rattle.srm_member.proofs.TableChanges.{sorted_put, page_here, page_cases}
 use Rattle.srm_net.specs.Limits.{most_drawn}
+use Rattle.srm_member.specs.Intervals.{hear_duplicate}
 
 -- ---- changes that hold nothing new
 
@@ -268,7 +270,10 @@ grows_seen : (at : ℕ) (n : Name) (who : ℕ) (local : Option Local) (rest : Re
 grows_seen at n who local rest None m = grows_same m (with_repair_seen at n who local rest None m) refl refl refl refl refl
 grows_seen at n who local rest (Some r) m =
     grows_choice (serves m.fixed (mark_from m.fixed who local) r.requester r.width) m _ m
-    (grows_timers m (record m { repairs = without n m.repairs; repair_interval = interval_after_timer at r m }) refl refl refl refl
+    (grows_timers m (record m {
+      repairs = without n m.repairs;
+      repair_interval = cond (is_second_step m.fixed r) m.repair_interval (after_repair_delay at r m);
+    }) refl refl refl refl
     (λ k g. inl (without_less k n m.repairs g).1))
     (grows_same m m refl refl refl refl refl)
 
@@ -278,11 +283,11 @@ grows_second : (at : ℕ) (n : Name) (rest : Resting) (local : Option Local) (m 
 grows_second at n rest None m = grows_same m m refl refl refl refl refl
 grows_second at n rest (Some l) m =
     if_either (Grows [] m) (begins_second_step at n rest l m)
-    (with_timer_set at n (second_step_length m) m.fixed.member (Some l.width) m) m
+    (with_timer_set at n (repair_length m 0) m.fixed.member (Some l.width) m) m
     (λ begins.
     let held : Has n m.held = (and_parts _ _ (and_parts _ _
     (and_parts (are_two m.fixed.steps && (l.requester == m.fixed.member)) _ begins).1).0).0 in
-    grows_timers m (with_timer_set at n (second_step_length m) m.fixed.member (Some l.width) m) refl refl refl refl
+    grows_timers m (with_timer_set at n (repair_length m 0) m.fixed.member (Some l.width) m) refl refl refl refl
     (λ k g. elim (has_cases k n _ m.repairs g) [ inl e ↦ inr (subst (λ x. Has x m.held) (sym e) held) | inr x ↦ inl x ]))
     (λ stays. grows_same m m refl refl refl refl refl)
 
@@ -481,7 +486,9 @@ asked_effect : (at : ℕ) (n : Name) (lost : List Name) (m k : MemberState) (o :
 asked_effect at n lost m k None e g = record { grows = g; not_fresh = λ e. cc; not_fixed = λ e. cc; body = tt }
 asked_effect at n lost m k (Some x) e g = if_either (Quiet m) (nat_lt at x.ignore) _ _
     (λ early. record {
-      grows = grows_then lost m k (with_duplicate_request k) g (grows_same k (with_duplicate_request k) refl refl refl refl refl);
+      grows =
+          let heard : MemberState = record k { request_interval = hear_duplicate k.request_interval } in
+          grows_then lost m k heard g (grows_same k heard refl refl refl refl refl);
       not_fresh = λ e. cc;
       not_fixed = λ e. cc;
       body = tt;
@@ -512,7 +519,7 @@ timer_effect at n who width m k (Some r) e h g = record {
 held_effect : (at : ℕ) (n : Name) (who : ℕ) (width : Option ℕ) (m k : MemberState) → Has n k.held → Grows [] m k
     → Quiet m (hear_request_of_held at n who width k)
 held_effect at n who width m k h g =
-    if_either (Quiet m) (is_at_rest at n who width k) _ _
+    if_either (Quiet m) (rests_for at k.fixed (rest_of n k) who width) _ _
     (λ rests. record { grows = g; not_fresh = λ e. cc; not_fixed = λ e. cc; body = tt })
     (λ goes. timer_effect at n who width m k (find name_cmp n k.repairs) refl h g)
 
@@ -628,12 +635,12 @@ own_met m p = grind arith
 drawing_effect : (at page ink : ℕ) (m : MemberState) → Quiet m (draw_operation page ink m) ⊎ Drawn m (draw_operation page ink m)
 unfolding draw_operation
 drawing_effect at page ink m =
-    let p = own_page m page in
+    let p : PageId = record { source = m.fixed.member; page = page } in
     let s = own_progress m p in
     let t : Progress = record { floor = s.floor; next = s.next + 1 } in
     let n = name_in p s.next in
     if_either (λ r. Quiet m r ⊎ Drawn m r) (is_sender m.fixed.role && nat_lt s.next most_drawn)
-    (send_body (with_drawn p ink s m) (Drawop n ink))
+    (send_body (with_held n ink (with_progress p t m)) (Drawop n ink))
     (quietly m Skip [])
     (λ goes. inr (record {
       name = n;
@@ -677,13 +684,15 @@ listener_effect : (m : MemberState) (cause : Cause) → Effect m cause (react_li
 listener_effect m cause = grind arith
 
 told_effect : (o : Option Intervals) (m : MemberState) (cause : Cause) (r : Reaction) → Effect m cause r
-    → Effect m cause (record r { answer = with_adapted o r.answer })
+    → Effect m cause (record r { answer = record r.answer { adapted = o } })
 told_effect o m cause r h4 = grind arith
 
 -- what an event changes of the names that a member holds and lacks
 pub effect : (m : MemberState) (at : ℕ) (cause : Cause) → Effect m cause (react m at cause)
 unfolding react
-effect m at cause = if_either (Effect m cause) (is_listener m.fixed.role) (react_listener m cause) (react_telling m at cause)
+effect m at cause =
+    if_either (Effect m cause) (is_listener m.fixed.role) (react_listener m cause)
+    (telling_intervals cause (intervals_of m) (react_active m at cause))
     (λ l. listener_effect m cause)
     (λ l. told_effect (adapted_at cause (intervals_of m) (intervals_of (react_active m at cause).state)) m cause (react_active m at cause)
     (active_effect m at cause))

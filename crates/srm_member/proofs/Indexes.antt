@@ -1,6 +1,6 @@
 -- An index of timers against the tables of timers.
 use Rattle.std.proofs.Common.{◌≡◌, ℕ, Bool, true, false, cond, not, ◌&&◌, List, Option, Some, None, refl, sym, ap, ◌∙◌, subst}
-use Rattle.std.proofs.Common.{arith, ◌==◌}
+use Rattle.std.proofs.Common.{arith, ◌==◌, ◌∷◌, []}
 use Rattle.std.specs.Option.{option_map}
 use Rattle.std.specs.declared.cmp.Ordering.TheVariants.{Equal}
 use Rattle.std.specs.Ordering.{eq_by_cmp}
@@ -16,7 +16,7 @@ use Rattle.srm_net.specs.Names.{name_cmp}
 use Rattle.srm_net.proofs.Basics.{is_Equal}
 use Rattle.srm_net.proofs.TotalOrders.{name_total, tied_names, one_rank}
 use Rattle.srm_member.specs.declared.due.Due.{Due}
-use Rattle.srm_member.specs.Record.{Missing, Repairing, due_cmp, numbers_of_due}
+use Rattle.srm_member.specs.Record.{Missing, Repairing, due_cmp}
 use Rattle.srm_member.specs.React.{without}
 use Rattle.srm_member.proofs.Maps.{find-lookup, kept}
 use Rattle.srm_member.specs.Pending.{has, RisesByName, expiry_of, is_at_time, IsIndexed, request_timer, repair_timer}
@@ -24,8 +24,11 @@ use Rattle.srm_member.proofs.TableChanges.{same_names, name_is}
 
 -- ---- names and timers are compared by their numbers
 
+abbrev numbers : Due → List ℕ
+numbers d = d.time ∷ rank_number d.rank ∷ d.name.source ∷ d.name.page ∷ d.name.number ∷ []
+
 pub due_total : IsTotalOrder due_cmp
-due_total = on_texts numbers_of_due
+due_total = on_texts numbers
 
 abbrev pub same : Name → Name → Bool
 same m n = eq_by_cmp name_cmp m n
@@ -37,7 +40,7 @@ pub due_eq : (d e : Due) → eq_by_cmp due_cmp d e ≡ ((d.time == e.time) && (s
 due_eq d e = grind arith
 
 pub due_itself : (d : Due) → eq_by_cmp due_cmp d d ≡ true
-due_itself d = sym (texts_ties (numbers_of_due d) (numbers_of_due d)) ∙ grind (arith, nat_tests)
+due_itself d = sym (texts_ties (numbers d) (numbers d)) ∙ grind (arith, nat_tests)
 
 pub due_same : (d e : Due) → due_cmp d e ≡ Equal → d ≡ e
 due_same d e h = grind (arith, one_rank)

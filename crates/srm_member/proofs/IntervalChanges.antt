@@ -11,18 +11,19 @@ use Rattle.srm_net.specs.Names.{page_of, name_in, name_cmp}
 use Rattle.srm_net.specs.Roles.{is_listener}
 use Rattle.srm_member.specs.declared.cause.Cause.{Cause}
 use Rattle.srm_member.specs.declared.fixed.Fixed.{Fixed}
-use Rattle.srm_member.specs.Intervals.{Interval, begin_period, send_first}
+use Rattle.srm_member.specs.Intervals.{Interval, begin_period, send_first, hear_duplicate}
 use Rattle.srm_member.specs.IntervalLaws.{Change, Begins, Delays, Sends, Hears, changed}
 use Rattle.srm_member.specs.Record.{MemberState, Missing, Repairing, Progress}
 use Rattle.srm_member.specs.React.{Reaction, has_entry, distance_to, back_off, with_progress, with_request_delay}
-use Rattle.srm_member.specs.React.{with_losses_begun, with_mending_seen, with_repair_seen, with_repairs_begun, with_duplicate_request}
-use Rattle.srm_member.specs.React.{with_request_first, with_repair_first, is_at_rest, interval_at_mending, rest_of, with_mark}
-use Rattle.srm_member.specs.React.{with_rest, interval_after_timer, begins_second_step, second_step_length, with_timer_set}
+use Rattle.srm_member.specs.React.{with_losses_begun, with_mending_seen, with_repair_seen, with_repairs_begun, after_repair_delay}
+use Rattle.srm_member.specs.React.{with_request_first, with_repair_first, interval_at_mending, rest_of, with_mark}
+use Rattle.srm_member.specs.React.{with_rest, begins_second_step, with_timer_set}
 use Rattle.srm_member.specs.React.{with_second_step, after_repair, is_skip, with_repair_timer, with_timer_taken_over, repair_length}
 use Rattle.srm_member.specs.React.{hear_request_by_timer, with_answer_seen, with_own_timer_ended}
 use Rattle.srm_member.specs.React.{meet, lose_one, lose_from, lose_below, hear_data, hear_repair}
 use Rattle.srm_member.specs.React.{hear_request_by_entry, hear_request_of_held, hear_request, after_entry}
 use Rattle.srm_member.specs.LocalRecovery.{serves, mark_from, mark_after, local_of, is_duplicate, is_second_step, takes_over}
+use Rattle.srm_member.specs.LocalRecovery.{rests_for}
 use Rattle.srm_member.specs.declared.mark.RepairMark.{RepairMark}
 use Rattle.srm_member.specs.declared.resting.Resting.{Resting}
 use Rattle.srm_net.specs.declared.packet.Local.{Local}
@@ -92,7 +93,8 @@ module _ (f : Fixed) (P Q : Interval → Type 0)
     repairs = repair_if (is_duplicate at m.fixed rest who local) _ _ (answer Hears m.repair_interval a.repairs) a.repairs;
   }
   adapts_repair_seen at n who local rest (Some r) m a =
-      let ended : Q (interval_after_timer at r m) = repair_if (is_second_step m.fixed r) _ _ a.repairs
+      let ended : Q (cond (is_second_step m.fixed r) m.repair_interval (after_repair_delay at r m)) =
+      repair_if (is_second_step m.fixed r) _ _ a.repairs
       (answer (Delays (at - r.set) (distance_to m r.requester)) m.repair_interval a.repairs) in
       adapts_choice (serves m.fixed (mark_from m.fixed who local) r.requester r.width) _ m
       (record { same = a.same; requests = a.requests; repairs = ended }) a
@@ -104,7 +106,7 @@ module _ (f : Fixed) (P Q : Interval → Type 0)
     repairs = subst (λ (g : Fixed). Q (begin_period g.d1 g.d2 m.repair_interval)) (sym a.same) (answer Begins m.repair_interval a.repairs);
   }
 
-  pub adapts_duplicate : (m : MemberState) → Adapts m → Adapts (with_duplicate_request m)
+  pub adapts_duplicate : (m : MemberState) → Adapts m → Adapts (record m { request_interval = hear_duplicate m.request_interval })
   adapts_duplicate m a = record { same = a.same; requests = ask Hears m.request_interval a.requests; repairs = a.repairs }
 
   pub adapts_request_first : (e : Missing) (m : MemberState) → Adapts m → Adapts (with_request_first e m)
@@ -145,7 +147,7 @@ module _ (f : Fixed) (P Q : Interval → Type 0)
       → Adapts (with_second_step at n rest local m)
   adapts_second at n rest None m a = a
   adapts_second at n rest (Some l) m a = adapts_choice (begins_second_step at n rest l m) _ m
-      (adapts_set at n (second_step_length m) m.fixed.member (Some l.width) m a) a
+      (adapts_set at n (repair_length m 0) m.fixed.member (Some l.width) m a) a
 
   pub adapts_taken_over : (n : Name) (who : ℕ) (width : Option ℕ) (r : Repairing) (m : MemberState) → Adapts m
       → Adapts (with_timer_taken_over n who width r m)
@@ -156,7 +158,7 @@ module _ (f : Fixed) (P Q : Interval → Type 0)
       → Adapts (with_repair_timer at n who width m)
   adapts_planning at n who width m a =
       let begun = adapts_repairs_begun m a in
-      adapts_set at n (repair_length (with_repairs_begun m) who) who width (with_repairs_begun m) begun
+      adapts_set at n (repair_length (with_repairs_begun m) (distance_to m who)) who width (with_repairs_begun m) begun
 
   pub adapts_answer_seen : (at : ℕ) (r : Repairing) (m : MemberState) → Adapts m → Adapts (with_answer_seen at r m)
   adapts_answer_seen at r m a = adapts_choice (is_second_step m.fixed r) m (with_repair_first at r m) a (adapts_repair_first at r m a)
@@ -216,7 +218,7 @@ module _ (f : Fixed) (P Q : Interval → Type 0)
   pub adapts_held : (at : ℕ) (n : Name) (who : ℕ) (width : Option ℕ) (m : MemberState) → Adapts m
       → Adapts (hear_request_of_held at n who width m).state
   adapts_held at n who width m a =
-      adapts_if (is_at_rest at n who width m) _ _ a (adapts_by_timer at n who width m (find name_cmp n m.repairs) a)
+      adapts_if (rests_for at m.fixed (rest_of n m) who width) _ _ a (adapts_by_timer at n who width m (find name_cmp n m.repairs) a)
 
   pub adapts_request : (at : ℕ) (n : Name) (who : ℕ) (width : Option ℕ) (m : MemberState) → Adapts m
       → Adapts (hear_request at n who width m).state

@@ -6,7 +6,7 @@ use Rattle.srm_member.specs.declared.cause.Cause.{Cause}
 use Rattle.srm_member.specs.declared.due.Due.{Due}
 use Rattle.srm_member.specs.Record.{Active, Gone, MemberState, timers_of}
 use Rattle.srm_net.specs.Roles.{is_listener}
-use Rattle.srm_member.specs.React.{Reaction, react_telling, react_listener, react}
+use Rattle.srm_member.specs.React.{Reaction, react_listener, react, telling_intervals, intervals_of, react_active}
 use Rattle.srm_member.specs.Laws.{FixedPartStays, TimersAreLater, ListenersSendNothing, AnswersAreOne}
 use Rattle.srm_member.proofs.AllIn.{AllIn, AllIn-places, AllIn-at_places}
 use Rattle.srm_member.proofs.Bounds.{kept_state, kept_react}
@@ -29,11 +29,12 @@ timers_are_later m at cause d h =
 
 pub as_listener : (m : MemberState) (at : ℕ) (cause : Cause) → is_listener m.fixed.role ≡ true → react m at cause ≡ react_listener m cause
 unfolding react
-as_listener m at cause h = ap (λ b. cond b (react_listener m cause) (react_telling m at cause)) h
+as_listener m at cause h = ap (λ b. cond b (react_listener m cause) (telling_intervals cause (intervals_of m) (react_active m at cause))) h
 
-pub as_active : (m : MemberState) (at : ℕ) (cause : Cause) → is_listener m.fixed.role ≡ false → react m at cause ≡ react_telling m at cause
+pub as_active : (m : MemberState) (at : ℕ) (cause : Cause) → is_listener m.fixed.role ≡ false
+    → react m at cause ≡ telling_intervals cause (intervals_of m) (react_active m at cause)
 unfolding react
-as_active m at cause h = ap (λ b. cond b (react_listener m cause) (react_telling m at cause)) h
+as_active m at cause h = ap (λ b. cond b (react_listener m cause) (telling_intervals cause (intervals_of m) (react_active m at cause))) h
 
 pub no_body : (m : MemberState) (cause : Cause) → (react_listener m cause).answer.body ≡ None
 no_body m cause = grind arith

@@ -1,11 +1,11 @@
 -- What holds of local recovery.
 use Rattle.std.proofs.Common.{◌≡◌, ◌⊎◌, inl, inr, ℕ, ◌+◌, ◌-◌, ◌<◌, ◌≤◌, Bool, true, false, ◌||◌, not, ◌==◌, refl, sym, subst}
-use Rattle.std.proofs.Common.{arith, eqb-true, leb-true}
+use Rattle.std.proofs.Common.{arith, eqb-true, leb-true, nat_le, ◌&&◌}
 use Rattle.std.proofs.lemmas.Bool.{and_parts}
 use Rattle.srm_member.specs.declared.fixed.Fixed.{Fixed}
 use Rattle.srm_member.specs.declared.steps.Steps.{Steps}
 use Rattle.srm_member.specs.declared.steps.Steps.TheVariants.{One, Two}
-use Rattle.srm_member.specs.LocalRecovery.{hops_to, scope_of_repair, is_meant, is_around}
+use Rattle.srm_member.specs.LocalRecovery.{hops_to, scope_of_repair}
 use Rattle.srm_member.specs.LocalLaws.{TenBackoffsGoToAll, AreHops, KnowsHops, WhoHeardIsReached, IsReached, ServingIsSound}
 
 pub ten_backoffs_go_to_all : TenBackoffsGoToAll
@@ -51,8 +51,7 @@ module _ (members : ℕ) (h : ℕ → ℕ → ℕ) (metric : AreHops members h) 
       omega arith
 
   reached : (g : ℕ) → g ≡ scope_of_repair x x.steps q v → h x.member m.member ≤ g
-      → (is_meant m (record { requester = q; width = v; left = g - hops_to m x.member }) r w
-      || is_around m (record { requester = q; width = v; left = g - hops_to m x.member }) r w) ≡ true
+      → (((q == r) && (not (r == m.member) && nat_le w v)) || nat_le (hops_to m r + w) (g - hops_to m x.member)) ≡ true
       → IsReached h x q v y
   reached g is comes serves = elim (either_test _ _ serves) [
     | inl meant ↦ reached_meant x.steps refl (eqb-true _ _ (and_parts (q == r) _ meant).0)

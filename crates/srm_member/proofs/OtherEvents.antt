@@ -1,5 +1,5 @@
 -- Which events leave the intervals of a member's timers as they are.
-use Rattle.std.proofs.Common.{arith}
+use Rattle.std.proofs.Common.{arith, ◌+◌}
 use Rattle.std.proofs.Common.{◌≡◌, ℕ, zero, suc, ◌-◌, false, List, [], ◌∷◌, refl, ◌∙◌}
 use Rattle.std.proofs.Common.{Option, Some, None}
 use Rattle.std.specs.FinMap.Entries.{find}
@@ -12,9 +12,9 @@ use Rattle.srm_member.specs.declared.cause.Cause.{Cause}
 use Rattle.srm_member.specs.declared.cause.Cause.TheVariants.{Join, Arrival, Ask, Answer, Draw, Report}
 use Rattle.srm_member.specs.Intervals.{Interval}
 use Rattle.srm_member.specs.Record.{MemberState, Missing, Repairing, Progress}
-use Rattle.srm_member.specs.React.{with_losses_begun, lose_one, lose_from, lose_below}
+use Rattle.srm_member.specs.React.{with_losses_begun, lose_one, lose_from, lose_below, with_held, with_progress}
 use Rattle.srm_member.specs.React.{hear_data, hear_body, after_entry, hear_session, expire_request_by_entry, expire_request}
-use Rattle.srm_member.specs.React.{expire_repair_by_entry, expire_repair, own_page, own_progress, draw_operation, with_drawn}
+use Rattle.srm_member.specs.React.{expire_repair_by_entry, expire_repair, own_progress, draw_operation}
 use Rattle.srm_member.specs.React.{react_active, react, with_rest, with_answer_seen}
 use Rattle.srm_member.specs.LocalRecovery.{local_of, mark_after}
 use Rattle.srm_member.specs.declared.mark.RepairMark.{RepairMark}
@@ -73,7 +73,10 @@ answering at n m None = refl
 answering at n m (Some r) = resting at n m.fixed.member (mark_after 0 (local_of m.fixed r)) (with_answer_seen at r m) ∙ seeing at r m
 
 drawing : (I : MemberState → Interval) (page ink : ℕ) (m : MemberState) (i : Interval)
-    → I (with_drawn (own_page m page) ink (own_progress m (own_page m page)) m) ≡ i → I m ≡ i → I (draw_operation page ink m).state ≡ i
+    → (let p : PageId = record { source = m.fixed.member; page = page } in
+    let s = own_progress m p in
+    I (with_held (name_in p s.next) ink (with_progress p (record { floor = s.floor; next = s.next + 1 }) m)) ≡ i)
+    → I m ≡ i → I (draw_operation page ink m).state ≡ i
 unfolding draw_operation
 drawing I page ink m i h g = grind arith
 

@@ -14,14 +14,14 @@ use Rattle.srm_net.specs.Roles.{is_listener}
 use Rattle.srm_member.specs.declared.cause.Cause.{Cause}
 use Rattle.srm_member.specs.declared.cause.Cause.TheVariants.{Join, Arrival, Ask, Answer, Draw, Report}
 use Rattle.srm_member.specs.declared.told.Told.TheVariants.{Busy}
-use Rattle.srm_member.specs.LocalRecovery.{takes_over, local_of, mark_after}
+use Rattle.srm_member.specs.LocalRecovery.{takes_over, local_of, mark_after, rests_for}
 use Rattle.srm_member.specs.Record.{MemberState, Missing, Repairing}
 use Rattle.srm_member.specs.React.{Reaction, without, has_entry, request_length, with_request_delay, with_request_first, meet}
-use Rattle.srm_member.specs.React.{with_progress, lose_below, lost_below, hear_data, is_skip, is_at_rest, after_repair, hear_repair}
+use Rattle.srm_member.specs.React.{with_progress, lose_below, lost_below, hear_data, is_skip, after_repair, hear_repair, rest_of}
 use Rattle.srm_member.specs.React.{with_timer_taken_over, hear_request_by_entry, hear_request_by_timer, hear_request}
 use Rattle.srm_member.specs.React.{hear_session, after_entry, hear_body, expire_request_by_entry, expire_request, expire_repair_by_entry}
-use Rattle.srm_member.specs.React.{expire_repair, draw_operation, react_active, react_listener, react_telling, react, with_rest}
-use Rattle.srm_member.specs.React.{with_answer_seen}
+use Rattle.srm_member.specs.React.{expire_repair, draw_operation, react_active, react_listener, react, with_rest}
+use Rattle.srm_member.specs.React.{with_answer_seen, telling_intervals, intervals_of}
 use Rattle.srm_member.specs.LocalLaws.{expiry_in, set_in, BusyMovesNoTimer, TimersThatExpireEnd, RepairTimersAreOfHeldNames}
 use Rattle.srm_member.proofs.Bounds.{request_length_pos}
 use Rattle.srm_member.proofs.Changes.{Effect, Quiet, Brought, effect}
@@ -179,7 +179,7 @@ request_busy at n who width m =
     let old = hear_request_by_entry at n [] k (find name_cmp n k.missing) in
     busy_if m (nat_lt n.number s.floor) _ _ (λ h. cc)
     (busy_if m (has_entry n k.held) _ _
-    (busy_if m (is_at_rest at n who width k) _ _ (λ h. cc)
+    (busy_if m (rests_for at k.fixed (rest_of n k) who width) _ _ (λ h. cc)
     (λ h. let u = by_timer_busy at n who width k (find name_cmp n k.repairs) refl h in record { expiry = u.expiry; set = u.set }))
     (busy_if m (nat_le s.next n.number) new old
     (not_busy m new (asked_not_busy at n (lost_below p (n.number + 1) s) lose (find name_cmp n lose.missing)))
@@ -218,7 +218,8 @@ listener_not_busy m cause = grind arith
 
 react_busy : (m : MemberState) (at : ℕ) (cause : Cause) → IfBusy m (react m at cause)
 unfolding react
-react_busy m at cause = busy_if m (is_listener m.fixed.role) (react_listener m cause) (react_telling m at cause)
+react_busy m at cause =
+    busy_if m (is_listener m.fixed.role) (react_listener m cause) (telling_intervals cause (intervals_of m) (react_active m at cause))
     (not_busy m (react_listener m cause) (listener_not_busy m cause)) (active_busy at cause m)
 
 pub busy_moves_no_timer : BusyMovesNoTimer

@@ -18,15 +18,15 @@ use Rattle.srm_member.specs.declared.cause.Cause.TheVariants.{Join, Arrival, Ask
 use Rattle.srm_member.specs.declared.fixed.Fixed.{Fixed}
 use Rattle.srm_member.specs.declared.mark.RepairMark.{RepairMark}
 use Rattle.srm_member.specs.declared.resting.Resting.{Resting}
-use Rattle.srm_member.specs.LocalRecovery.{local_of, mark_after, is_second_step, takes_over}
+use Rattle.srm_member.specs.LocalRecovery.{local_of, mark_after, is_second_step, takes_over, rests_for}
 use Rattle.srm_member.specs.Record.{MemberState, Missing, Repairing, Progress}
-use Rattle.srm_member.specs.React.{Reaction, without, has_entry, meet, with_progress, lose_one, lose_from}
-use Rattle.srm_member.specs.React.{with_losses_begun, lose_below, lost_below, hear_data, is_skip, rest_of, is_at_rest, with_rest}
-use Rattle.srm_member.specs.React.{with_repair_seen, after_repair, hear_repair, hear_request_by_entry}
+use Rattle.srm_member.specs.React.{Reaction, without, has_entry, meet, with_progress, lose_one, lose_from, telling_intervals}
+use Rattle.srm_member.specs.React.{with_losses_begun, lose_below, lost_below, hear_data, is_skip, rest_of, with_rest}
+use Rattle.srm_member.specs.React.{with_repair_seen, after_repair, hear_repair, hear_request_by_entry, intervals_of}
 use Rattle.srm_member.specs.React.{hear_request_by_timer, hear_request, page_heard, after_entry, lost_by_entry}
 use Rattle.srm_member.specs.React.{hear_session, hear_body, expire_request_by_entry, expire_request, with_repair_first}
-use Rattle.srm_member.specs.React.{with_answer_seen, with_own_timer_ended, expire_repair_by_entry, expire_repair, own_page, own_progress}
-use Rattle.srm_member.specs.React.{draw_operation, react_active, react_listener, react_telling, react, listen, listen_data}
+use Rattle.srm_member.specs.React.{with_answer_seen, with_own_timer_ended, expire_repair_by_entry, expire_repair, own_progress}
+use Rattle.srm_member.specs.React.{draw_operation, react_active, react_listener, react, listen, listen_data}
 use Rattle.srm_member.specs.LocalLaws.{IsWide, BringsNoScope, GoesToAll, MembersBeginWide, MembersStayWide}
 use Rattle.srm_member.proofs.TableChanges.{names_apart, put_here, put_there, without_less, without_there}
 use Rattle.srm_member.proofs.Widening.{no_scope, no_local}
@@ -163,7 +163,7 @@ wide_request at n who m w other =
     let lost = wide_same k lose (lost_below_same at p (n.number + 1) (n.number + 1) s [] k) met in
     wide_if (nat_lt n.number s.floor) _ _ (met, tt)
     (wide_if (has_entry n k.held) _ _
-    (wide_if (is_at_rest at n who None k) _ _ (met, tt) (wide_timer at n who k (find name_cmp n k.repairs) met other))
+    (wide_if (rests_for at k.fixed (rest_of n k) who None) _ _ (met, tt) (wide_timer at n who k (find name_cmp n k.repairs) met other))
     (wide_if (nat_le s.next n.number) _ _
     (wide_asked at n (lost_below p (n.number + 1) s) lose (find name_cmp n lose.missing) lost)
     (wide_asked at n [] k (find name_cmp n k.missing) met)))
@@ -221,7 +221,8 @@ wide_answering at n m (Some r) h w =
 wide_drawing : (page ink : ℕ) (m : MemberState) → IsWide m → Wide (draw_operation page ink m)
 unfolding draw_operation
 wide_drawing page ink m w =
-    wide_if (is_sender m.fixed.role && nat_lt (own_progress m (own_page m page)).next most_drawn) _ _
+    let s = own_progress m (record { source = m.fixed.member; page = page }) in
+    wide_if (is_sender m.fixed.role && nat_lt s.next most_drawn) _ _
     (record { scope = w.scope; marks = w.marks; timers = w.timers }, refl) (w, tt)
 
 wide_active : (m : MemberState) (at : ℕ) (cause : Cause) → IsWide m → BringsNoScope m.fixed cause → Wide (react_active m at cause)
@@ -251,11 +252,13 @@ wide_listener m (Answer n) w = (w, tt)
 wide_listener m (Draw page ink) w = (w, tt)
 wide_listener m Report w = (w, tt)
 
-wide_telling : (m : MemberState) (at : ℕ) (cause : Cause) → Wide (react_active m at cause) → Wide (react_telling m at cause)
+wide_telling : (m : MemberState) (at : ℕ) (cause : Cause) → Wide (react_active m at cause)
+    → Wide (telling_intervals cause (intervals_of m) (react_active m at cause))
 wide_telling m at cause h = (record { scope = h.0.scope; marks = h.0.marks; timers = h.0.timers }, h.1)
 
 pub members_stay_wide : MembersStayWide
 unfolding react
 members_stay_wide m at cause wide brings =
-    wide_if (is_listener m.fixed.role) (react_listener m cause) (react_telling m at cause) (wide_listener m cause wide)
+    wide_if (is_listener m.fixed.role) (react_listener m cause) (telling_intervals cause (intervals_of m) (react_active m at cause))
+    (wide_listener m cause wide)
     (wide_telling m at cause (wide_active m at cause wide brings))

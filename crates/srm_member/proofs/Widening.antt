@@ -19,15 +19,15 @@ use Rattle.srm_member.specs.declared.fixed.Fixed.{Fixed}
 use Rattle.srm_member.specs.declared.resting.Resting.{Resting}
 use Rattle.srm_member.specs.declared.steps.Steps.{Steps}
 use Rattle.srm_member.specs.declared.told.Told.TheVariants.{Fresh, Busy}
-use Rattle.srm_member.specs.LocalRecovery.{scope_of_request, local_of, mark_after, is_second_step, takes_over}
+use Rattle.srm_member.specs.LocalRecovery.{scope_of_request, local_of, mark_after, is_second_step, takes_over, rests_for}
 use Rattle.srm_member.specs.Record.{MemberState, Missing, Repairing, Progress}
 use Rattle.srm_member.specs.React.{Reaction, quietly, send_body, without, has_entry, back_off, meet, with_progress, lose_one, lose_from}
-use Rattle.srm_member.specs.React.{with_losses_begun, lose_below, lost_below, hear_data, is_skip, rest_of, is_at_rest, with_rest}
+use Rattle.srm_member.specs.React.{with_losses_begun, lose_below, lost_below, hear_data, is_skip, rest_of, with_rest}
 use Rattle.srm_member.specs.React.{with_repair_seen, after_repair, hear_repair, hear_request_by_entry}
 use Rattle.srm_member.specs.React.{hear_request_by_timer, hear_request_of_held, hear_request, page_heard, after_entry, lost_by_entry}
 use Rattle.srm_member.specs.React.{hear_session, hear_body, with_request_first, expire_request_by_entry, expire_request, with_repair_first}
-use Rattle.srm_member.specs.React.{with_own_timer_ended, expire_repair_by_entry, expire_repair, own_page, own_progress}
-use Rattle.srm_member.specs.React.{draw_operation, react_active, react_listener, react_telling, react, telling_intervals, intervals_of}
+use Rattle.srm_member.specs.React.{with_own_timer_ended, expire_repair_by_entry, expire_repair, own_progress}
+use Rattle.srm_member.specs.React.{draw_operation, react_active, react_listener, react, telling_intervals, intervals_of}
 use Rattle.srm_member.specs.React.{listen, listen_data}
 use Rattle.srm_member.specs.LocalLaws.{IsWide, BringsNoScope, with_widening, WideningDecidesNothing}
 
@@ -114,7 +114,7 @@ module _ (widen tries : ℕ) (steps : Steps) where
 
   other_held : (at : ℕ) (n : Name) (who : ℕ) (width : Option ℕ) (m : MemberState)
       → hear_request_of_held at n who width (other m) ≡ carry (hear_request_of_held at n who width m)
-  other_held at n who width m = carry_if (is_at_rest at n who width m) _ _ _ _ refl
+  other_held at n who width m = carry_if (rests_for at m.fixed (rest_of n m) who width) _ _ _ _ refl
       (other_timer at n who width m (find name_cmp n m.repairs))
 
   other_request : (at : ℕ) (n : Name) (who : ℕ) (width : Option ℕ) (m : MemberState)
@@ -187,7 +187,8 @@ module _ (widen tries : ℕ) (steps : Steps) where
   other_drawing : (page ink : ℕ) (m : MemberState) → draw_operation page ink (other m) ≡ carry (draw_operation page ink m)
   unfolding draw_operation
   other_drawing page ink m =
-      carry_if (is_sender m.fixed.role && nat_lt (own_progress m (own_page m page)).next most_drawn) _ _ _ _ refl refl
+      let s = own_progress m (record { source = m.fixed.member; page = page }) in
+      carry_if (is_sender m.fixed.role && nat_lt s.next most_drawn) _ _ _ _ refl refl
 
   other_active : (m : MemberState) (at : ℕ) (cause : Cause) → IsWide m → BringsNoScope m.fixed cause
       → react_active (other m) at cause ≡ carry (react_active m at cause)
@@ -222,6 +223,7 @@ module _ (widen tries : ℕ) (steps : Steps) where
 pub widening_decides_nothing : WideningDecidesNothing
 unfolding react
 widening_decides_nothing m at cause widen tries steps wide brings =
-    carry_if widen tries steps (is_listener m.fixed.role) (react_listener m cause) (react_telling m at cause) _ _
+    carry_if widen tries steps (is_listener m.fixed.role) (react_listener m cause)
+    (telling_intervals cause (intervals_of m) (react_active m at cause)) _ _
     (other_listener widen tries steps m cause)
     (ap (telling_intervals cause (intervals_of m)) (other_active widen tries steps m at cause wide brings))

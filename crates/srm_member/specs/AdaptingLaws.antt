@@ -9,7 +9,7 @@ use Rattle.srm_member.specs.declared.fixed.Fixed.{Fixed}
 use Rattle.srm_net.specs.declared.role.Role.TheVariants.{Listener}
 use Rattle.srm_member.specs.IntervalLaws.{Change, after_changes, IsOrdered, IsWithinLimits, HasNoRoom}
 use Rattle.srm_member.specs.Record.{MemberState, opening_state, timers_of}
-use Rattle.srm_member.specs.React.{react, with_adapted}
+use Rattle.srm_member.specs.React.{react}
 
 -- an event changes intervals by their four changes alone
 abbrev pub IntervalsChangeAlone : Type 0
@@ -93,7 +93,7 @@ DifferInIntervals m k = k ≡ record m { request_interval = k.request_interval; 
 
 -- two answers that differ in what they tell of intervals alone
 abbrev pub DifferInAdapted : React → React → Type 0
-DifferInAdapted a b = b ≡ with_adapted b.adapted a
+DifferInAdapted a b = b ≡ record a { adapted = b.adapted }
 
 -- without room averages, duplicates and who sent first make no difference: members whose records differ in intervals
 -- alone give the same answers, but for what they tell of intervals, and have the same timers, and their records differ

@@ -43,21 +43,16 @@ mark_after hops local = option_map
 abbrev pub mark_from : Fixed → ℕ → Option Local → Option RepairMark
 mark_from f who local = mark_after (hops_to f who) local
 
--- whether the repair was meant for the request: for one of that member's, at least as wide. No member's own requests
--- are served so, since the repair has to go on from there
-abbrev pub is_meant : Fixed → RepairMark → ℕ → ℕ → Bool
-is_meant f k who width = (k.requester == who) && (not (who == f.member) && nat_le width k.width)
-
--- whether all that heard the request are within what the repair had left
-abbrev pub is_around : Fixed → RepairMark → ℕ → ℕ → Bool
-is_around f k who width = nat_le (hops_to f who + width) k.left
-
 -- whether the repair of this mark serves a request of this width by that member: one that went to all serves every
--- request, and no other serves a request that went to all
+-- request, and no other serves a request that went to all. Any other serves it if it was meant for one of that
+-- member's, at least as wide, and not for this member's own, since the repair has to go on from there; or if all that
+-- heard the request are within what it had left
 abbrev pub serves : Fixed → Option RepairMark → ℕ → Option ℕ → Bool
 serves f None who width = true
 serves f (Some k) who None = false
-serves f (Some k) who (Some width) = is_meant f k who width || is_around f k who width
+serves f (Some k) who (Some width) =
+    ((k.requester == who) && (not (who == f.member) && nat_le width k.width))
+    || nat_le (hops_to f who + width) k.left
 
 -- whether a rest holds at this time for a request of this width by that member
 abbrev pub rests_for : ℕ → Fixed → Resting → ℕ → Option ℕ → Bool

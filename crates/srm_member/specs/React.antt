@@ -72,10 +72,9 @@ abbrev pub request_length : MemberState → ℕ → Name → ℕ
 request_length m i n =
     length_in m (span_by m.fixed.backoff i m.request_interval.start m.request_interval.width (distance_to m n.source))
 
--- the length of a repair timer for a request of this member
+-- the length of a repair timer over a distance
 abbrev pub repair_length : MemberState → ℕ → ℕ
-repair_length m who =
-    length_in m (span_by m.fixed.backoff 0 m.repair_interval.start m.repair_interval.width (distance_to m who))
+repair_length m d = length_in m (span_by m.fixed.backoff 0 m.repair_interval.start m.repair_interval.width d)
 
 -- the request interval, once it took in the delay since the loss of a name was detected
 abbrev pub after_request_delay : ℕ → Name → Missing → MemberState → Interval
@@ -205,10 +204,6 @@ with_rest at n who mark m = with_mark n mark (record m { rests = put name_cmp n 
 abbrev pub rest_of : Name → MemberState → Resting
 rest_of n m = record { until = unwrap_or (find name_cmp n m.rests) 0; mark = find name_cmp n m.marks }
 
--- whether the member is at rest for a request of this width by that member
-abbrev pub is_at_rest : ℕ → Name → ℕ → Option ℕ → MemberState → Bool
-is_at_rest at n who width m = rests_for at m.fixed (rest_of n m) who width
-
 -- the event did not concern the member
 abbrev pub is_skip : Told → Bool
 is_skip Skip = true
@@ -218,15 +213,15 @@ is_skip _ = false
 abbrev pub after_repair_delay : ℕ → Repairing → MemberState → Interval
 after_repair_delay at r m = take_in_delay (at - r.set) (distance_to m r.requester) m.repair_interval
 
--- the same, but for a second step, which tells nothing of how long others take
-abbrev pub interval_after_timer : ℕ → Repairing → MemberState → Interval
-interval_after_timer at r m = if is_second_step m.fixed r then m.repair_interval else after_repair_delay at r m
-
--- a repair of this mark ends a pending repair timer, if it serves the request
+-- a repair of this mark ends a pending repair timer, if it serves the request. The repair interval takes in the delay,
+-- but for a second step, which tells nothing of how long others take
 abbrev pub with_timer_ended : ℕ → Name → Option RepairMark → Repairing → MemberState → MemberState
 with_timer_ended at n mark r m =
     if serves m.fixed mark r.requester r.width
-    then record m { repairs = without n m.repairs; repair_interval = interval_after_timer at r m }
+    then record m {
+      repairs = without n m.repairs;
+      repair_interval = if is_second_step m.fixed r then m.repair_interval else after_repair_delay at r m;
+    }
     else m
 
 -- a repair by that member is a duplicate after such a rest, or is not
@@ -248,10 +243,6 @@ with_timer_set at n ticks who width m = record (with_next_word m) {
   repairs = put name_cmp n (record { set = at; expiry = at + ticks; requester = who; width = width }) m.repairs;
 }
 
--- the length of the timer of a second step, as of a repair timer over no distance: a tick
-abbrev pub second_step_length : MemberState → ℕ
-second_step_length m = length_in m (span_by m.fixed.backoff 0 m.repair_interval.start m.repair_interval.width 0)
-
 -- whether a repair with this for it begins a second step, after such a rest: the member asked, it holds the name, and
 -- neither plans a repair of it nor rests for such a request of its own
 abbrev pub begins_second_step : ℕ → Name → Resting → Local → MemberState → Bool
@@ -260,12 +251,12 @@ begins_second_step at n rest l m =
     && ((has_entry n m.held && not (has_entry n m.repairs))
     && not (rests_for at m.fixed rest m.fixed.member (Some l.width)))
 
--- the second step of a repair, sent on by the member that asked
+-- the second step of a repair, sent on by the member that asked. Its timer is as long as one over no distance: a tick
 abbrev pub with_second_step : ℕ → Name → Resting → Option Local → MemberState → MemberState
 with_second_step at n rest None m = m
 with_second_step at n rest (Some l) m =
     if begins_second_step at n rest l m
-    then with_timer_set at n (second_step_length m) m.fixed.member (Some l.width) m
+    then with_timer_set at n (repair_length m 0) m.fixed.member (Some l.width) m
     else m
 
 -- after a repair of this name by that member was heard: the member rests; a pending repair timer that the repair serves
@@ -290,7 +281,7 @@ with_repairs_begun m = record m { repair_interval = begin_period m.fixed.d1 m.fi
 -- plan a repair, for a request of this width by that member
 abbrev pub with_repair_timer : ℕ → Name → ℕ → Option ℕ → MemberState → MemberState
 with_repair_timer at n who width m0 =
-    let m = with_repairs_begun m0 in with_timer_set at n (repair_length m who) who width m
+    let m = with_repairs_begun m0 in with_timer_set at n (repair_length m (distance_to m who)) who width m
 
 -- a request of this width by that member takes a pending repair timer over, if it is wider
 abbrev pub with_timer_taken_over : Name → ℕ → Option ℕ → Repairing → MemberState → MemberState
@@ -299,14 +290,12 @@ with_timer_taken_over n who width r m =
     then record m { repairs = put name_cmp n (record r { requester = who; width = width }) m.repairs }
     else m
 
--- a request that is held is a duplicate
-abbrev pub with_duplicate_request : MemberState → MemberState
-with_duplicate_request m = record m { request_interval = hear_duplicate m.request_interval }
-
--- a request for a name that is missing
+-- a request for a name that is missing: one that comes before the ignore time is a duplicate
 abbrev pub hear_request_by_entry : ℕ → Name → List Name → MemberState → Option Missing → Reaction
 hear_request_by_entry at n lost m None = quietly m Hold lost
-hear_request_by_entry at n lost m (Some e) = if nat_lt at e.ignore then quietly (with_duplicate_request m) Hold lost
+hear_request_by_entry at n lost m (Some e) =
+    if nat_lt at e.ignore
+    then quietly (record m { request_interval = hear_duplicate m.request_interval }) Hold lost
     else quietly (back_off at n e m) Back lost
 
 -- a request for a name that is not held
@@ -321,7 +310,7 @@ hear_request_by_timer at n who width m (Some r) = quietly (with_timer_taken_over
 -- a request for a name that is held
 abbrev pub hear_request_of_held : ℕ → Name → ℕ → Option ℕ → MemberState → Reaction
 hear_request_of_held at n who width m =
-    if is_at_rest at n who width m then quietly m Rest []
+    if rests_for at m.fixed (rest_of n m) who width then quietly m Rest []
     else hear_request_by_timer at n who width m (find name_cmp n m.repairs)
 
 -- a request for this name, of this width, by that member
@@ -407,26 +396,18 @@ expire_repair_by_entry at n m (Some r) =
 unfoldable pub expire_repair : ℕ → Name → MemberState → Reaction
 expire_repair at n m = expire_repair_by_entry at n m (find name_cmp n m.repairs)
 
--- a page of the member's own
-abbrev pub own_page : MemberState → ℕ → PageId
-own_page m page = record { source = m.fixed.member; page = page }
-
 -- the entry of a page on which the member draws
 abbrev pub own_progress : MemberState → PageId → Progress
 own_progress m p = unwrap_or (find page_cmp p m.progress) (record { floor = 0; next = 0 })
 
--- after a draw: the operation is held, and numbers go on
-abbrev pub with_drawn : PageId → ℕ → Progress → MemberState → MemberState
-with_drawn p ink s m = with_held (name_in p s.next) ink
-    (with_progress p (record { floor = s.floor; next = s.next + 1 }) m)
-
--- a drawing operation of this member, up to 4,096 on a page
+-- a drawing operation of this member, up to 4,096 on a page of its own: it is held, and numbers go on
 unfoldable pub draw_operation : ℕ → ℕ → MemberState → Reaction
 draw_operation page ink m =
-    let p = own_page m page in
+    let p : PageId = record { source = m.fixed.member; page = page } in
     let s = own_progress m p in
+    let n = name_in p s.next in
     if is_sender m.fixed.role && nat_lt s.next most_drawn
-    then send_body (with_drawn p ink s m) (Drawop (name_in p s.next) ink)
+    then send_body (with_held n ink (with_progress p (record { floor = s.floor; next = s.next + 1 }) m)) (Drawop n ink)
     else quietly m Skip []
 
 -- a session message: of every page that has an entry, the highest number heard of
@@ -483,20 +464,14 @@ adapted_at (Answer n) before after = adapted_since before after
 adapted_at (Draw page ink) before after = adapted_since before after
 adapted_at Report before after = adapted_since before after
 
--- an answer that tells this of intervals
-abbrev pub with_adapted : Option Intervals → React → React
-with_adapted o a = record a { adapted = o }
-
 -- with what it tells of intervals, which were these before the event
 abbrev pub telling_intervals : Cause → Intervals → Reaction → Reaction
 telling_intervals cause before r = record r {
-  answer = with_adapted (adapted_at cause before (intervals_of r.state)) r.answer;
+  answer = record r.answer { adapted = adapted_at cause before (intervals_of r.state) };
 }
-
--- what a member that is no listener answers, and what it knows then
-abbrev pub react_telling : MemberState → ℕ → Cause → Reaction
-react_telling m at cause = telling_intervals cause (intervals_of m) (react_active m at cause)
 
 -- what a member answers to a cause at a time, and what it knows then
 unfoldable pub react : MemberState → ℕ → Cause → Reaction
-react m at cause = if is_listener m.fixed.role then react_listener m cause else react_telling m at cause
+react m at cause =
+    if is_listener m.fixed.role then react_listener m cause
+    else telling_intervals cause (intervals_of m) (react_active m at cause)

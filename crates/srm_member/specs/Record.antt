@@ -81,12 +81,10 @@ timers (Active m) = timers_of m
 timers (Gone f) = []
 
 -- timers are compared by time, rank and name
-abbrev pub numbers_of_due : Due → List ℕ
-numbers_of_due d = d.time ∷ rank_number d.rank ∷ d.name.source ∷ d.name.page ∷ d.name.number ∷ []
-
--- number by number
 abbrev pub due_cmp : Due → Due → Ordering
-due_cmp d e = slice_cmp nat_cmp (numbers_of_due d) (numbers_of_due e)
+due_cmp d e =
+    slice_cmp nat_cmp (d.time ∷ rank_number d.rank ∷ d.name.source ∷ d.name.page ∷ d.name.number ∷ [])
+    (e.time ∷ rank_number e.rank ∷ e.name.source ∷ e.name.page ∷ e.name.number ∷ [])
 
 -- the earlier of a timer and another, if there is another
 abbrev pub earlier_timer : Due → Option Due → Due

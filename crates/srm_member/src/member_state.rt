@@ -6,7 +6,7 @@ ghost use Rattle.srm_member.specs.Backoff.{span_by};
 ghost use Rattle.srm_member.specs.Intervals.{greatest_adapted};
 ghost use Rattle.srm_member.specs.Record.{opening_state, exit_of, earliest, timers_of};
 ghost use Rattle.srm_net.specs.Paths.{is_in};
-ghost use Rattle.srm_member.specs.React.{distance_to, length_in, with_next_word, request_length, repair_length, with_request_delay, back_off, begins_at, meet, with_progress, lose_one, lose_from, with_losses_begun, lose_below, names_from, lost_below, hear_data, base, after_repair_delay, with_repairs_begun, with_repair_timer, hear_request_of_missing, hear_request_of_held, hear_request, after_entry, lost_by_entry, hear_session, hear_body, with_request_first, expire_request, with_repair_first, expire_repair, own_progress, draw_operation, session_of, send_body, intervals_of, adapted_since, with_adapted};
+ghost use Rattle.srm_member.specs.React.{distance_to, length_in, with_next_word, request_length, repair_length, with_request_delay, back_off, begins_at, meet, with_progress, lose_one, lose_from, with_losses_begun, lose_below, names_from, lost_below, hear_data, base, after_repair_delay, with_repairs_begun, with_repair_timer, hear_request_of_missing, hear_request_of_held, hear_request, after_entry, lost_by_entry, hear_session, hear_body, with_request_first, expire_request, with_repair_first, expire_repair, own_progress, draw_operation, session_of, send_body, intervals_of, adapted_since};
 ghost use Rattle.srm_member.specs.Fit.{IsBounded, Acts, Gives};
 
 use crate::adapted::Adapted;
@@ -138,7 +138,7 @@ impl MemberState {
 
     // The length of a new repair timer for a request of this member, in ticks.
     fn repair_length(&mut self, who: u16) -> u64
-        ensures length { result ≡ repair_length self.old who }
+        ensures length { result ≡ repair_length self.old (distance_to self.old who) }
         ensures word { self.new ≡ with_next_word self.old }
         ensures bound { result < 2 ^ 58 }
     {
@@ -648,7 +648,7 @@ impl MemberState {
     /// The answer to an event that is no join, with what it tells of the intervals, which were these before the event.
     #[inline]
     pub fn tell(&self, alloc: Global, before: Intervals, react: React) -> Result<React, AllocError>
-        ensures { IfOk result (λ r. r ≡ with_adapted (adapted_since before (intervals_of self.now)) react) }
+        ensures { IfOk result (λ r. r ≡ record react { adapted = adapted_since before (intervals_of self.now) }) }
     {
         let adapted = Adapted::since(alloc, before, self.intervals())?;
         react.telling(alloc, adapted)

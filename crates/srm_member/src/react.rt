@@ -3,7 +3,6 @@ ghost use Rattle.std.specs.Prelude.{◌≡◌, ◌≢◌, [], None, Some, IfOk, 
 ghost use Rattle.std.specs.Option.{option_copied};
 ghost use Rattle.srm_member.specs.declared.told.Told.TheVariants.{Sent};
 ghost use Rattle.srm_member.specs.Answers.{answer_of};
-ghost use Rattle.srm_member.specs.React.{with_adapted};
 
 use crate::adapted::Adapted;
 use crate::intervals::Intervals;
@@ -82,7 +81,7 @@ impl React {
     /// [`AllocError`].
     #[inline]
     pub fn telling(self, alloc: Global, adapted: Adapted) -> Result<Self, AllocError>
-        ensures { IfOk result (λ r. r ≡ with_adapted adapted self) }
+        ensures { IfOk result (λ r. r ≡ record self { adapted = adapted }) }
     {
         let React { told, rare } = self;
         if let Some(mut rare) = rare {

@@ -22,18 +22,18 @@ use Rattle.srm_member.specs.Fit.{heard_of}
 use Rattle.srm_member.specs.Record.{MemberState, Progress}
 use Rattle.srm_net.specs.Roles.{is_listener}
 use Rattle.srm_member.specs.React.{Reaction, quietly, has_entry, with_progress, meet, lose_one, lose_from, names_from, lose_below}
-use Rattle.srm_member.specs.React.{lost_below, with_mending_seen}
+use Rattle.srm_member.specs.React.{lost_below, with_mending_seen, telling_intervals, intervals_of}
 use Rattle.srm_member.specs.React.{with_held, with_mended, hear_data, hear_request_by_entry}
-use Rattle.srm_member.specs.React.{hear_request_by_timer, hear_request_of_held, hear_request, is_at_rest, with_repair_timer}
+use Rattle.srm_member.specs.React.{hear_request_by_timer, hear_request_of_held, hear_request, with_repair_timer}
 use Rattle.srm_member.specs.React.{after_repair, begins_second_step, hear_repair, is_skip, rest_of, with_own_timer_ended}
 use Rattle.srm_member.specs.React.{with_repair_seen, with_rest, with_second_step, with_timer_taken_over}
-use Rattle.srm_member.specs.LocalRecovery.{is_second_step, local_of, mark_after, mark_from, serves, takes_over}
+use Rattle.srm_member.specs.LocalRecovery.{is_second_step, local_of, mark_after, mark_from, serves, takes_over, rests_for}
 use Rattle.srm_member.specs.declared.mark.RepairMark.{RepairMark}
 use Rattle.srm_member.specs.declared.resting.Resting.{Resting}
 use Rattle.srm_member.specs.React.{page_heard, after_entry, lost_by_entry, hear_session, hear_body, expire_request_by_entry, expire_request}
 use Rattle.srm_member.specs.React.{expire_repair_by_entry, expire_repair}
 use Rattle.srm_member.specs.React.{draw_operation, react_active, react_listener}
-use Rattle.srm_member.specs.React.{react, react_telling, with_adapted}
+use Rattle.srm_member.specs.React.{react}
 use Rattle.srm_member.specs.declared.intervals.Intervals.{Intervals}
 use Rattle.srm_member.proofs.AllIn.{AllIn, AllIn-append, AllIn-map}
 use Rattle.srm_member.proofs.Changes.{Below, from_page, entry_effect}
@@ -210,7 +210,7 @@ module _ (members : ℕ) where
 
   held_known : (at : ℕ) (n : Name) (who : ℕ) (width : Option ℕ) (m : MemberState) → PagesOf m.progress
       → Known (hear_request_of_held at n who width m)
-  held_known at n who width m g = either_way Known (is_at_rest at n who width m) _ _ (plain m Rest g)
+  held_known at n who width m g = either_way Known (rests_for at m.fixed (rest_of n m) who width) _ _ (plain m Rest g)
       (timer_known at n who width m (find name_cmp n m.repairs) g)
 
   request_known : (at : ℕ) (n : Name) (who : ℕ) (width : Option ℕ) (m : MemberState) → n.source < members → PagesOf m.progress
@@ -308,11 +308,12 @@ module _ (members : ℕ) where
   listener_known m cause g = grind arith
 
   -- what it tells of intervals has no part in that
-  told_known : (o : Option Intervals) (r : Reaction) → Known r → Known (record r { answer = with_adapted o r.answer })
+  told_known : (o : Option Intervals) (r : Reaction) → Known r → Known (record r { answer = record r.answer { adapted = o } })
   told_known o r k = record { pages = k.pages; lost = k.lost; apart = k.apart; session = k.session }
 
   by_role : (m : MemberState) (at : ℕ) (cause : Cause) (b : Bool) → is_listener m.fixed.role ≡ b → m.fixed.member < members
-      → CauseOf cause → PagesOf m.progress → Known (cond b (react_listener m cause) (react_telling m at cause))
+      → CauseOf cause → PagesOf m.progress
+      → Known (cond b (react_listener m cause) (telling_intervals cause (intervals_of m) (react_active m at cause)))
   by_role m at cause true q h c g = listener_known m cause g
   by_role m at cause false q h c g = told_known _ (react_active m at cause) (active_known m at cause q h c g)
 

@@ -71,7 +71,8 @@ pub record IsOwnMark (t : Traffic) (j : ℕ) (k : Mark) : Type 0 where
 pub record MarksOf (Q : Mark → Type 0) (m : ℕ) (e : Event) : Type 0 where
   pub member : e.key.member ≡ m
   pub rest : AllIn Q e.rest.script
-  pub from : ((k : Mark) × Q k × (e.cause ≡ cause_of_mark k) × (e.key ≡ mark_key m k)) ⊎ ((c : Cause) × (e.cause ≡ Some c) × (c ≢ Join))
+  pub from : ((k : Mark) × Q k × (e.cause ≡ cause_of_mark k.rank k) × (e.key ≡ mark_key m k))
+      ⊎ ((c : Cause) × (e.cause ≡ Some c) × (c ≢ Join))
 
 module _ (Q : Mark → Type 0) (m : ℕ) (c : PlainCell) (all : AllIn Q c.script) where
   arrival_marks : (fs : List Flight) → OnEvent (MarksOf Q m) (first_arrival m c fs)

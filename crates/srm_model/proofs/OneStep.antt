@@ -14,7 +14,7 @@ use Rattle.srm_cell.specs.declared.flight.Flight.{Flight}
 use Rattle.srm_cell.specs.Setting.{Setting, arrival_of, cause_of_mark}
 use Rattle.srm_cell.specs.Cells.{PlainCell, Event, first_arrival, first_mark, next_timer, next_event, before, StepOutcome, Idle, Full}
 use Rattle.srm_cell.specs.Cells.{hear_at}
-use Rattle.srm_cell.specs.Cells.{Spent, Done, Stepped, word_of, about_of, packet_of, parting, handle, step_at}
+use Rattle.srm_cell.specs.Cells.{Spent, Done, Stepped, word_of, about_of, packet_of, handle, step_at}
 use Rattle.srm_cell.specs.OwnRuns.{told_to}
 use Rattle.srm_cell.proofs.Rising.{OnEvent, earlier_on, OnStep}
 use Rattle.srm_cell.proofs.CellSteps.{some_not_idle}
@@ -22,6 +22,7 @@ use Rattle.srm_model.proofs.Settled.{get_after}
 use Rattle.srm_model.proofs.RunLemmas.{least_from, run_by, run_first, step_none, step_is}
 use Rattle.srm_model.specs.World.{World, cells_after, after_step, least_event, step, run, opening_cells}
 use Rattle.srm_cell.specs.Cells.{due_in}
+use Rattle.srm_member.specs.declared.told.Told.TheVariants.{Parted}
 pub use Rattle.srm_model.proofs.Settled.{each_after, length_after}
 
 -- ---- what a cell's least event is
@@ -50,7 +51,7 @@ pub record IsPending (m : ℕ) (c : PlainCell) (e : Event) : Type 0 where
 arrival_pends : (m : ℕ) (c : PlainCell) (fs : List Flight) → c.inbox ≡ fs → OnEvent (IsPending m c) (first_arrival m c fs)
 arrival_pends m c fs h = grind arith
 
-mark_no_arrival : (k : Mark) → NoArrival (cause_of_mark k)
+mark_no_arrival : (k : Mark) → NoArrival (cause_of_mark k.rank k)
 mark_no_arrival k = grind arith
 
 mark_pends : (m : ℕ) (c : PlainCell) (ks : List Mark) → OnEvent (IsPending m c) (first_mark m c ks)
@@ -98,7 +99,7 @@ pub record Leaves (e : Event) (d : Stepped) : Type 0 where
   pub is : e.cause ≡ None
   pub holds_then : d.cell.holds ≡ None
   pub exit : d.cell.exit ≡ Some (exit_of state)
-  pub told : d.row.told ≡ parting.told
+  pub told : d.row.told ≡ Parted
   pub lost : d.row.lost ≡ []
   pub about : d.row.about ≡ about_of None None
   pub sends : Sends e None d

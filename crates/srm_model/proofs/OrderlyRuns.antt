@@ -1,9 +1,9 @@
 -- The rows of a run of an accepted scenario are orderly.
 use Rattle.std.proofs.Common.{◌≡◌, ℕ, zero, suc, ◌<◌, ◌+◌, List, [], ◌∷◌, ◌++◌, length, refl, sym, ap, ◌∙◌, subst, inl, inr, arith, Option}
-use Rattle.std.proofs.Common.{Some, None, unwrap_or, slice_get, append_assoc, zero-add}
+use Rattle.std.proofs.Common.{Some, None, slice_get, append_assoc, zero-add}
 use Rattle.std.specs.List.{Contains}
 use Rattle.std.proofs.lemmas.List.Elements.{Contains-append_left, Contains-append_right}
-use Rattle.std.proofs.lemmas.Option.{slice_get-get_or, same_Some}
+use Rattle.std.proofs.lemmas.Option.{same_Some}
 use Rattle.srm_net.specs.declared.packet.Name.{Name}
 use Rattle.srm_net.specs.declared.packet.Body.{Body}
 use Rattle.srm_net.specs.declared.packet.Body.TheVariants.{Drawop, Request, Repair, Session}
@@ -27,10 +27,10 @@ use Rattle.srm_member.specs.React.{Reaction, react}
 use Rattle.srm_member.specs.Orderly.{carried, brought, LostIn, FixedIn, IsAmong, AreLostOnce, AreFixedAfterLoss, IsOrderly}
 use Rattle.srm_member.proofs.AllIn.{AllIn, AllIn-weaker, AllIn-places, AllIn-at_places}
 use Rattle.srm_member.proofs.Changes.{Below, Effect, effect}
-use Rattle.srm_cell.specs.Setting.{Traffic, Setting, IsFit, arrival_of, setting_of, member_at, no_member}
+use Rattle.srm_cell.specs.Setting.{Traffic, Setting, IsFit, arrival_of, setting_of, member_at}
 use Rattle.srm_cell.specs.Cells.{PlainCell, opening_cell, hear_at, hear, Event, next_event, before, Stepped}
 use Rattle.srm_cell.specs.OwnRuns.{told_to}
-use Rattle.srm_cell.proofs.FitSettings.{settings_are_fit}
+use Rattle.srm_cell.proofs.FitSettings.{settings_are_fit, present}
 use Rattle.srm_cell.proofs.Rising.{OnEvent, before_on}
 use Rattle.srm_model.specs.World.{World, cells_after, opening, opening_cells, run, row_cmp, IsReached}
 use Rattle.srm_model.specs.Handed.{SentIn}
@@ -398,10 +398,9 @@ module _ (p : PlainScenario) (a : IsAccepted p) (seed : ℕ) where
 
   own_marks : (j : ℕ) → j < length p.members → AllIn (IsOwnMark t j) (script_of p j)
   own_marks j lt =
-      let there = slice_get-get_or p.members j no_member lt in
-      let is : slice_get p.members j ≡ Some (member_at p j) = there ∙ ap Some (sym (ap (λ o. unwrap_or o no_member) there)) in
       let Q = IsMark p.until (member_at p j) in
-      let marks : AllIn Q (script_of p j) = AllIn-at_places Q (script_of p j) (scripts_fit p a j (member_at p j) is).marks in
+      let script = scripts_fit p a j (member_at p j) (present p a j lt) in
+      let marks : AllIn Q (script_of p j) = AllIn-at_places Q (script_of p j) script.marks in
       AllIn-weaker Q (IsOwnMark t j) (own_mark j) (script_of p j) marks
 
 pub traces_are_orderly : TracesAreOrderly

@@ -20,12 +20,12 @@ use Rattle.srm_member.specs.declared.entries.Repairing.{Repairing}
 use Rattle.srm_member.specs.Record.{MemberState, Progress}
 use Rattle.srm_member.specs.React.{Reaction, after_entry, draw_operation, expire_repair, expire_repair_by_entry, expire_request}
 use Rattle.srm_member.specs.React.{expire_request_by_entry, has_entry, hear_body, hear_data, hear_repair, hear_request}
-use Rattle.srm_member.specs.React.{hear_request_by_entry, hear_request_by_timer, hear_request_of_held, hear_session, is_at_rest}
-use Rattle.srm_member.specs.React.{is_skip, listen, after_repair, begins_second_step, rest_of, second_step_length, with_answer_seen}
-use Rattle.srm_member.specs.React.{listen_data, lose_below, lose_from, lose_one, lost_below, lost_by_entry, meet, own_page}
-use Rattle.srm_member.specs.React.{own_progress, page_heard, react, react_active, react_listener, react_telling}
+use Rattle.srm_member.specs.React.{hear_request_by_entry, hear_request_by_timer, hear_request_of_held, hear_session}
+use Rattle.srm_member.specs.React.{is_skip, listen, after_repair, begins_second_step, rest_of, with_answer_seen, repair_length}
+use Rattle.srm_member.specs.React.{listen_data, lose_below, lose_from, lose_one, lost_below, lost_by_entry, meet}
+use Rattle.srm_member.specs.React.{own_progress, page_heard, react, react_active, react_listener, telling_intervals, intervals_of}
 use Rattle.srm_member.specs.React.{with_losses_begun, with_progress, with_repair_seen, with_rest, with_second_step, with_timer_set}
-use Rattle.srm_member.specs.LocalRecovery.{is_second_step, local_of, mark_after, mark_from, serves, takes_over}
+use Rattle.srm_member.specs.LocalRecovery.{is_second_step, local_of, mark_after, mark_from, serves, takes_over, rests_for}
 use Rattle.srm_member.specs.declared.mark.RepairMark.{RepairMark}
 use Rattle.srm_member.specs.declared.resting.Resting.{Resting}
 use Rattle.srm_member.proofs.Changes.{Allowed, Effect, Quiet, effect}
@@ -113,7 +113,7 @@ second_but : (at : ℕ) (n : Name) (rest : Resting) (local : Option Local) (m : 
     → FewerBut n m (with_second_step at n rest local m)
 second_but at n rest None m = but_same n m m refl
 second_but at n rest (Some l) m = if_either (FewerBut n m) (begins_second_step at n rest l m) _ m
-    (set_but at n (second_step_length m) m.fixed.member (Some l.width) m) (but_same n m m refl)
+    (set_but at n (repair_length m 0) m.fixed.member (Some l.width) m) (but_same n m m refl)
 
 after_but : (at : ℕ) (n : Name) (who : ℕ) (local : Option Local) (m : MemberState) → FewerBut n m (after_repair at n who local m)
 after_but at n who local m =
@@ -148,7 +148,7 @@ timer_but at n who width m (Some r) = if_either (FewerBut n m) (takes_over m.fix
 
 held_but : (at : ℕ) (n : Name) (who : ℕ) (width : Option ℕ) (m : MemberState) → FewerBut n m (hear_request_of_held at n who width m).state
 held_but at n who width m =
-    if_either (λ (r : Reaction). FewerBut n m r.state) (is_at_rest at n who width m) _ _ (but_same n m m refl)
+    if_either (λ (r : Reaction). FewerBut n m r.state) (rests_for at m.fixed (rest_of n m) who width) _ _ (but_same n m m refl)
     (timer_but at n who width m (find name_cmp n m.repairs))
 
 request_but : (at : ℕ) (n : Name) (who : ℕ) (width : Option ℕ) (m : MemberState) → FewerBut n m (hear_request at n who width m).state
@@ -210,7 +210,7 @@ answer_fewer at n m (Some r) k h =
 draw_same : (page ink : ℕ) (m : MemberState) → Same m (draw_operation page ink m).state
 unfolding draw_operation
 draw_same page ink m =
-    let s = own_progress m (own_page m page) in
+    let s = own_progress m (record { source = m.fixed.member; page = page }) in
     if_either (λ (r : Reaction). Same m r.state) (is_sender m.fixed.role && nat_lt s.next most_drawn) _ _ refl refl
 
 active_caused : (m : MemberState) (at : ℕ) (cause : Cause) (n : Name) → Has n (react_active m at cause).state.repairs → IsCaused m cause n
@@ -244,7 +244,8 @@ listener_same m Report = refl
 pub timers_caused : (m : MemberState) (at : ℕ) (cause : Cause) (n : Name) → Has n (react m at cause).state.repairs → IsCaused m cause n
 unfolding react
 timers_caused m at cause n h = elim (is_listener m.fixed.role) as
-    (λ b. Has n (cond b (react_listener m cause) (react_telling m at cause)).state.repairs → IsCaused m cause n) [
+    (λ b. Has n (cond b (react_listener m cause) (telling_intervals cause (intervals_of m) (react_active m at cause))).state.repairs
+    → IsCaused m cause n) [
       | true ↦ λ g. inl (fewer_of m (react_listener m cause).state (listener_same m cause) n g)
       | false ↦ λ g. active_caused m at cause n g
     ] h
@@ -284,7 +285,8 @@ answer_entry at n m (Some x) e h = ap is_some e
 pub asks_for : (m : MemberState) (at : ℕ) (n : Name) → (react m at (Ask n)).answer.told ≡ Sent → Has n m.missing
 unfolding react expire_request
 asks_for m at n h = elim (is_listener m.fixed.role) as
-    (λ b. (cond b (react_listener m (Ask n)) (react_telling m at (Ask n))).answer.told ≡ Sent → Has n m.missing) [
+    (λ b. (cond b (react_listener m (Ask n)) (telling_intervals (Ask n) (intervals_of m) (react_active m at (Ask n)))).answer.told ≡ Sent
+    → Has n m.missing) [
       | true ↦ λ g. let x : Skip ≡ Sent = g in cc
       | false ↦ λ g. ask_entry at n m (find name_cmp n m.missing) refl g
     ] h
@@ -293,7 +295,8 @@ asks_for m at n h = elim (is_listener m.fixed.role) as
 pub answers_for : (m : MemberState) (at : ℕ) (n : Name) → (react m at (Answer n)).answer.told ≡ Sent → Has n m.repairs
 unfolding react expire_repair
 answers_for m at n h = elim (is_listener m.fixed.role) as
-    (λ b. (cond b (react_listener m (Answer n)) (react_telling m at (Answer n))).answer.told ≡ Sent → Has n m.repairs) [
+    (λ b. (cond b (react_listener m (Answer n))
+    (telling_intervals (Answer n) (intervals_of m) (react_active m at (Answer n)))).answer.told ≡ Sent → Has n m.repairs) [
       | true ↦ λ g. let x : Skip ≡ Sent = g in cc
       | false ↦ λ g. answer_entry at n m (find name_cmp n m.repairs) refl g
     ] h

@@ -12,7 +12,7 @@ use Rattle.srm_cell.proofs.Rising.{Above, IsAbove, OnEvent, OnStep, before_on, n
 use Rattle.srm_cell.specs.Cells.{arrival_key, mark_key, timer_key, Done, Event, PlainCell, StepOutcome, Stepped, before, hear, hear_at}
 use Rattle.srm_cell.specs.Cells.{next_event, step_at}
 use Rattle.srm_cell.proofs.Tidy.{NotBefore, later_not_before}
-use Rattle.srm_cell.specs.Flights.{flight_cmp, numbers_of_flight}
+use Rattle.srm_cell.specs.Flights.{flight_cmp}
 use Rattle.srm_cell.specs.OwnRuns.{told_to}
 use Rattle.srm_cell.specs.Setting.{HasOwnRanks, IsFit, Setting, arrival_of}
 use Rattle.srm_cell.specs.declared.flight.Flight.{Flight}
@@ -69,7 +69,9 @@ unfolding nth_number
 fresh_apart cs f [] h a = tt
 fresh_apart cs f (g ∷ gs) h a = (
   (λ e.
-      let same = same_numbers (numbers_of_flight f) (numbers_of_flight g) e in
+      let same =
+      same_numbers (f.arrival ∷ f.packet.id.sender ∷ f.packet.id.count ∷ [])
+      (g.arrival ∷ g.packet.id.sender ∷ g.packet.id.count ∷ []) e in
       let sender : f.packet.id.sender ≡ g.packet.id.sender = ap (nth_number 1) same in
       let count : f.packet.id.count ≡ g.packet.id.count = ap (nth_number 2) same in
       let sent : sent_of cs f.packet.id.sender ≡ sent_of cs g.packet.id.sender = ap (sent_of cs) sender in

@@ -1,13 +1,13 @@
 -- Windows one after the other, from the beginning of a run to its end.
-use Rattle.std.specs.Prelude.{◌≡◌, ℕ, ◌<◌, ◌≤◌, List, [], ◌∷◌, ◌++◌, map, Some, None, unwrap_or}
+use Rattle.std.specs.Prelude.{◌≡◌, ℕ, ◌<◌, ◌≤◌, List, [], ◌∷◌, ◌++◌, map, Some, None, unwrap_or, ◌+◌, min}
 use Rattle.srm_net.specs.Network.{Network}
 use Rattle.srm_net.specs.Least.{least_delay}
 use Rattle.srm_cell.specs.Setting.{Setting}
-use Rattle.srm_cell.specs.Cells.{Event, before}
+use Rattle.srm_cell.specs.Cells.{Event, before, time_of}
 use Rattle.srm_cell.specs.Jobs.{PlainJob}
 use Rattle.srm_model.specs.World.{World, least_event, opening, IsReached}
 use Rattle.srm_model.specs.Schedules.{IsSafe}
-use Rattle.srm_model.specs.Windows.{least_time, width_end, IsFirstQuiet}
+use Rattle.srm_model.specs.Windows.{IsFirstQuiet}
 use Rattle.srm_model.specs.WindowRuns.{jobs_of}
 
 -- this event is the least pending one of a world, before `until`
@@ -20,7 +20,7 @@ IsOver s w = before s.traffic.until (least_event 0 w.cells) ≡ None
 
 -- when the window that begins in a world begins: at the least pending time of all
 abbrev pub start_of : Setting → World → ℕ
-start_of s w = unwrap_or (least_time w) s.traffic.until
+start_of s w = unwrap_or (time_of (least_event 0 w.cells)) s.traffic.until
 
 -- ---- where windows end
 
@@ -32,7 +32,7 @@ pub record IsEndRule (s : Setting) (rule : World → ℕ) : Type 0 where
 
 -- a window of this width ends so many ticks after it begins, at most at `until`
 abbrev pub width_rule : Setting → ℕ → World → ℕ
-width_rule s width w = width_end s width (start_of s w)
+width_rule s width w = min (start_of s w + width) s.traffic.until
 
 -- the widest width: the least link delay, or, where there is no link, one that no window comes to the end of before
 -- `until`

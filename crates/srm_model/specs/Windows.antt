@@ -7,7 +7,7 @@ use Rattle.srm_net.specs.Least.{least, least_delay}
 use Rattle.srm_net.specs.Roles.{is_listener}
 use Rattle.srm_cell.specs.Setting.{Setting}
 use Rattle.srm_cell.specs.Cells.{PlainCell, time_of, next_event, Done}
-use Rattle.srm_model.specs.World.{World, least_event, run}
+use Rattle.srm_model.specs.World.{World, run}
 use Rattle.srm_model.specs.Schedules.{IsQuiet}
 
 -- the lesser of a number and another, if there is another
@@ -20,17 +20,9 @@ unfoldable pub least_distance : Setting → ℕ → Option ℕ
 least_distance s m =
     least (map (s.traffic.distance m) (filter (λ b. not (b == m)) (range_with_len 0 s.traffic.members)))
 
--- the least pending time of all
-abbrev pub least_time : World → Option ℕ
-least_time w = time_of (least_event 0 w.cells)
-
 -- a width that no link's delay falls short of. Any is one where there is no link
 abbrev pub IsWidth : Network → ℕ → Type 0
 IsWidth net width = (delay : ℕ) → least_delay net ≡ Some delay → width ≤ delay
-
--- the end of a window of this width that begins at a time: no event at `until` or later is handled
-abbrev pub width_end : Setting → ℕ → ℕ → ℕ
-width_end s width start = min (start + width) s.traffic.until
 
 -- ---- promises
 

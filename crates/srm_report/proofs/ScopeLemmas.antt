@@ -8,7 +8,7 @@ use Rattle.std.specs.Cmp.{IsStrictWeakOrder}
 use Rattle.std.specs.List.{cons_option, count_by, filter_map, flat_map}
 use Rattle.std.specs.List.Sorted.{ties, IsSortedBy, IsStableBy}
 use Rattle.std.specs.Option.{option_map_or, unwrap_or}
-use Rattle.std.specs.Ordering.{nat_cmp, ordering_reverse, ordering_then}
+use Rattle.std.specs.Ordering.{nat_cmp, ordering_reverse, ordering_then, eq_by_cmp}
 use Rattle.std.specs.FinMap.Entries.{put, find, find-put}
 use Rattle.std.specs.Map.{lookup}
 use Rattle.std.specs.BTreeMap.{insert_entry, is_at}
@@ -44,7 +44,7 @@ use Rattle.srm_model.proofs.StandAlike.{listed_alike}
 use Rattle.srm_report.specs.declared.member_scopes.MemberScopes.{MemberScopes}
 use Rattle.srm_report.specs.declared.scope_entry.ScopeEntry.{ScopeEntry}
 use Rattle.srm_report.specs.KeptScopes.{count_in, HearMore, KeepsScopes}
-use Rattle.srm_report.specs.Scopes.{entries_in, entry_about, entry_of, heard_by, heard_in, hears, is_packet, scope_columns, scope_fields}
+use Rattle.srm_report.specs.Scopes.{entry_about, entry_of, heard_in, hears, scope_columns, scope_fields}
 use Rattle.srm_report.specs.Scopes.{scopes_table}
 use Rattle.srm_report.specs.Tables.{table_lines}
 use Rattle.srm_report.proofs.KeptLossLemmas.{all_few}
@@ -69,15 +69,16 @@ id_put p v es = ap (λ R. put R p v es) (sym ids_compared) ∙ maps.put-insert_e
 
 -- ---- one packet more is heard
 
-same_packet : (p q : PacketId) → is_packet p q ≡ true → p ≡ q
+same_packet : (p q : PacketId) → eq_by_cmp id_cmp p q ≡ true → p ≡ q
 same_packet p q h = identities_ordered.1 p q (is_Equal _ h)
 
 pub hear_one : (es : List (PacketId × ℕ)) (q : PacketId) → HearMore es (q ∷ []) (put id_cmp q (count_in es q + 1) es)
 hear_one es q p =
-    ap (λ o. unwrap_or o 0) (find-put id_cmp identities_ordered.0 p q (count_in es q + 1) es) ∙ by (is_packet p q) refl
-    ∙ ap (λ n. count_in es p + n) (sym (sum_by-cons (λ r. cond (is_packet p r) 1 0) q [] ∙ add-zero (cond (is_packet p q) 1 0)))
+    ap (λ o. unwrap_or o 0) (find-put id_cmp identities_ordered.0 p q (count_in es q + 1) es) ∙ by (eq_by_cmp id_cmp p q) refl
+    ∙ ap (λ n. count_in es p + n)
+    (sym (sum_by-cons (λ r. cond (eq_by_cmp id_cmp p r) 1 0) q [] ∙ add-zero (cond (eq_by_cmp id_cmp p q) 1 0)))
   where
-    by : (b : Bool) → is_packet p q ≡ b
+    by : (b : Bool) → eq_by_cmp id_cmp p q ≡ b
         → unwrap_or (cond b (Some (count_in es q + 1)) (find id_cmp p es)) 0 ≡ count_in es p + cond b 1 0
     by true e = ap (λ r. count_in es r + 1) (sym (same_packet p q e))
     by false e = sym (add-zero (count_in es p))
@@ -87,31 +88,31 @@ hear_none es p = sym (add-zero (count_in es p))
 
 -- what is counted from nothing is counted of these packets alone
 pub hear_all : (ps : List PacketId) (es : List (PacketId × ℕ)) → HearMore [] ps es → (p : PacketId)
-    → count_in es p ≡ count_by (is_packet p) ps
-hear_all ps es h p = let first : count_in es p ≡ 0 + count_by (is_packet p) ps = h p in omega (arith, first)
+    → count_in es p ≡ count_by (eq_by_cmp id_cmp p) ps
+hear_all ps es h p = let first : count_in es p ≡ 0 + count_by (eq_by_cmp id_cmp p) ps = h p in omega (arith, first)
 
 pub hear_more : (xs ys : List PacketId) (a b c : List (PacketId × ℕ)) → HearMore a xs b → HearMore b ys c → HearMore a (xs ++ ys) c
 hear_more xs ys a b c h k p =
     let first = h p in
     let second = k p in
-    let both = sum_by-append (λ r. cond (is_packet p r) 1 0) xs ys in
+    let both = sum_by-append (λ r. cond (eq_by_cmp id_cmp p r) 1 0) xs ys in
     omega (arith, both)
 
 -- ---- how often rows tell that a packet is heard
 
-pub count_heard : (p : PacketId) (rows : List Row) → count_by (is_packet p) (filter_map heard_in rows) ≡ heard_by rows p
+pub count_heard : (p : PacketId) (rows : List Row) → count_by (eq_by_cmp id_cmp p) (filter_map heard_in rows) ≡ count_by (hears p) rows
 count_heard p [] = refl
 count_heard p (r ∷ rows) =
     by (heard_in r) ∙ ap (λ n. cond (hears p r) 1 0 + n) (count_heard p rows) ∙ sym (sum_by-cons (λ q. cond (hears p q) 1 0) r rows)
   where
-    by : (o : Option PacketId) → count_by (is_packet p) (cons_option o (filter_map heard_in rows))
-        ≡ cond (option_map_or (is_packet p) o false) 1 0 + count_by (is_packet p) (filter_map heard_in rows)
+    by : (o : Option PacketId) → count_by (eq_by_cmp id_cmp p) (cons_option o (filter_map heard_in rows))
+        ≡ cond (option_map_or (eq_by_cmp id_cmp p) o false) 1 0 + count_by (eq_by_cmp id_cmp p) (filter_map heard_in rows)
     by None = omega arith
-    by (Some q) = sum_by-cons (λ x. cond (is_packet p x) 1 0) q (filter_map heard_in rows)
+    by (Some q) = sum_by-cons (λ x. cond (eq_by_cmp id_cmp p x) 1 0) q (filter_map heard_in rows)
 
-heard_alike : (p : PacketId) (xs ys : List Row) → AreAlike xs ys → heard_by xs p ≡ heard_by ys p
+heard_alike : (p : PacketId) (xs ys : List Row) → AreAlike xs ys → count_by (hears p) xs ≡ count_by (hears p) ys
 heard_alike p =
-    same_of_alike (λ rows. heard_by rows p) (λ r n. cond (hears p r) (n + 1) n) (λ pre x post. count_within (hears p) pre x post)
+    same_of_alike (λ rows. count_by (hears p) rows) (λ r n. cond (hears p r) (n + 1) n) (λ pre x post. count_within (hears p) pre x post)
 
 -- ---- entries in the order of their keys
 
@@ -149,20 +150,21 @@ has_key r = by ((is_ask r.cause || is_answer r.cause) && is_sent r.told) (about 
     by false h = tt
 
 none_below : (k : Row) (e : ScopeEntry) → e.key ≡ k.key → (rows : List Row) → AllAfter (λ (q r : Row). key_cmp q.key r.key) k rows
-    → NoneBelow entry_cmp e (entries_in rows)
+    → NoneBelow entry_cmp e (filter_map entry_of rows)
 none_below k e is [] h = tt
 none_below k e is (r ∷ rows) h = by (entry_of r) (has_key r) (none_below k e is rows h.1)
   where
-    by : (o : Option ScopeEntry) → HasKey r o → NoneBelow entry_cmp e (entries_in rows)
-        → NoneBelow entry_cmp e (cons_option o (entries_in rows))
+    by : (o : Option ScopeEntry) → HasKey r o → NoneBelow entry_cmp e (filter_map entry_of rows)
+        → NoneBelow entry_cmp e (cons_option o (filter_map entry_of rows))
     by None g rest = rest
     by (Some x) g rest = ((λ i. is_lt (key_cmp (g i) (is i))) ∙ lt-asym key_cmp key_total k.key r.key (ap is_lt h.0), rest)
 
-entries_rise : (rows : List Row) → Ascends (λ (q r : Row). key_cmp q.key r.key) rows → Rises entry_cmp (entries_in rows)
+entries_rise : (rows : List Row) → Ascends (λ (q r : Row). key_cmp q.key r.key) rows → Rises entry_cmp (filter_map entry_of rows)
 entries_rise [] h = tt
 entries_rise (r ∷ rows) h = by (entry_of r) (has_key r) (entries_rise rows h.1)
   where
-    by : (o : Option ScopeEntry) → HasKey r o → Rises entry_cmp (entries_in rows) → Rises entry_cmp (cons_option o (entries_in rows))
+    by : (o : Option ScopeEntry) → HasKey r o → Rises entry_cmp (filter_map entry_of rows)
+        → Rises entry_cmp (cons_option o (filter_map entry_of rows))
     by None g rest = rest
     by (Some x) g rest = (none_below r x g rows h.0, rest)
 
@@ -183,34 +185,36 @@ one_key x e h = by (key_cmp x.key e.key) refl
 
 -- those that tie with an entry are told by the rows of its member
 of_member : (x : ScopeEntry) (rows : List Row)
-    → filter (alike x) (entries_in rows) ≡ filter (alike x) (entries_in (rows_of_member x.key.member rows))
+    → filter (alike x) (filter_map entry_of rows) ≡ filter (alike x) (filter_map entry_of (rows_of_member x.key.member rows))
 of_member x [] = refl
 of_member x (r ∷ rows) = by (r.key.member == x.key.member) refl (entry_of r) (has_key r) refl (of_member x rows)
   where
     skip : (e : ScopeEntry) → e.key ≡ r.key → (r.key.member == x.key.member) ≡ false → (b : Bool) → alike x e ≡ b
-        → cond b (e ∷ filter (alike x) (entries_in rows)) (filter (alike x) (entries_in rows)) ≡ filter (alike x) (entries_in rows)
+        → cond b (e ∷ filter (alike x) (filter_map entry_of rows)) (filter (alike x) (filter_map entry_of rows))
+        ≡ filter (alike x) (filter_map entry_of rows)
     skip e is far true t = absurd (true≢false (sym (eq-eqb _ _ (ap (λ k. k.member) (sym is ∙ sym (one_key x e t)))) ∙ far))
     skip e is far false t = refl
 
     by : (b : Bool) → (r.key.member == x.key.member) ≡ b → (o : Option ScopeEntry) → HasKey r o → entry_of r ≡ o
-        → filter (alike x) (entries_in rows) ≡ filter (alike x) (entries_in (rows_of_member x.key.member rows))
-        → filter (alike x) (cons_option o (entries_in rows))
-        ≡ filter (alike x) (entries_in (cond b (r ∷ rows_of_member x.key.member rows) (rows_of_member x.key.member rows)))
+        → filter (alike x) (filter_map entry_of rows) ≡ filter (alike x) (filter_map entry_of (rows_of_member x.key.member rows))
+        → filter (alike x) (cons_option o (filter_map entry_of rows))
+        ≡ filter (alike x) (filter_map entry_of (cond b (r ∷ rows_of_member x.key.member rows) (rows_of_member x.key.member rows)))
     by true near None g e rest =
-        rest ∙ ap (λ o. filter (alike x) (cons_option o (entries_in (rows_of_member x.key.member rows)))) (sym e)
+        rest ∙ ap (λ o. filter (alike x) (cons_option o (filter_map entry_of (rows_of_member x.key.member rows)))) (sym e)
     by true near (Some f) g e rest =
         ap (λ l. cond (alike x f) (f ∷ l) l) rest
-        ∙ ap (λ o. filter (alike x) (cons_option o (entries_in (rows_of_member x.key.member rows)))) (sym e)
+        ∙ ap (λ o. filter (alike x) (cons_option o (filter_map entry_of (rows_of_member x.key.member rows)))) (sym e)
     by false far None g e rest = rest
     by false far (Some f) g e rest = skip f g far (alike x f) refl ∙ rest
 
 -- the entries of alike rows, sorted by their keys, are those of rows whose keys rise
 sorted_entries : (xs ys : List Row) → AreAlike xs ys → Ascends (λ (q r : Row). key_cmp q.key r.key) ys → (sorted : List ScopeEntry)
-    → IsSortedBy (λ x y. is_lt (entry_cmp x y)) sorted → IsStableBy (λ x y. is_lt (entry_cmp x y)) (entries_in xs) sorted
-    → sorted ≡ entries_in ys
+    → IsSortedBy (λ x y. is_lt (entry_cmp x y)) sorted → IsStableBy (λ x y. is_lt (entry_cmp x y)) (filter_map entry_of xs) sorted
+    → sorted ≡ filter_map entry_of ys
 sorted_entries xs ys same rise sorted up stable =
-    same_from_alike entry_cmp entry_order sorted (entries_in ys) (Rises-from_sort entry_cmp entry_order sorted up) (entries_rise ys rise)
-    (λ x. stable x ∙ of_member x xs ∙ ap (λ l. filter (alike x) (entries_in l)) (same x.key.member) ∙ sym (of_member x ys))
+    same_from_alike entry_cmp entry_order sorted (filter_map entry_of ys) (Rises-from_sort entry_cmp entry_order sorted up)
+    (entries_rise ys rise)
+    (λ x. stable x ∙ of_member x xs ∙ ap (λ l. filter (alike x) (filter_map entry_of l)) (same x.key.member) ∙ sym (of_member x ys))
 
 -- ---- all members
 
@@ -232,7 +236,7 @@ one_more f ks i k lt here =
     ∙ flat_map-append f (take i ks) (k ∷ []) ∙ ap (λ l. flat_map f (take i ks) ++ l) (append-nil (f k))
 
 sent_joined : (rows : List Row) (i : ℕ) (ks : List MemberScopes) → KeepMembers Kept i ks rows
-    → sent_of ks ≡ entries_in (joined (by_member i (length ks) rows))
+    → sent_of ks ≡ filter_map entry_of (joined (by_member i (length ks) rows))
 sent_joined rows i [] h = refl
 sent_joined rows i (k ∷ ks) h =
     (λ j. h.0.sent j ++ sent_joined rows (suc i) ks h.1 j)
@@ -246,8 +250,8 @@ heard_joined rows i (k ∷ ks) h =
     ∙ sym (filter_map-append heard_in (rows_of_member i rows) (joined (by_member (suc i) (length ks) rows)))
 
 -- the table of entries in order, and of counts
-pub table_of : (rows : List Row) (es : List ScopeEntry) (heard : List (PacketId × ℕ)) → es ≡ entries_in rows
-    → ((p : PacketId) → count_in heard p ≡ heard_by rows p)
+pub table_of : (rows : List Row) (es : List ScopeEntry) (heard : List (PacketId × ℕ)) → es ≡ filter_map entry_of rows
+    → ((p : PacketId) → count_in heard p ≡ count_by (hears p) rows)
     → table_lines scope_columns (map (λ e. scope_fields e (count_in heard e.sent)) es) ≡ scopes_table rows
 unfolding scopes_table
 table_of rows es heard is counts i = table_lines scope_columns (map (λ e. scope_fields e (counts e.sent i)) (is i))
@@ -261,7 +265,7 @@ module _ (ks : List MemberScopes) (rows : List Row) (members : ℕ) (o : IsOrder
   same = listed_alike (length ks) rows (all_few rows members (length ks) o all)
 
   pub kept_entries : (xs sorted : List ScopeEntry) → xs ≡ sent_of ks → IsSortedBy (λ x y. is_lt (keyed x y)) sorted
-      → IsStableBy (λ x y. is_lt (keyed x y)) xs sorted → sorted ≡ entries_in rows
+      → IsStableBy (λ x y. is_lt (keyed x y)) xs sorted → sorted ≡ filter_map entry_of rows
   kept_entries xs sorted is up stable =
       sorted_entries lists rows same o.rise sorted
       (subst (λ (lt : ScopeEntry → ScopeEntry → Bool). IsSortedBy lt sorted) same_test up)
@@ -269,7 +273,7 @@ module _ (ks : List MemberScopes) (rows : List Row) (members : ℕ) (o : IsOrder
       (subst (λ (lt : ScopeEntry → ScopeEntry → Bool). IsStableBy lt xs sorted) same_test stable))
 
   pub kept_heard : (heard : List (PacketId × ℕ)) → HearMore [] (heard_of ks) heard → (p : PacketId)
-      → count_in heard p ≡ heard_by rows p
+      → count_in heard p ≡ count_by (hears p) rows
   kept_heard heard counts p =
-      hear_all (heard_of ks) heard counts p ∙ ap (count_by (is_packet p)) (heard_joined rows 0 ks h) ∙ count_heard p lists
+      hear_all (heard_of ks) heard counts p ∙ ap (count_by (eq_by_cmp id_cmp p)) (heard_joined rows 0 ks h) ∙ count_heard p lists
       ∙ heard_alike p lists rows same

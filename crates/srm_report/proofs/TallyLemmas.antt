@@ -25,7 +25,7 @@ use Rattle.srm_report.specs.declared.sending.Sending.{Sending}
 use Rattle.srm_report.specs.declared.tally.Tally.{Tally}
 use Rattle.srm_report.specs.Courses.{TellLosses}
 use Rattle.srm_report.specs.Losses.{detected_at, loss_cmp, recovered_at, recovery_by}
-use Rattle.srm_report.specs.Operations.{each_once, has_left, is_open, is_recovered, last_told, later, losses_of}
+use Rattle.srm_report.specs.Operations.{each_once, has_left, is_open, last_told, later, losses_of}
 use Rattle.srm_report.specs.Operations.{operation_columns, operation_fields, operations_table, sooner, tally_of}
 use Rattle.srm_report.specs.Rows.{is_name}
 use Rattle.srm_report.specs.Sendings.{TellLeft, TellSent, sending_in}
@@ -49,8 +49,8 @@ tally_grown : (rows : List Row) (ks : List Loss) (k : Loss) (c : Course) (gone :
     → tally_of rows (ks ++ k ∷ []) ≡ tallied (tally_of rows ks) k c gone
 tally_grown rows ks k c gone d r g =
     let L = length-append ks (k ∷ []) in
-    let R = counted (is_recovered rows) ks k
-    ∙ ap (λ o. cond (is_some o) (count_by (is_recovered rows) ks + 1) (count_by (is_recovered rows) ks)) r in
+    let fixed = count_by (λ q. is_some (recovered_at rows q)) ks in
+    let R = counted (λ q. is_some (recovered_at rows q)) ks k ∙ ap (λ o. cond (is_some o) (fixed + 1) fixed) r in
     let G = counted (is_left rows) ks k ∙ (λ j. cond (not (is_some (r j)) && sym g j) (count_by (is_left rows) ks + 1)
     (count_by (is_left rows) ks)) in
     let P = or_push (list_any (is_open rows)) (is_open rows) refl (λ x xs. refl) ks k

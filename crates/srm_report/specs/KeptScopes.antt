@@ -7,12 +7,13 @@ use Rattle.srm_net.specs.declared.packet.PacketId.{PacketId}
 use Rattle.srm_net.specs.Names.{id_cmp}
 use Rattle.srm_member.specs.declared.row.Row.{Row}
 use Rattle.srm_report.specs.declared.member_scopes.MemberScopes.{MemberScopes}
-use Rattle.srm_report.specs.Scopes.{entries_in, heard_in, is_packet}
+use Rattle.srm_report.specs.Scopes.{heard_in, entry_of}
 use Rattle.srm_report.specs.Taking.{TakesIn}
+use Rattle.std.specs.Ordering.{eq_by_cmp}
 
 -- exactly this is what a member's rows tell of scopes: what it sent, and what it heard
 pub record KeepsScopes (rows : List Row) (k : MemberScopes) : Type 0 where
-  pub sent : k.sent.items ≡ entries_in rows
+  pub sent : k.sent.items ≡ filter_map entry_of rows
   pub heard : k.heard.items ≡ filter_map heard_in rows
 
 -- these rows were taken in, after those before
@@ -27,4 +28,4 @@ count_in es p = unwrap_or (find id_cmp p es) 0
 
 -- each of these packets was counted once more
 abbrev pub HearMore : List (PacketId × ℕ) → List PacketId → List (PacketId × ℕ) → Type 0
-HearMore old more new = (p : PacketId) → count_in new p ≡ count_in old p + count_by (is_packet p) more
+HearMore old more new = (p : PacketId) → count_in new p ≡ count_in old p + count_by (eq_by_cmp id_cmp p) more

@@ -66,13 +66,9 @@ names_lost rows = ordered name_cmp (each_once (map (λ k. k.name) (ordered loss_
 abbrev pub has_left : List Row → ℕ → Bool
 has_left rows m = list_any (λ r. (r.key.member == m) && is_leave r.cause) rows
 
--- whether a loss was fixed
-abbrev pub is_recovered : List Row → Loss → Bool
-is_recovered rows k = is_some (recovered_at rows k)
-
--- whether it is open: it was not fixed, and its member did not leave
+-- whether a loss is open: it was not fixed, and its member did not leave
 abbrev pub is_open : List Row → Loss → Bool
-is_open rows k = not (is_recovered rows k) && not (has_left rows k.member)
+is_open rows k = not (is_some (recovered_at rows k)) && not (has_left rows k.member)
 
 -- ---- the last to recover
 
@@ -88,8 +84,8 @@ later (Some last) (Some next) = cond (nat_lt last.recovered next.recovered) (Som
 abbrev pub tally_of : List Row → List Loss → Tally
 tally_of rows ks = record {
   losers = length ks;
-  recovered = count_by (is_recovered rows) ks;
-  left = count_by (λ k. not (is_recovered rows k) && has_left rows k.member) ks;
+  recovered = count_by (λ k. is_some (recovered_at rows k)) ks;
+  left = count_by (λ k. not (is_some (recovered_at rows k)) && has_left rows k.member) ks;
   is_pending = list_any (is_open rows) ks;
   detected = fold sooner None (map (detected_at rows) ks);
   last = fold later None (map (λ k. recovery_by k.member (detected_at rows k) (recovered_at rows k)) ks);

@@ -6,7 +6,6 @@ use Rattle.std.specs.Ordering.{eq_by_cmp}
 use Rattle.srm_net.specs.declared.packet.Body.{Body}
 use Rattle.srm_net.specs.declared.packet.Body.TheVariants.{Drawop, Request, Repair, Session}
 use Rattle.srm_net.specs.declared.packet.Local.{Local}
-use Rattle.srm_net.specs.declared.packet.Name.{Name}
 use Rattle.srm_net.specs.declared.packet.Packet.{Packet}
 use Rattle.srm_net.specs.declared.packet.PacketId.{PacketId}
 use Rattle.srm_net.specs.Names.{id_cmp}
@@ -29,29 +28,21 @@ local_in (Request n scope) = None
 local_in (Repair n ink local) = local
 local_in (Session hs) = None
 
--- what a row tells of the packet that was sent in it, for a name
-abbrev pub entry_for : Row → Name → Packet → ScopeEntry
-entry_for r n p = record {
+-- what a row tells of the packet that was sent in it, for the name that the row is about, if there are such
+abbrev pub entry_about : Row → About → Option Packet → Option ScopeEntry
+entry_about r (Named n) (Some p) = Some (record {
   key = r.key;
   cause = r.cause;
   name = n;
   sent = p.id;
   scope = scope_of p.body;
   local = local_in p.body;
-}
-
--- the same of what a row is about, and of the packet that was sent in it, if there are such
-abbrev pub entry_about : Row → About → Option Packet → Option ScopeEntry
-entry_about r (Named n) (Some p) = Some (entry_for r n p)
+})
 entry_about r a o = None
 
 -- the request or repair that was sent in a row: in the event of a timer, which tells `sent`
 abbrev pub entry_of : Row → Option ScopeEntry
 entry_of r = cond ((is_ask r.cause || is_answer r.cause) && is_sent r.told) (entry_about r r.about r.sent) None
-
--- all of these, in the order of their rows
-abbrev pub entries_in : List Row → List ScopeEntry
-entries_in rows = filter_map entry_of rows
 
 -- ---- who heard it
 
@@ -62,27 +53,13 @@ of_recovery p (Request n scope) = Some p
 of_recovery p (Repair n ink local) = Some p
 of_recovery p (Session hs) = None
 
--- the request or repair that arrives, by what an event is about
-abbrev pub heard_about : About → Option PacketId
-heard_about Nothing = None
-heard_about (Of p) = of_recovery p.id p.body
-heard_about (Named n) = None
-
 -- the request or repair that arrives in a row
 abbrev pub heard_in : Row → Option PacketId
-heard_in r = heard_about r.about
-
--- whether two packets are one
-abbrev pub is_packet : PacketId → PacketId → Bool
-is_packet p q = eq_by_cmp id_cmp p q
+heard_in r = elim r.about [ Nothing ↦ None | Of p ↦ of_recovery p.id p.body | Named n ↦ None ]
 
 -- whether this request or repair arrives in a row
 abbrev pub hears : PacketId → Row → Bool
-hears p r = option_map_or (is_packet p) (heard_in r) false
-
--- how many members these rows hand it to
-abbrev pub heard_by : List Row → PacketId → ℕ
-heard_by rows p = count_by (hears p) rows
+hears p r = option_map_or (eq_by_cmp id_cmp p) (heard_in r) false
 
 -- ---- the table
 
@@ -98,9 +75,9 @@ scope_fields e heard =
     ∷ or_dash decimal e.scope ∷ or_dash (λ l. decimal l.requester) e.local ∷ or_dash (λ l. decimal l.width) e.local
     ∷ decimal heard ∷ []
 
--- the rows of the table, as these rows of a run tell
+-- the rows of the table, as these rows of a run tell: of each packet, in the order in which they were sent
 abbrev pub scope_rows : List Row → List (List (List ℕ))
-scope_rows rows = map (λ e. scope_fields e (heard_by rows e.sent)) (entries_in rows)
+scope_rows rows = map (λ e. scope_fields e (count_by (hears e.sent) rows)) (filter_map entry_of rows)
 
 -- the table of all requests and repairs that were sent
 unfoldable pub scopes_table : List Row → List ℕ

@@ -12,7 +12,7 @@ use Rattle.srm_report.specs.declared.loss.Loss.{Loss}
 use Rattle.srm_report.specs.declared.tally.Tally.{Tally}
 use Rattle.srm_report.specs.declared.recovery.Recovery.{Recovery}
 use Rattle.srm_report.specs.Losses.{detected_at, loss_cmp, losses_in, recovered_at, recovery_by}
-use Rattle.srm_report.specs.Operations.{each_once, has_left, is_recovered, later, sooner, tally_of}
+use Rattle.srm_report.specs.Operations.{each_once, has_left, later, sooner, tally_of}
 use Rattle.srm_report.specs.Rows.{is_name}
 
 -- all losses, by rising member
@@ -25,7 +25,7 @@ named n ks = filter (λ k. is_name n k.name) ks
 
 -- whether the member of a loss left without it
 abbrev pub is_left : List Row → Loss → Bool
-is_left rows k = not (is_recovered rows k) && has_left rows k.member
+is_left rows k = not (is_some (recovered_at rows k)) && has_left rows k.member
 
 abbrev pub recovery_of : List Row → Loss → Option Recovery
 recovery_of rows k = recovery_by k.member (detected_at rows k) (recovered_at rows k)

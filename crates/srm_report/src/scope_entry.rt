@@ -1,10 +1,10 @@
 //! Requests and repairs that were sent, and how far they went.
 ghost use Rattle.std.specs.Prelude.{◌≡◌};
-ghost use Rattle.srm_report.specs.Scopes.{entry_for, entry_of, heard_in, local_in};
+ghost use Rattle.srm_report.specs.Scopes.{entry_of, heard_in, local_in};
 
 use srm_member::row::{About, Row, Word};
 use srm_net::key::Key;
-use srm_net::packet::{Body, Local, Name, Packet, PacketId};
+use srm_net::packet::{Body, Local, Name, PacketId};
 
 /// A request or a repair that a member sent.
 #[derive(Clone, Copy)]
@@ -24,20 +24,6 @@ pub struct ScopeEntry {
 }
 
 impl ScopeEntry {
-    // Of a packet that is sent in the event of a row, for a name.
-    fn new(row: &Row, name: Name, packet: &Packet) -> Self
-        ensures { result ≡ entry_for row.now name packet.now }
-    {
-        ScopeEntry {
-            key: row.key,
-            cause: row.cause,
-            name,
-            sent: packet.id,
-            scope: packet.body.scope(),
-            local: local_of(&packet.body),
-        }
-    }
-
     /// What a row tells, if a request or a repair was sent in its event.
     pub(crate) fn of(row: &Row) -> Option<Self>
         ensures { result ≡ entry_of row.now }
@@ -47,7 +33,14 @@ impl ScopeEntry {
             return None;
         }
         match (&row.about, &row.sent) {
-            (About::Named { name }, Some(packet)) => Some(ScopeEntry::new(row, *name, packet)),
+            (About::Named { name }, Some(packet)) => Some(ScopeEntry {
+                key: row.key,
+                cause: row.cause,
+                name: *name,
+                sent: packet.id,
+                scope: packet.body.scope(),
+                local: local_of(&packet.body),
+            }),
             _ => None,
         }
     }

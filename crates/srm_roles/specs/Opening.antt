@@ -6,7 +6,7 @@ use Rattle.srm_net.specs.Network.{Network}
 use Rattle.srm_scenario.specs.Plain.{PlainScenario, network_of}
 use Rattle.srm_member.specs.declared.fixed.Fixed.{Fixed}
 use Rattle.srm_member.specs.Record.{MemberState, opening_state}
-pub use Rattle.srm_cell.specs.Setting.{member_at, limits_of, half_rounds_from, fixed_of}
+pub use Rattle.srm_cell.specs.Setting.{member_at, half_rounds_from, fixed_of}
 
 -- member m is there, with this role, and the network is the scenario's
 pub record HasRole (s : PlainScenario) (net : Network) (m : ℕ) (role : Role) : Type 0 where

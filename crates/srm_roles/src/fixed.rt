@@ -5,7 +5,7 @@ ghost use Rattle.srm_member.specs.declared.steps.Steps.TheVariants.{One as InOne
 ghost use Rattle.srm_scenario.specs.Plain.{network_of};
 ghost use Rattle.srm_member.specs.Fit.{IsBounded};
 ghost use Rattle.srm_scenario.specs.Accepted.{HasRoom};
-ghost use Rattle.srm_roles.specs.Opening.{limits_of, fixed_of};
+ghost use Rattle.srm_roles.specs.Opening.{fixed_of};
 
 use srm_member::backoff::BackoffFactor;
 use srm_member::distances::Distances;
@@ -86,7 +86,7 @@ fn steps_of(steps: u16) -> Steps
 // A constant of timers, with the least and the most that it is adapted to.
 fn limits_of(first: u64, least: u64, most: u64) -> Limits
     requires { HasRoom least first most }
-    ensures { result ≡ limits_of first least most }
+    ensures { result ≡ record { first = first; least = least; most = most } }
 {
     Limits::new(first as u32, least as u32, most as u32)
 }
