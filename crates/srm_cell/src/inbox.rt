@@ -77,6 +77,7 @@ impl Inbox {
     }
 
     /// When the first packet arrives, in ticks, and which it is.
+    #[inline(always)]
     pub fn first(&self) -> Option<(u64, PacketId)>
         ensures { result ≡ option_map (λ f. (f.arrival, f.packet.id)) (slice_get self.now 0) }
     {
