@@ -11,6 +11,8 @@ mod recording;
 #[cfg(test)]
 mod stream_tests;
 #[cfg(test)]
+mod trace_of_tests;
+#[cfg(test)]
 mod trace_sink_tests;
 #[cfg(test)]
 mod window_tests;
