@@ -13,9 +13,9 @@ use Rattle.srm_member.specs.declared.cause.Cause.TheVariants.{Arrival}
 use Rattle.srm_member.specs.declared.due.Due.{Due}
 use Rattle.srm_member.proofs.OrderLemmas.{from_refl, from_trans, from_not_greater, not_greater}
 use Rattle.srm_cell.specs.declared.flight.Flight.{Flight}
-use Rattle.srm_cell.specs.declared.pending.Source.{Source}
-use Rattle.srm_cell.specs.declared.pending.Source.TheVariants.{Inbox, Nowhere}
-use Rattle.srm_cell.specs.declared.pending.Next.{Next}
+use Rattle.srm_cell.specs.declared.pending_event.Source.{Source}
+use Rattle.srm_cell.specs.declared.pending_event.Source.TheVariants.{Inbox, Nowhere}
+use Rattle.srm_cell.specs.declared.pending_event.Next.{Next}
 use Rattle.srm_cell.specs.Flights.{flight_cmp}
 use Rattle.srm_cell.specs.Cells.{PlainCell, Event, arrival_key, earlier, first_arrival, first_mark, next_timer, next_event, hear_at}
 use Rattle.srm_cell.specs.Pending.{IsNext, Stands, arriving, first_of, never}

@@ -12,10 +12,10 @@ use Rattle.srm_member.specs.declared.due.Due.{Due}
 use Rattle.srm_cell.specs.declared.flight.Flight.{Flight}
 use Rattle.srm_cell.specs.Cells.{PlainCell, Event, first_arrival, first_mark, next_timer, next_event, earlier, before}
 use Rattle.srm_cell.specs.Cells.{step_at, own_step, handle, Idle}
-use Rattle.srm_cell.specs.declared.pending.Next.{Next}
-use Rattle.srm_cell.specs.declared.pending.Pending.{Pending}
-use Rattle.srm_cell.specs.declared.pending.Source.{Source}
-use Rattle.srm_cell.specs.declared.pending.Source.TheVariants.{Inbox, Script, Timer}
+use Rattle.srm_cell.specs.declared.pending_event.Next.{Next}
+use Rattle.srm_cell.specs.declared.pending_event.PendingEvent.{PendingEvent}
+use Rattle.srm_cell.specs.declared.pending_event.Source.{Source}
+use Rattle.srm_cell.specs.declared.pending_event.Source.TheVariants.{Inbox, Script, Timer}
 use Rattle.srm_cell.specs.Pending.{IsNext, Stands, first_of, never, next_of, no_next, sooner_pending, tick_of}
 
 -- an event with this key, which is what is pending
@@ -47,17 +47,17 @@ timer_known m p o d h = (_, ap (next_timer m p) (sym h), refl, ap (next_timer m 
 
 -- ---- the sooner of two
 
-sooner_by : (m : ℕ) (c : PlainCell) (p q : Pending) (x y : Option Event) (r : Ordering) → key_cmp p.key q.key ≡ r → Stands m c (Some p) x
+sooner_by : (m : ℕ) (c : PlainCell) (p q : PendingEvent) (x y : Option Event) (r : Ordering) → key_cmp p.key q.key ≡ r → Stands m c (Some p) x
     → Stands m c (Some q) y
     → Stands m c (cond (is_gt r) (Some q) (Some p)) (earlier x y)
 sooner_by m c p q x y r h7 h g = grind arith
 
-pub sooner_stands : (m : ℕ) (c : PlainCell) (d e : Option Pending) (x y : Option Event) → Stands m c d x → Stands m c e y
+pub sooner_stands : (m : ℕ) (c : PlainCell) (d e : Option PendingEvent) (x y : Option Event) → Stands m c d x → Stands m c e y
     → Stands m c (sooner_pending d e) (earlier x y)
 sooner_stands m c d e x y h g = grind (arith, sooner_by)
 
 -- what is pending with the least key tells when and where the next event is
-pub keyed_next : (m : ℕ) (c : PlainCell) (d : Option Pending) (o : Option Event) → Stands m c d o → IsNext m c (next_of d) o
+pub keyed_next : (m : ℕ) (c : PlainCell) (d : Option PendingEvent) (o : Option Event) → Stands m c d o → IsNext m c (next_of d) o
 keyed_next m c None o h = subst (IsNext m c no_next) (sym h) refl
 keyed_next m c (Some p) o h =
     subst (IsNext m c (record { time = p.key.time; source = p.source })) (sym h.1) (ap (λ (k : Key). k.time) h.2, h.3)

@@ -10,8 +10,8 @@ use Rattle.srm_member.specs.Record.{Record}
 use Rattle.srm_cell.specs.declared.cell.Cell.{Cell}
 use Rattle.srm_cell.specs.declared.fault.CellFault.{CellFault}
 use Rattle.srm_cell.specs.declared.fault.CellFault.TheVariants as fault
-use Rattle.srm_cell.specs.declared.pending.Next.{Next}
-use Rattle.srm_cell.specs.declared.pending.Pending.{Pending}
+use Rattle.srm_cell.specs.declared.pending_event.Next.{Next}
+use Rattle.srm_cell.specs.declared.pending_event.PendingEvent.{PendingEvent}
 use Rattle.srm_cell.specs.Cells.{PlainCell, Event, StepOutcome, Done, Stepped, handle}
 use Rattle.srm_cell.specs.Pending.{Stands, IsNext}
 use Rattle.srm_cell.specs.Views.{plain_cell, known_in, NoneOnceLeft, Refuses}
@@ -28,7 +28,7 @@ Packs key (Some body) n (Err e) m = (most_sent ≤ n) × (e ≡ fault.CountFull)
 module _ {M : Type 0} where
   -- this stands for the event that is meant
   abbrev pub StandsFor : (M → Record) → (ℕ → PlainCell → Option Event)
-      → Cell M → Option Pending → Type 0
+      → Cell M → Option PendingEvent → Type 0
   StandsFor f event c o = Stands c.number (plain_cell f c) o (event c.number (plain_cell f c))
 
   -- the member of the second is that of the first, and has no box once it has left, if so before

@@ -6,7 +6,7 @@ use Rattle.srm_member.specs.declared.exit.Exit.{Exit}
 use Rattle.srm_member.specs.declared.row.Row.{Row}
 use Rattle.srm_member.specs.Record.{Record, MemberState, fixed_part, exit_of}
 use Rattle.srm_cell.specs.declared.cell.Cell.{Cell}
-use Rattle.srm_cell.specs.declared.pending.Next.{Next}
+use Rattle.srm_cell.specs.declared.pending_event.Next.{Next}
 use Rattle.srm_cell.specs.declared.fault.CellFault.{CellFault}
 use Rattle.srm_cell.specs.declared.fault.CellFault.TheVariants as fault
 use Rattle.srm_cell.specs.Cells.{PlainCell, OwnCell, Event, StepOutcome, Idle, Full, Spent, Done, Stepped}

@@ -16,7 +16,7 @@ use crate::arrival::arrival;
 use crate::boxes::{finish, react};
 use crate::fault::CellFault;
 use crate::inbox::Inbox;
-use crate::pending::{Next, Pending, Source, arrival_time, mark_time, timer_time};
+use crate::pending_event::{Next, PendingEvent, Source, arrival_time, mark_time, timer_time};
 use crate::rows::{about, cause_at, expiry, packet, word};
 use crate::script::Script;
 use crate::sent::Sent;
@@ -230,7 +230,7 @@ impl<M: Participant> Cell<M> {
         match next.source {
             Source::Inbox => {
                 let flight = self.inbox.pop_first()?;
-                let key = Pending::arriving(self.number, next.time, flight.packet.id).key;
+                let key = PendingEvent::arriving(self.number, next.time, flight.packet.id).key;
                 let cause = Cause::Arrival {
                     packet: flight.packet,
                 };
@@ -238,12 +238,12 @@ impl<M: Participant> Cell<M> {
             }
             Source::Script => {
                 let mark = self.script.pop_first()?;
-                let key = Pending::marked(self.number, next.time, mark).key;
+                let key = PendingEvent::marked(self.number, next.time, mark).key;
                 Some((key, cause_at(mark)))
             }
             Source::Timer => {
                 let due = self.due()?;
-                let key = Pending::expiring(self.number, next.time, due).key;
+                let key = PendingEvent::expiring(self.number, next.time, due).key;
                 Some((key, Some(expiry(due))))
             }
             Source::Nowhere => None,
@@ -384,30 +384,30 @@ impl<M: Participant> Cell<M> {
         ensures { IsNextOf M.plain self.now result }
     {
         let mut next = self.timer();
-        Pending::take_place_if_any(self.mark(), &mut next);
-        Pending::take_place_if_any(self.arrival(), &mut next);
+        PendingEvent::take_place_if_any(self.mark(), &mut next);
+        PendingEvent::take_place_if_any(self.arrival(), &mut next);
         Next::of(next)
     }
 
-    fn arrival(&self) -> Option<Pending>
+    fn arrival(&self) -> Option<PendingEvent>
         ensures { StandsFor M.plain (λ m p. first_arrival m p p.inbox) self.now result }
     {
         let (time, id) = self.inbox.first()?;
-        Some(Pending::arriving(self.number, time, id))
+        Some(PendingEvent::arriving(self.number, time, id))
     }
 
-    fn mark(&self) -> Option<Pending>
+    fn mark(&self) -> Option<PendingEvent>
         ensures { StandsFor M.plain (λ m p. first_mark m p p.script) self.now result }
     {
         let mark = self.script.first()?;
-        Some(Pending::marked(self.number, mark.at, mark))
+        Some(PendingEvent::marked(self.number, mark.at, mark))
     }
 
-    fn timer(&self) -> Option<Pending>
+    fn timer(&self) -> Option<PendingEvent>
         ensures { StandsFor M.plain (λ m p. next_timer m p (due_in p.holds)) self.now result }
     {
         let due = self.due()?;
-        Some(Pending::expiring(self.number, due.time, due))
+        Some(PendingEvent::expiring(self.number, due.time, due))
     }
 
     fn due(&self) -> Option<Due>

@@ -29,7 +29,7 @@ pub mod inbox;
 pub mod job;
 pub mod laws;
 mod local_repair;
-mod pending;
+mod pending_event;
 mod rows;
 pub mod script;
 pub mod sent;

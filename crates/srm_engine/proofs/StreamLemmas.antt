@@ -10,7 +10,7 @@ use Rattle.srm_cell.specs.Cells.{Done}
 use Rattle.srm_cell.specs.Views.{HasWork}
 use Rattle.srm_engine.specs.declared.halt.Halt.{Halt}
 use Rattle.srm_engine.specs.declared.halt.Halt.TheVariants as halt
-use Rattle.srm_engine.specs.declared.engine.Engine.{Engine}
+use Rattle.srm_engine.specs.declared.simulation.Simulation.{Simulation}
 use Rattle.srm_engine.specs.declared.fault.RunFault.TheVariants as fault
 use Rattle.srm_engine.specs.declared.stream_fault.StreamFault.{StreamFault}
 use Rattle.srm_engine.specs.declared.stream_fault.StreamFault.TheVariants.{Run, Stopped}
@@ -126,7 +126,7 @@ module _ {S : Type 0} (took part : S → List Row → S → Type 0) where
   steps_undone stage A s old (halt.Sink (sink.Stopped n)) new h at e = cc
 
 -- what an engine counted that is seen as a world of a run
-pub run_totals : {M : Type 0} (e : Engine M) (at : Session) (seed : ℕ) (w : World) (totals : List ℕ)
+pub run_totals : {M : Type 0} (e : Simulation M) (at : Session) (seed : ℕ) (w : World) (totals : List ℕ)
     → e.session ≡ at → HasCounted e (packets_of w.trace) → totals ≡ tallied e.session.net.now e.tally
     → totals ≡ crossings (traffic_of at.scenario.now at.net.now) w.trace
 run_totals e at seed w totals same counted is =

@@ -8,7 +8,7 @@ use Rattle.srm_member.specs.Record.{Record}
 use Rattle.srm_cell.specs.Setting.{Setting}
 use Rattle.srm_cell.specs.Cells.{Idle, Full}
 use Rattle.srm_cell.specs.Views.{HasWork}
-use Rattle.srm_engine.specs.declared.engine.Engine.{Engine}
+use Rattle.srm_engine.specs.declared.simulation.Simulation.{Simulation}
 use Rattle.srm_engine.specs.declared.fault.RunFault.{RunFault}
 use Rattle.srm_engine.specs.declared.fault.RunFault.TheVariants as fault
 use Rattle.srm_engine.specs.declared.halt.Halt.{Halt}
@@ -121,20 +121,20 @@ module _ {S : Type 0} (took part : S → List Row → S → Type 0) where
 
 module _ {M : Type 0} where
   -- the engine is seen as a world of a run with few rows
-  abbrev pub MayTake : (M → Record) → Engine M → Type 0
+  abbrev pub MayTake : (M → Record) → Simulation M → Type 0
   MayTake f e = (seed : ℕ) × (w : World) × IsReached (setting_in e seed) w × Shows f e w × (length w.trace ≤ 2 ^ 62)
 
   -- what steps from a world on tell, up to so many: the rows up to a later world, the last of the run where there are
   -- fewer; or why they are refused
   abbrev pub TellsSteps : (M → Record) → Setting → ℕ → World → Result (Vec Row) RunFault
-      → Engine M → Type 0
+      → Simulation M → Type 0
   TellsSteps f s most w r after =
       MatchResult r (λ rows. (v : World) × IsReached s v × (v.trace ≡ w.trace ++ rows.items) × Shows f after v
       × (length rows.items < most → step s v ≡ Idle))
       (MayStop most s w)
 
   -- so of whatever world of a run the engine is seen as, with every seed
-  abbrev pub TakesSteps : (M → Record) → ℕ → Engine M → Result (Vec Row) RunFault → Engine M
+  abbrev pub TakesSteps : (M → Record) → ℕ → Simulation M → Result (Vec Row) RunFault → Simulation M
       → Type 0
   TakesSteps f most old r new =
       (seed : ℕ) (w : World) → IsReached (setting_in old seed) w → Shows f old w
@@ -144,13 +144,13 @@ module _ {M : Type 0} where
     -- what the steps of a run tell, the rows of which are handed to a sink: the last world of the sequential run, of
     -- which the sink took the trace; or why not all were handed on
     abbrev pub StepsToEnd : {A : Type 0} → (M → Record) → Setting → S → Result A Halt → S
-        → Engine M → Type 0
+        → Simulation M → Type 0
     StepsToEnd f s old r new after =
         MatchResult r (λ _. (w : World) × IsLast s w × took old w.trace new × Shows f after w)
         (λ x. TellsHalt took part (MayStop most_rows s) s old x new)
 
     -- so of an engine that is opened, with every seed
-    abbrev pub StreamsRows : {A : Type 0} → (M → Record) → Engine M → S → Result A Halt
-        → S → Engine M → Type 0
+    abbrev pub StreamsRows : {A : Type 0} → (M → Record) → Simulation M → S → Result A Halt
+        → S → Simulation M → Type 0
     StreamsRows f e old r new after =
         (seed : ℕ) → IsOpened f seed e → StepsToEnd f (setting_in e seed) old r new after

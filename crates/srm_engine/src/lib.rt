@@ -2,7 +2,7 @@
 //!
 //! In reading order: `Start`; `step_run`, `step_stream` and `step_rows`, one event after the other; `Windows`, and `window_run`,
 //! `window_stream`, `window_kept` and `window_watch`, which come to the same; `ByRows`, a crew as one of watched jobs; `RunFault`
-//! and `StreamFault`. Inside, `Engine` takes steps, and `WatchEngine` windows of `Groups`, with what is kept of each member
+//! and `StreamFault`. Inside, `Simulation` takes steps, and `WatchEngine` windows of `Groups`, with what is kept of each member
 //! beside them.
 //!
 //! In their clauses `InRuns` and `InRunsOf` say what holds with each seed whose opening records the members hold. `IsOutcome` are
@@ -17,7 +17,6 @@ pub mod by_rows;
 mod cells;
 mod cutting;
 mod ends;
-mod engine;
 pub mod fault;
 mod groups;
 mod halt;
@@ -31,6 +30,7 @@ mod merged_rows;
 pub mod next_times;
 pub mod outcome;
 mod sent;
+mod simulation;
 mod soonest;
 pub mod start;
 pub mod step_rows;

@@ -4,7 +4,7 @@ ghost use Rattle.srm_engine.specs.Streams.{LeavesSink, MayLackSteps, TellsRefusa
 ghost use Rattle.srm_engine.specs.RowRuns.{TellsTotals, TellsUndone};
 ghost use Rattle.srm_engine.specs.Starts.{InRunsOf};
 
-use crate::engine::Engine;
+use crate::simulation::Simulation;
 use crate::start::Start;
 use crate::stream_fault::StreamFault;
 use srm_interfaces::sink::RowSink;
@@ -35,9 +35,9 @@ pub fn step_rows<M: Participant, S: RowSink>(
     ensures undone { InRunsOf start.entry (λ s. TellsUndone S.stage S.took S.part (MayLackSteps s) s sink.old result sink.new) }
 {
     let Start { session, members } = start;
-    match Engine::run(alloc, session, members, sink) {
+    match Simulation::run(alloc, session, members, sink) {
         Ok(ran) => {
-            let Engine { session, tally, .. } = ran;
+            let Simulation { session, tally, .. } = ran;
             Ok(tally.into_totals(session.net))
         }
         Err(fault) => Err(fault),

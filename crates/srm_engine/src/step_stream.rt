@@ -6,7 +6,7 @@ ghost use Rattle.srm_engine.specs.Openings.{HoldOpeningRecords, InRuns};
 ghost use Rattle.srm_engine.specs.Streams.{LeavesSink, TellsStream, TellsRefusal};
 
 use crate::cells::finish_cells;
-use crate::engine::Engine;
+use crate::simulation::Simulation;
 use crate::stream_fault::StreamFault;
 use srm_interfaces::sink::RowSink;
 use srm_ledger::totals::Totals;
@@ -46,11 +46,11 @@ pub fn step_stream<S: RowSink>(
     ensures refused { InRuns scenario.now net.now (map (λ b. plain b) members.items)
         (λ s. TellsRefusal S.took S.part s sink.old result sink.new) }
 {
-    let ran = match Engine::run(alloc, Session { scenario, net }, members, sink) {
+    let ran = match Simulation::run(alloc, Session { scenario, net }, members, sink) {
         Ok(ran) => ran,
         Err(fault) => return Err(fault),
     };
-    let Engine {
+    let Simulation {
         session,
         cells,
         tally,

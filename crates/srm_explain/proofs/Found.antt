@@ -8,7 +8,7 @@ use Rattle.srm_scenario.specs.Described.{array_of}
 use Rattle.srm_scenario.proofs.Tables.{array_found}
 use Rattle.srm_scenario.specs.Keys.{name_of}
 use Rattle.srm_scenario.specs.declared.fault.Part.{Part}
-use Rattle.srm_scenario.specs.declared.key.Key.{Key}
+use Rattle.srm_scenario.specs.declared.file_key.FileKey.{FileKey}
 use Rattle.srm_scenario.specs.declared.rule.Rule.{Rule}
 use Rattle.srm_explain.specs.declared.finding.Finding.{Finding}
 use Rattle.srm_explain.specs.declared.finding.Finding.TheVariants as finding
@@ -30,7 +30,7 @@ in_table rules d ms (finding.Passed r copy n) is h = (ms, is, h)
 pub found_at_top : {E : Type 0} (rules : List Rule) (p : Part) (place : ℕ) (top : Members) (r : Result (Option Finding) E)
     → array_key p ≡ None → IfOk r (λ o. IfSome o (IsFinding rules top)) → IfOk r (λ o. IfSome o (FindsAt rules p place top))
 found_at_top rules p place top (Ok (Some f)) none h =
-    (table top, ap (λ (k : Option Key). element_of k place top) none, in_table rules (table top) top f refl h)
+    (table top, ap (λ (k : Option FileKey). element_of k place top) none, in_table rules (table top) top f refl h)
 found_at_top rules p place top (Ok None) none h = h
 found_at_top rules p place top (Err e) none h = h
 

@@ -9,10 +9,10 @@ use Rattle.srm_scenario.specs.declared.fault.Part.{Part}
 use Rattle.srm_scenario.specs.declared.fault.Part.TheVariants as part
 use Rattle.srm_scenario.specs.declared.form.Form.{Form}
 use Rattle.srm_scenario.specs.declared.parts.Constants.{Constants}
-use Rattle.srm_scenario.specs.declared.key.Key.{Key}
-use Rattle.srm_scenario.specs.declared.key.Key.TheVariants as key
-use Rattle.srm_scenario.specs.declared.rule.Kind.{Kind}
-use Rattle.srm_scenario.specs.declared.rule.Kind.TheVariants.{Whole, Word, Numbers, Each, Elements, Repeated}
+use Rattle.srm_scenario.specs.declared.file_key.FileKey.{FileKey}
+use Rattle.srm_scenario.specs.declared.file_key.FileKey.TheVariants as key
+use Rattle.srm_scenario.specs.declared.rule.ValueKind.{ValueKind}
+use Rattle.srm_scenario.specs.declared.rule.ValueKind.TheVariants.{Whole, Word, Numbers, Each, Elements, Repeated}
 use Rattle.srm_scenario.specs.declared.rule.Need.{Need}
 use Rattle.srm_scenario.specs.declared.rule.Need.TheVariants.{Required, Refused}
 use Rattle.srm_scenario.specs.declared.rule.Rule.{Rule}
@@ -53,7 +53,7 @@ abbrev pub rules_in : Part → Members → List Rule
 rules_in p top = rules_for (version_of top) p top
 
 -- the key of the array whose elements a part is
-abbrev pub array_key : Part → Option Key
+abbrev pub array_key : Part → Option FileKey
 array_key part.Top = None
 array_key part.Link = Some key.Link
 array_key part.Member = Some key.Member
@@ -64,7 +64,7 @@ array_key part.Outage = Some key.Outage
 array_key part.Loss = Some key.Loss
 
 -- the name of the array whose elements a part is
-abbrev pub name_at : Option Key → List ℕ
+abbrev pub name_at : Option FileKey → List ℕ
 name_at None = []
 name_at (Some k) = name_of k
 
@@ -72,12 +72,12 @@ abbrev pub word_of : Part → List ℕ
 word_of p = name_at (array_key p)
 
 -- the elements of the array at a key; none where there is no key
-abbrev pub elements_of : Option Key → Members → List Data
+abbrev pub elements_of : Option FileKey → Members → List Data
 elements_of None top = []
 elements_of (Some k) top = array_at (name_of k) top
 
 -- the element at a place of the array at a key, and the top table itself where there is no key
-abbrev pub element_of : Option Key → ℕ → Members → Option Data
+abbrev pub element_of : Option FileKey → ℕ → Members → Option Data
 element_of None place top = Some (table top)
 element_of (Some k) place top = slice_get (array_at (name_of k) top) place
 
@@ -86,11 +86,11 @@ abbrev pub data_at : Part → ℕ → Members → Option Data
 data_at p place top = element_of (array_key p) place top
 
 -- one of the rules is that of this key
-abbrev pub HasKey : List Rule → Key → Type 0
+abbrev pub HasKey : List Rule → FileKey → Type 0
 HasKey rules key = (i : ℕ) × (r : Rule) × (slice_get rules i ≡ Some r) × (r.key ≡ key)
 
 -- by how much the number at a key rises from copy to copy of an element, if it rises, where copies are so far apart
-abbrev pub rise_of : Key → ℕ → Option ℕ
+abbrev pub rise_of : FileKey → ℕ → Option ℕ
 rise_of key.Node every = Some every
 rise_of key.Stream every = Some 1
 rise_of key.At every = Some every
@@ -100,12 +100,12 @@ rise_of key.To every = Some every
 rise_of k every = None
 
 -- the same of a loss
-abbrev pub loss_rise_of : Key → ℕ → Option ℕ
+abbrev pub loss_rise_of : FileKey → ℕ → Option ℕ
 loss_rise_of key.Link every = Some every
 loss_rise_of k every = None
 
 -- the same in a table: that of a loss has a rate, and no other has one
-abbrev pub rise_in : Members → Key → Option ℕ
+abbrev pub rise_in : Members → FileKey → Option ℕ
 rise_in ms k =
     if is_some (get_member (codes "rate") ms)
     then loss_rise_of k (every_of (table ms))
@@ -121,12 +121,12 @@ PassesRange r ms copy n =
     × (n ≡ number (name_of r.key) ms + copy * rise) × (nat_lt last n ≡ true)
 
 -- how many elements these are; where a kind says for how many they stand, for how many they do
-abbrev pub length_by : Kind → List Data → ℕ
+abbrev pub length_by : ValueKind → List Data → ℕ
 length_by (Repeated most) ds = sum_by times_repeated ds
 length_by kind ds = length ds
 
 -- whether an array of this kind may have so many elements, or stand for so many
-abbrev pub is_length : Kind → ℕ → Bool
+abbrev pub is_length : ValueKind → ℕ → Bool
 is_length (Numbers most high) n = nat_le n most
 is_length (Each count low high) n = n == count
 is_length (Elements most) n = nat_le n most
@@ -134,13 +134,13 @@ is_length (Repeated most) n = nat_le n most
 is_length kind n = true
 
 -- whether an array of this kind may have this element
-abbrev pub is_item : Kind → Data → Bool
+abbrev pub is_item : ValueKind → Data → Bool
 is_item (Numbers most high) d = is_whole 0 high d
 is_item (Each count low high) d = is_whole low high d
 is_item kind d = true
 
 -- the element at this place is none that an array of this kind may have
-abbrev pub IsBadItem : Kind → List Data → ℕ → Type 0
+abbrev pub IsBadItem : ValueKind → List Data → ℕ → Type 0
 IsBadItem kind ds i = (d : Data) × (slice_get ds i ≡ Some d) × (is_item kind d ≡ false)
 
 -- the elements break the rule's kind as is told: one of them does, or their number
@@ -155,16 +155,16 @@ BreaksKind r d (finding.Wrong s) = (s ≡ r) × (is_kind r.kind d ≡ false)
 BreaksKind r d f = BreaksArray r (array_of (Some d)) f
 
 -- whether the value is a table with this key
-abbrev pub holds_key : Key → Data → Bool
+abbrev pub holds_key : FileKey → Data → Bool
 holds_key k (table ms) = is_some (get_member (name_of k) ms)
 holds_key k d = false
 
 -- the value at this place has this key
-abbrev pub HoldsAt : Key → List Data → ℕ → Type 0
+abbrev pub HoldsAt : FileKey → List Data → ℕ → Type 0
 HoldsAt k ds i = (d : Data) × (slice_get ds i ≡ Some d) × (holds_key k d ≡ true)
 
 -- an element of an array of this table has this key
-abbrev pub StandsBelow : Members → Key → Part → ℕ → Type 0
+abbrev pub StandsBelow : Members → FileKey → Part → ℕ → Type 0
 StandsBelow ms k p i = HoldsAt k (elements_of (array_key p) ms) i
 
 -- the rule is broken as is told: its key has to be there and is not, or must not be there and is, or what stands at it
@@ -202,11 +202,11 @@ abbrev pub is_refused : Need → Bool
 is_refused Refused = true
 is_refused need = false
 
-abbrev pub allows : List Rule → Key → Bool
+abbrev pub allows : List Rule → FileKey → Bool
 allows rules key = list_any (λ r. bytes_eq (name_of r.key) (name_of key) && not (is_refused r.need)) rules
 
 -- why a key is not allowed in a table that names a topology
-abbrev pub IsTopologyReason : Members → Key → List ℕ → Type 0
+abbrev pub IsTopologyReason : Members → FileKey → List ℕ → Type 0
 IsTopologyReason top k reason =
     ((reason ≡ codes " unless topology is \"tree\"") × (k ≡ key.Degree) × (is_shaped top ≡ true))
     ⊎ ((reason ≡ codes " beside parent: there is one node more than parents") × (k ≡ key.Size)
@@ -216,14 +216,14 @@ IsTopologyReason top k reason =
     ⊎ ((reason ≡ codes " beside topology") × (is_shaped top ≡ true))
 
 -- whether a key says something of the parents of nodes, or of the links to them
-abbrev pub is_for_parents : Key → Bool
+abbrev pub is_for_parents : FileKey → Bool
 is_for_parents key.Parent = true
 is_for_parents key.Delays = true
 is_for_parents key.Backs = true
 is_for_parents key = false
 
 -- why a key is not allowed that no version has beside such a topology
-abbrev pub IsReasonOfForm : Members → Key → List ℕ → Type 0
+abbrev pub IsReasonOfForm : Members → FileKey → List ℕ → Type 0
 IsReasonOfForm top key reason =
     ((reason ≡ codes " unless topology is \"parents\", which version 3 has") × (is_for_parents key ≡ true)
     × (names_parents top ≡ false))
@@ -231,7 +231,7 @@ IsReasonOfForm top key reason =
     ⊎ IsTopologyReason top key reason
 
 -- the first version after version 1 that has a key of this part, if one has it
-abbrev pub first_version_with : Part → Members → Key → Option Version
+abbrev pub first_version_with : Part → Members → FileKey → Option Version
 first_version_with p top key =
     if allows (rules_for Two p top) key
     then Some Two
@@ -241,7 +241,7 @@ first_version_with p top key =
     then Some Four else if allows (rules_for Five p top) key then Some Five else None
 
 -- why a key is not allowed, where this is the first version after version 1 that has it
-abbrev pub IsReasonSince : Option Version → Members → Key → List ℕ → Type 0
+abbrev pub IsReasonSince : Option Version → Members → FileKey → List ℕ → Type 0
 IsReasonSince (Some Two) top key reason = reason ≡ codes " in version 1; version 2 has it"
 IsReasonSince (Some Three) top key reason = reason ≡ codes " in this version; version 3 has it"
 IsReasonSince (Some Four) top key reason = reason ≡ codes " in this version; version 4 has it"
@@ -249,11 +249,11 @@ IsReasonSince (Some Five) top key reason = reason ≡ codes " in this version; v
 IsReasonSince since top key reason = IsReasonOfForm top key reason
 
 -- why a key of this part is not allowed
-abbrev pub IsReason : Part → Members → Key → List ℕ → Type 0
+abbrev pub IsReason : Part → Members → FileKey → List ℕ → Type 0
 IsReason p top key reason = IsReasonSince (first_version_with p top key) top key reason
 
 -- what is said besides of a value that is not of this kind: of a topology that a later version has, that it has it
-abbrev pub IsReasonOfKind : Members → Kind → List ℕ → Type 0
+abbrev pub IsReasonOfKind : Members → ValueKind → List ℕ → Type 0
 IsReasonOfKind top kind reason =
     ((reason ≡ codes "; version 3 has \"parents\" too") × (kind ≡ Word Topologies) × (names_parents top ≡ true))
     ⊎ (reason ≡ [])
@@ -276,7 +276,7 @@ FollowsSentence p top f reason = reason ≡ []
 -- ---- what is said of it
 
 -- what a key may hold
-abbrev pub allowed : Kind → List ℕ
+abbrev pub allowed : ValueKind → List ℕ
 allowed (Whole low high) = codes "a whole number from " ++ (decimal low ++ (codes " to " ++ decimal high))
 allowed (Word Roles) = codes "one of \"sender\", \"receiver\", \"late\", \"listener\""
 allowed (Word Topologies) = codes "one of \"chain\", \"star\", \"tree\""

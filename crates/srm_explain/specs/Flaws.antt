@@ -5,8 +5,8 @@ use Rattle.std.specs.Prelude.{get_or, codes, decimal, if◌then◌else◌}
 use Rattle.std.specs.List.{list_all, AllByRecursion}
 use Rattle.srm_net.specs.declared.link.LinkSpec.{LinkSpec}
 use Rattle.srm_net.specs.Network.{plain_network, IsWalk}
-use Rattle.srm_scenario.specs.declared.key.Key.{Key}
-use Rattle.srm_scenario.specs.declared.key.Key.TheVariants as key
+use Rattle.srm_scenario.specs.declared.file_key.FileKey.{FileKey}
+use Rattle.srm_scenario.specs.declared.file_key.FileKey.TheVariants as key
 use Rattle.srm_scenario.specs.Trees.{has_way}
 use Rattle.srm_explain.specs.declared.flaw.Flaw.{Flaw}
 use Rattle.srm_explain.specs.declared.flaw.Flaw.TheVariants as flaw
@@ -14,7 +14,7 @@ use Rattle.srm_explain.specs.declared.flaw.Flaw.TheVariants as flaw
 -- ---- what is found
 
 -- the end of a link that stands at this key
-abbrev pub end_at : Key → LinkSpec → ℕ
+abbrev pub end_at : FileKey → LinkSpec → ℕ
 end_at key.A k = k.a
 end_at other k = k.b
 

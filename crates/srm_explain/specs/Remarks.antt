@@ -3,8 +3,8 @@ use Rattle.std.specs.Prelude.{◌≡◌, ℕ, Bool, true, false, ◌&&◌, nat_l
 use Rattle.std.specs.Prelude.{codes, decimal, IsUtf8}
 use Rattle.toml.specs.Data.{Members}
 use Rattle.toml.specs.Parse.{parse_document}
-use Rattle.srm_scenario.specs.declared.key.Key.{Key}
-use Rattle.srm_scenario.specs.declared.key.Key.TheVariants.{C1, C2, D1, D2}
+use Rattle.srm_scenario.specs.declared.file_key.FileKey.{FileKey}
+use Rattle.srm_scenario.specs.declared.file_key.FileKey.TheVariants.{C1, C2, D1, D2}
 use Rattle.srm_scenario.specs.Keys.{name_of}
 use Rattle.srm_scenario.specs.Described.{number}
 
@@ -13,7 +13,7 @@ abbrev pub is_hardly_meant : ℕ → Bool
 is_hardly_meant n = nat_le 1 n && nat_lt n 65
 
 -- what is said of the constant at a key
-abbrev pub remark_line : Key → ℕ → List ℕ
+abbrev pub remark_line : FileKey → ℕ → List ℕ
 remark_line k n =
     codes "remark: "
     ++ (name_of k ++ (codes " is in thousandths: where " ++ (decimal n ++ (codes " is meant, write "
@@ -25,7 +25,7 @@ TellsIf true line told = (picture : List ℕ) × (told ≡ line ++ picture)
 TellsIf false line told = told ≡ []
 
 -- so of the constant at a key
-abbrev pub TellsRemark : Members → Key → List ℕ → Type 0
+abbrev pub TellsRemark : Members → FileKey → List ℕ → Type 0
 TellsRemark top k told =
     TellsIf (is_hardly_meant (number (name_of k) top)) (remark_line k (number (name_of k) top)) told
 

@@ -2,11 +2,11 @@
 use Rattle.std.specs.Prelude.{ℕ, Bool, true, false, List, [], ◌∷◌, ◌++◌, ◌==◌, codes, decimal, if◌then◌else◌}
 use Rattle.srm_scenario.specs.declared.fault.Part.{Part}
 use Rattle.srm_scenario.specs.declared.fault.Part.TheVariants as part
-use Rattle.srm_scenario.specs.declared.key.Key.{Key}
-use Rattle.srm_scenario.specs.declared.key.Key.TheVariants as key
+use Rattle.srm_scenario.specs.declared.file_key.FileKey.{FileKey}
+use Rattle.srm_scenario.specs.declared.file_key.FileKey.TheVariants as key
 use Rattle.srm_scenario.specs.declared.parts.Constants.{Constants}
-use Rattle.srm_scenario.specs.declared.rule.Kind.{Kind}
-use Rattle.srm_scenario.specs.declared.rule.Kind.TheVariants.{Whole, Word, Numbers, Each, Elements, Repeated}
+use Rattle.srm_scenario.specs.declared.rule.ValueKind.{ValueKind}
+use Rattle.srm_scenario.specs.declared.rule.ValueKind.TheVariants.{Whole, Word, Numbers, Each, Elements, Repeated}
 use Rattle.srm_scenario.specs.declared.rule.Need.{Need}
 use Rattle.srm_scenario.specs.declared.rule.Need.TheVariants.{Required, Optional, Refused}
 use Rattle.srm_scenario.specs.declared.rule.Rule.{Rule}
@@ -52,7 +52,7 @@ words_text TopologiesAndParents =
     codes "\"type\": \"word\", \"words\": [\"chain\", \"star\", \"tree\", \"parents\"]"
 
 -- what a key may hold
-abbrev pub kind_text : Kind → List ℕ
+abbrev pub kind_text : ValueKind → List ℕ
 kind_text (Whole low high) = codes "\"type\": \"number\", " ++ span_text low high
 kind_text (Word words) = words_text words
 kind_text (Numbers most high) =
@@ -70,13 +70,13 @@ need_text Optional = codes "false"
 need_text Refused = codes "false"
 
 -- for how many elements one stands, and how far apart these are, where that is not told
-abbrev pub default_of_copies : Key → List ℕ
+abbrev pub default_of_copies : FileKey → List ℕ
 default_of_copies key.Times = codes ", \"default\": 1"
 default_of_copies key.Every = codes ", \"default\": 1"
 default_of_copies k = []
 
 -- what a key of a part is where it is not given, if it is a number then: a number, or the key whose number it is
-abbrev pub default_text : Part → Key → List ℕ
+abbrev pub default_text : Part → FileKey → List ℕ
 default_text part.Top key.C1Least = codes ", \"default\": \"c1\""
 default_text part.Top key.C1Most = codes ", \"default\": \"c1\""
 default_text part.Top key.C2Least = codes ", \"default\": \"c2\""

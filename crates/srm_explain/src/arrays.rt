@@ -5,7 +5,7 @@ ghost use Rattle.srm_scenario.specs.Rules.{times_repeated};
 ghost use Rattle.srm_explain.specs.Findings.{is_item, is_length, length_by, BreaksArray, IsBadItem};
 
 use crate::finding::Finding;
-use srm_scenario::rule::{Kind, Rule};
+use srm_scenario::rule::{Rule, ValueKind};
 use srm_scenario::table::{is_kind, times_repeated};
 use toml::Value;
 
@@ -22,11 +22,11 @@ pub(crate) fn broken_array(values: &[Value], rule: Rule) -> Option<Finding>
 }
 
 // How many values there are; where a kind says for how many they stand, for how many they do.
-fn length_by(values: &[Value], kind: Kind) -> Option<u64>
+fn length_by(values: &[Value], kind: ValueKind) -> Option<u64>
     ensures { IfSome result (λ n. n ≡ length_by kind (map view values.now)) }
 {
     match kind {
-        Kind::Repeated(_) => made_by(values),
+        ValueKind::Repeated(_) => made_by(values),
         _ => Some(values.len() as u64),
     }
 }
@@ -43,30 +43,30 @@ fn made_by(values: &[Value]) -> Option<u64>
 }
 
 // Whether an array of a kind may have so many elements, or stand for so many.
-fn is_length(kind: Kind, length: u64) -> bool
+fn is_length(kind: ValueKind, length: u64) -> bool
     ensures { result ≡ is_length kind length }
 {
     match kind {
-        Kind::Each(count, _, _) => length == count,
-        Kind::Numbers(most, _) => length <= most,
-        Kind::Elements(most) | Kind::Repeated(most) => length <= most,
-        Kind::Whole(_, _) | Kind::Word(_) => true,
+        ValueKind::Each(count, _, _) => length == count,
+        ValueKind::Numbers(most, _) => length <= most,
+        ValueKind::Elements(most) | ValueKind::Repeated(most) => length <= most,
+        ValueKind::Whole(_, _) | ValueKind::Word(_) => true,
     }
 }
 
 // Whether an array of a kind may have this element.
-fn is_item(kind: Kind, value: &Value) -> bool
+fn is_item(kind: ValueKind, value: &Value) -> bool
     ensures { result ≡ is_item kind (view value.now) }
 {
     match kind {
-        Kind::Numbers(_, high) => is_kind(value, Kind::Whole(0, high)),
-        Kind::Each(_, low, high) => is_kind(value, Kind::Whole(low, high)),
+        ValueKind::Numbers(_, high) => is_kind(value, ValueKind::Whole(0, high)),
+        ValueKind::Each(_, low, high) => is_kind(value, ValueKind::Whole(low, high)),
         _ => true,
     }
 }
 
 // The place of the first element that an array of a kind may not have, if there is one.
-fn bad_item(values: &[Value], kind: Kind) -> Option<usize>
+fn bad_item(values: &[Value], kind: ValueKind) -> Option<usize>
     ensures { IfSome result (IsBadItem kind (map view values.now)) }
 {
     for (item, value) in values.iter().enumerate() {

@@ -5,7 +5,7 @@ ghost use Rattle.srm_explain.specs.Findings.{holds_key, HoldsAt, StandsBelow};
 
 use crate::keys::array_key;
 use srm_scenario::fault::Part;
-use srm_scenario::key::Key;
+use srm_scenario::file_key::FileKey;
 use srm_scenario::table::{array, has_key};
 use toml::{Table, Value};
 
@@ -30,7 +30,7 @@ const ELEMENTS: [Part; 7] = [
 ];
 
 /// The first element of an array of a table that has this key, if there is one.
-pub(crate) fn below(table: &Table, key: Key) -> Option<Place>
+pub(crate) fn below(table: &Table, key: FileKey) -> Option<Place>
     ensures { IfSome result (λ at. StandsBelow (table_view table.now) key at.part at.place) }
 {
     for part in ELEMENTS {
@@ -42,7 +42,7 @@ pub(crate) fn below(table: &Table, key: Key) -> Option<Place>
 }
 
 // The place of the first element of a part that has this key, if there is one.
-fn place_in(table: &Table, part: Part, key: Key) -> Option<usize>
+fn place_in(table: &Table, part: Part, key: FileKey) -> Option<usize>
     ensures { IfSome result (λ place. StandsBelow (table_view table.now) key part place) }
 {
     let array_key = array_key(part)?;
@@ -50,7 +50,7 @@ fn place_in(table: &Table, part: Part, key: Key) -> Option<usize>
 }
 
 // The place of the first of these values that is a table with this key, if there is one.
-fn place_among(values: &[Value], key: Key) -> Option<usize>
+fn place_among(values: &[Value], key: FileKey) -> Option<usize>
     ensures { IfSome result (HoldsAt key (map view values.now)) }
 {
     for (place, value) in values.iter().enumerate() {
@@ -62,7 +62,7 @@ fn place_among(values: &[Value], key: Key) -> Option<usize>
 }
 
 // Whether a value is a table with this key.
-fn holds_key(value: &Value, key: Key) -> bool
+fn holds_key(value: &Value, key: FileKey) -> bool
     ensures { result ≡ holds_key key (view value.now) }
 {
     match value {

@@ -23,7 +23,7 @@ use crate::sentence::sentence_of;
 use crate::span::Span;
 use srm_scenario::draft::Draft;
 use srm_scenario::fault::{Part, ScenarioFault};
-use srm_scenario::key::Key;
+use srm_scenario::file_key::FileKey;
 use srm_scenario::rule::Rule;
 use srm_scenario::table::{array, says};
 use std::alloc::{AllocError, Global};
@@ -217,7 +217,7 @@ fn explain_tree(alloc: Global, text: &[u8]) -> Result<String, AllocError>
     let Ok(draft) = Draft::read(alloc, &top) else {
         return general(alloc, ScenarioFault::NotTree);
     };
-    let parents = says(&top, Key::Topology, "parents");
+    let parents = says(&top, FileKey::Topology, "parents");
     let flaws = flaws_in(alloc, &draft, parents)?;
     let Some(told) = told_of_flaws(alloc, text, &flaws)? else {
         return general(alloc, ScenarioFault::NotTree);

@@ -1,6 +1,6 @@
 //! What is wrong with the keys of a table.
 use srm_scenario::fault::Part;
-use srm_scenario::key::Key;
+use srm_scenario::file_key::FileKey;
 use srm_scenario::rule::Rule;
 
 /// What is wrong with the keys of a table, or that an element is none.
@@ -13,7 +13,7 @@ pub enum Finding {
         /// The key.
         key: String,
         /// The key of the part that differs from it the least, if one differs by little.
-        near: Option<Key>,
+        near: Option<FileKey>,
     },
     /// The table lacks the key of this rule.
     Missing(Rule),

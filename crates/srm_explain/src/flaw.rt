@@ -1,5 +1,5 @@
 //! Why links make no tree of the nodes.
-use srm_scenario::key::Key;
+use srm_scenario::file_key::FileKey;
 
 /// Why links make no tree of the nodes.
 #[derive(Drop)]
@@ -9,7 +9,7 @@ pub enum Flaw {
         /// The number of the link.
         link: usize,
         /// The key of that end: `a` or `b`.
-        key: Key,
+        key: FileKey,
         /// How many nodes there are.
         nodes: u16,
     },

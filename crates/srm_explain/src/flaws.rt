@@ -10,7 +10,7 @@ use crate::flaw::Flaw;
 use crate::reached::{is_reached, reached_from_0};
 use srm_net::link::LinkSpec;
 use srm_scenario::draft::Draft;
-use srm_scenario::key::Key;
+use srm_scenario::file_key::FileKey;
 use std::alloc::{AllocError, Global};
 
 /// Why the links of a draft make no tree of its nodes, where they are those to the parents that its table lists, or else those that
@@ -100,14 +100,14 @@ fn end_in(nodes: u16, links: &[LinkSpec]) -> Option<Flaw>
         if spec.a >= nodes {
             return Some(Flaw::NoEnd {
                 link,
-                key: Key::A,
+                key: FileKey::A,
                 nodes,
             });
         }
         if spec.b >= nodes {
             return Some(Flaw::NoEnd {
                 link,
-                key: Key::B,
+                key: FileKey::B,
                 nodes,
             });
         }

@@ -13,7 +13,7 @@ use crate::finding::Finding;
 use crate::nearest::nearest;
 use crate::passing::passed_in;
 use srm_scenario::fault::Part;
-use srm_scenario::key::Key;
+use srm_scenario::file_key::FileKey;
 use srm_scenario::rule::{Need, Rule};
 use srm_scenario::table::{array, has_only, is_kind, is_known, values_of};
 use std::alloc::{AllocError, Global};
@@ -45,7 +45,7 @@ pub(crate) fn finding_at(
 }
 
 // The element at a place of the array at a key.
-fn element_at(top: &Table, key: Key, place: usize) -> Option<&Value>
+fn element_at(top: &Table, key: FileKey, place: usize) -> Option<&Value>
     ensures { option_map (λ v. view v.now) result ≡ element_of (Some key) place (table_view top.now) }
 {
     array(top, key).get(place)
@@ -66,18 +66,18 @@ fn finding_of_value(
 }
 
 /// The key of the array whose elements a part is.
-pub(crate) fn array_key(part: Part) -> Option<Key>
+pub(crate) fn array_key(part: Part) -> Option<FileKey>
     ensures { result ≡ array_key part }
 {
     match part {
         Part::Top => None,
-        Part::Link => Some(Key::Link),
-        Part::Member => Some(Key::Member),
-        Part::Draw => Some(Key::Draw),
-        Part::Session => Some(Key::Session),
-        Part::Drop => Some(Key::Drop),
-        Part::Outage => Some(Key::Outage),
-        Part::Loss => Some(Key::Loss),
+        Part::Link => Some(FileKey::Link),
+        Part::Member => Some(FileKey::Member),
+        Part::Draw => Some(FileKey::Draw),
+        Part::Session => Some(FileKey::Session),
+        Part::Drop => Some(FileKey::Drop),
+        Part::Outage => Some(FileKey::Outage),
+        Part::Loss => Some(FileKey::Loss),
     }
 }
 

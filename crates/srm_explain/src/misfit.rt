@@ -1,6 +1,6 @@
 //! Which rule an element of a scenario breaks beside the rest of it.
 use srm_scenario::fault::Part;
-use srm_scenario::key::Key;
+use srm_scenario::file_key::FileKey;
 
 /// Which rule a member, draw, session message, drop, outage or loss breaks beside the rest of the scenario.
 #[derive(Clone, Copy)]
@@ -74,19 +74,19 @@ pub enum Misfit {
 
 impl Misfit {
     /// The key, in the elements of this part, whose value breaks the rule.
-    pub(crate) fn key(self, part: Part) -> Key {
+    pub(crate) fn key(self, part: Part) -> FileKey {
         match self {
-            Misfit::NoNode { .. } | Misfit::OnHub | Misfit::Taken { .. } => Key::Node,
-            Misfit::NoLink { .. } => Key::Link,
-            Misfit::NoMember { .. } if part == Part::Drop => Key::Sender,
-            Misfit::NoMember { .. } | Misfit::NotSender | Misfit::IsListener => Key::Member,
-            Misfit::JoinsAfterEnd { .. } => Key::Join,
-            Misfit::LeavesBeforeJoin { .. } => Key::Leave,
-            Misfit::NotLate => Key::Pages,
-            Misfit::NeverAsks => Key::Scope,
+            Misfit::NoNode { .. } | Misfit::OnHub | Misfit::Taken { .. } => FileKey::Node,
+            Misfit::NoLink { .. } => FileKey::Link,
+            Misfit::NoMember { .. } if part == Part::Drop => FileKey::Sender,
+            Misfit::NoMember { .. } | Misfit::NotSender | Misfit::IsListener => FileKey::Member,
+            Misfit::JoinsAfterEnd { .. } => FileKey::Join,
+            Misfit::LeavesBeforeJoin { .. } => FileKey::Leave,
+            Misfit::NotLate => FileKey::Pages,
+            Misfit::NeverAsks => FileKey::Scope,
             Misfit::BeforeJoin { .. } | Misfit::AfterLeave { .. } | Misfit::AfterEnd { .. } =>
-                Key::At,
-            Misfit::EndsEarly { .. } | Misfit::StopsEarly { .. } => Key::To,
+                FileKey::At,
+            Misfit::EndsEarly { .. } | Misfit::StopsEarly { .. } => FileKey::To,
         }
     }
 }

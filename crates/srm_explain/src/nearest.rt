@@ -2,7 +2,7 @@
 ghost use Rattle.std.specs.Prelude.{IfOk, IfSome};
 ghost use Rattle.srm_explain.specs.Findings.{HasKey};
 
-use srm_scenario::key::Key;
+use srm_scenario::file_key::FileKey;
 use srm_scenario::rule::{Need, Rule};
 use std::alloc::{AllocError, Global};
 use strsim::osa_distance;
@@ -12,7 +12,11 @@ use strsim::osa_distance;
 ///
 /// # Errors
 /// Memory ran out.
-pub(crate) fn nearest(alloc: Global, text: &str, rules: &[Rule]) -> Result<Option<Key>, AllocError>
+pub(crate) fn nearest(
+    alloc: Global,
+    text: &str,
+    rules: &[Rule],
+) -> Result<Option<FileKey>, AllocError>
     ensures { IfOk result (λ near. IfSome near (HasKey rules.now)) }
 {
     let mut least = text.len().max(3) / 3 + 1;

@@ -4,8 +4,8 @@ ghost use Rattle.toml.specs.View.{table_view};
 ghost use Rattle.srm_explain.specs.Findings.{rise_in, IsBroken, IsFinding};
 
 use crate::finding::Finding;
-use srm_scenario::key::Key;
-use srm_scenario::rule::{Kind, Rule};
+use srm_scenario::file_key::FileKey;
+use srm_scenario::rule::{Rule, ValueKind};
 use srm_scenario::table::{every_in, has_key, number, times_in};
 use toml::Table;
 
@@ -28,7 +28,7 @@ fn passed_at(table: &Table, rule: Rule) -> Option<Finding>
     ensures { IfSome result (IsBroken rule (table_view table.now)) }
 {
     let rise = rise_in(table, rule.key)?;
-    let Kind::Whole(_, last) = rule.kind else {
+    let ValueKind::Whole(_, last) = rule.kind else {
         return None;
     };
     let first = number(table, rule.key);
@@ -38,16 +38,16 @@ fn passed_at(table: &Table, rule: Rule) -> Option<Finding>
 }
 
 // By how much the number at a key of a table rises from copy to copy, if it rises. Of a loss, which alone has a rate, the link does.
-fn rise_in(table: &Table, key: Key) -> Option<u64>
+fn rise_in(table: &Table, key: FileKey) -> Option<u64>
     ensures { result ≡ rise_in (table_view table.now) key }
 {
     let every = every_in(table);
-    if has_key(table, Key::Rate) {
-        return matches!(key, Key::Link).then_some(every);
+    if has_key(table, FileKey::Rate) {
+        return matches!(key, FileKey::Link).then_some(every);
     }
     match key {
-        Key::Node | Key::At | Key::Count | Key::From | Key::To => Some(every),
-        Key::Stream => Some(1),
+        FileKey::Node | FileKey::At | FileKey::Count | FileKey::From | FileKey::To => Some(every),
+        FileKey::Stream => Some(1),
         _ => None,
     }
 }

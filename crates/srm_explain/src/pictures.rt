@@ -7,7 +7,7 @@ use crate::picture::picture_of;
 use crate::span::Span;
 use crate::token::tokens_of;
 use srm_scenario::fault::Part;
-use srm_scenario::key::Key;
+use srm_scenario::file_key::FileKey;
 use std::alloc::{AllocError, Global};
 
 /// The line in which stands why links make no tree: the end of a link or the parent that is no node, the parent of a node in a
@@ -33,25 +33,25 @@ pub(crate) fn picture_of_flaw(
         Flaw::Closing { link, .. } => picture_of_element(
             alloc,
             text,
-            Key::Link,
+            FileKey::Link,
             usize::from(*link),
         ),
         Flaw::LinkCount { .. } | Flaw::Unreached { .. } => {
-            picture_of_value(alloc, text, Part::Top, 0, Key::Nodes)
+            picture_of_value(alloc, text, Part::Top, 0, FileKey::Nodes)
         }
     }
 }
 
 // The line in which the parent of a node stands.
 fn picture_of_parent(alloc: Global, text: &[u8], node: usize) -> Result<String, AllocError> {
-    picture_of_element(alloc, text, Key::Parent, node.saturating_sub(1))
+    picture_of_element(alloc, text, FileKey::Parent, node.saturating_sub(1))
 }
 
 // The line in which the element at a place of an array stands.
 fn picture_of_element(
     alloc: Global,
     text: &[u8],
-    array: Key,
+    array: FileKey,
     place: usize,
 ) -> Result<String, AllocError> {
     let found = find(
@@ -75,7 +75,7 @@ pub(crate) fn picture_of_value(
     text: &[u8],
     part: Part,
     place: usize,
-    key: Key,
+    key: FileKey,
 ) -> Result<String, AllocError> {
     let key = key.name();
     let array = array_name(part);

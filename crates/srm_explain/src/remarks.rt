@@ -5,7 +5,7 @@ ghost use Rattle.srm_explain.specs.Remarks.{is_hardly_meant, remark_line, Remark
 
 use crate::pictures::picture_of_value;
 use srm_scenario::fault::Part;
-use srm_scenario::key::Key;
+use srm_scenario::file_key::FileKey;
 use srm_scenario::table::number;
 use std::alloc::{AllocError, Global};
 use toml::Table;
@@ -34,16 +34,16 @@ pub fn remarks(alloc: Global, text: &[u8]) -> Result<String, AllocError>
 fn remarks_on(alloc: Global, text: &[u8], top: &Table) -> Result<String, AllocError>
     ensures { IfOk result (λ told. RemarksOn (Some (table_view top.now)) (string_bytes told)) }
 {
-    let c1 = remark_of(alloc, text, top, Key::C1)?;
-    let c2 = remark_of(alloc, text, top, Key::C2)?;
-    let d1 = remark_of(alloc, text, top, Key::D1)?;
-    let d2 = remark_of(alloc, text, top, Key::D2)?;
+    let c1 = remark_of(alloc, text, top, FileKey::C1)?;
+    let c2 = remark_of(alloc, text, top, FileKey::C2)?;
+    let d1 = remark_of(alloc, text, top, FileKey::D1)?;
+    let d2 = remark_of(alloc, text, top, FileKey::D2)?;
     let told = format!(in alloc; "{c1}{c2}{d1}{d2}")?;
     Ok(told)
 }
 
 // What is remarked of the constant at a key.
-fn remark_of(alloc: Global, text: &[u8], top: &Table, key: Key) -> Result<String, AllocError>
+fn remark_of(alloc: Global, text: &[u8], top: &Table, key: FileKey) -> Result<String, AllocError>
     ensures { IfOk result (λ told. TellsRemark (table_view top.now) key (string_bytes told)) }
 {
     let constant = number(top, key);
@@ -64,7 +64,7 @@ fn is_hardly_meant(constant: u64) -> bool
 }
 
 // What is said of the constant at a key.
-fn remark_line(alloc: Global, key: Key, constant: u64) -> Result<String, AllocError>
+fn remark_line(alloc: Global, key: FileKey, constant: u64) -> Result<String, AllocError>
     ensures { IfOk result (λ line. string_bytes line ≡ remark_line key constant) }
 {
     let name = key.name();

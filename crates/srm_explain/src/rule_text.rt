@@ -3,9 +3,9 @@ ghost use Rattle.std.specs.Prelude.{◌≡◌, IfOk, string_bytes};
 ghost use Rattle.srm_explain.specs.RuleTexts.{bound_text, default_text, first_constants, kind_text, line_end, need_text, parents_listed, rule_lines, rule_text, span_text, words_text};
 
 use srm_scenario::fault::Part;
-use srm_scenario::key::Key;
+use srm_scenario::file_key::FileKey;
 use srm_scenario::parts::Constants;
-use srm_scenario::rule::{Kind, Need, Rule, Words};
+use srm_scenario::rule::{Need, Rule, ValueKind, Words};
 use std::alloc::{AllocError, Global};
 
 /// The constants of a top table, by numbers that no file can have: they stand for what the table's keys hold.
@@ -69,32 +69,32 @@ fn need_text(need: Need) -> &'static str
 }
 
 // What a key may hold.
-fn kind_text(alloc: Global, kind: Kind) -> Result<String, AllocError>
+fn kind_text(alloc: Global, kind: ValueKind) -> Result<String, AllocError>
     ensures { IfOk result (λ s. string_bytes s ≡ kind_text kind) }
 {
     match kind {
-        Kind::Whole(low, high) => {
+        ValueKind::Whole(low, high) => {
             let span = span_text(alloc, low, high)?;
             let told = format!(in alloc; "\"type\": \"number\", {span}")?;
             Ok(told)
         }
-        Kind::Word(words) => String::from_str(alloc, words_text(words)),
-        Kind::Numbers(most, high) => {
+        ValueKind::Word(words) => String::from_str(alloc, words_text(words)),
+        ValueKind::Numbers(most, high) => {
             let span = span_text(alloc, 0, high)?;
             let told = format!(in alloc; "\"type\": \"numbers\", {span}, \"longest\": {most}")?;
             Ok(told)
         }
-        Kind::Each(count, low, high) => {
+        ValueKind::Each(count, low, high) => {
             let span = span_text(alloc, low, high)?;
             let count = bound_text(alloc, count)?;
             let told = format!(in alloc; "\"type\": \"numbers\", {span}, \"length\": {count}")?;
             Ok(told)
         }
-        Kind::Elements(most) => {
+        ValueKind::Elements(most) => {
             let told = format!(in alloc; "\"type\": \"tables\", \"longest\": {most}")?;
             Ok(told)
         }
-        Kind::Repeated(most) => {
+        ValueKind::Repeated(most) => {
             let told = format!(in alloc;
                 "\"type\": \"tables\", \"longest\": {most}, \"repeated\": true"
             )?;
@@ -150,21 +150,21 @@ fn bound_text(alloc: Global, number: u64) -> Result<String, AllocError>
 }
 
 // What a key of a part is where it is not given, if it is a number then: a number, or the key whose number it is.
-fn default_text(part: Part, key: Key) -> &'static str
+fn default_text(part: Part, key: FileKey) -> &'static str
     ensures { result.now ≡ default_text part key }
 {
     match (part, key) {
-        (Part::Top, Key::C1Least | Key::C1Most) => ", \"default\": \"c1\"",
-        (Part::Top, Key::C2Least | Key::C2Most) => ", \"default\": \"c2\"",
-        (Part::Top, Key::D1Least | Key::D1Most) => ", \"default\": \"d1\"",
-        (Part::Top, Key::D2Least | Key::D2Most) => ", \"default\": \"d2\"",
-        (Part::Top, Key::Backoff | Key::Steps) => ", \"default\": 2",
-        (Part::Top, Key::Scope | Key::Widen) => ", \"default\": 0",
-        (Part::Top, Key::Tries) => ", \"default\": 1",
-        (Part::Link, Key::Back) => ", \"default\": \"delay\"",
-        (Part::Member, Key::Join) => ", \"default\": 0",
-        (Part::Loss, Key::Stream | Key::From) => ", \"default\": 0",
-        (_, Key::Times | Key::Every) => ", \"default\": 1",
+        (Part::Top, FileKey::C1Least | FileKey::C1Most) => ", \"default\": \"c1\"",
+        (Part::Top, FileKey::C2Least | FileKey::C2Most) => ", \"default\": \"c2\"",
+        (Part::Top, FileKey::D1Least | FileKey::D1Most) => ", \"default\": \"d1\"",
+        (Part::Top, FileKey::D2Least | FileKey::D2Most) => ", \"default\": \"d2\"",
+        (Part::Top, FileKey::Backoff | FileKey::Steps) => ", \"default\": 2",
+        (Part::Top, FileKey::Scope | FileKey::Widen) => ", \"default\": 0",
+        (Part::Top, FileKey::Tries) => ", \"default\": 1",
+        (Part::Link, FileKey::Back) => ", \"default\": \"delay\"",
+        (Part::Member, FileKey::Join) => ", \"default\": 0",
+        (Part::Loss, FileKey::Stream | FileKey::From) => ", \"default\": 0",
+        (_, FileKey::Times | FileKey::Every) => ", \"default\": 1",
         _ => "",
     }
 }

@@ -7,10 +7,10 @@ ghost use Rattle.srm_explain.specs.Findings.{allows, rules_for, rules_in, rules_
 
 use crate::finding::Finding;
 use srm_scenario::fault::Part;
+use srm_scenario::file_key::FileKey;
 use srm_scenario::form::Form;
-use srm_scenario::key::Key;
 use srm_scenario::parts::Constants;
-use srm_scenario::rule::{Kind, Need, Rule, Words};
+use srm_scenario::rule::{Need, Rule, ValueKind, Words};
 use srm_scenario::rules::{
     draw_rules, drop_rules, link_rules, loss_rules, member_rules, outage_rules, session_rules,
     top_rules,
@@ -28,7 +28,7 @@ use toml::Table;
 pub(crate) fn rules_in(alloc: Global, part: Part, top: &Table) -> Result<Vec<Rule>, AllocError>
     ensures { IfOk result (λ rules. rules.items ≡ rules_in part (table_view top.now)) }
 {
-    rules_for(alloc, Version::of(number(top, Key::Version)), part, top)
+    rules_for(alloc, Version::of(number(top, FileKey::Version)), part, top)
 }
 
 // The rules of a part in a version of the format, where this is the top table.
@@ -69,7 +69,7 @@ pub(crate) fn rules_with(
 }
 
 // Whether rules allow a key.
-fn allows(rules: &[Rule], key: Key) -> bool
+fn allows(rules: &[Rule], key: FileKey) -> bool
     ensures { result ≡ allows rules.now key }
 {
     rules.iter().any(|rule| rule.key.name() == key.name() && !matches!(rule.need, Need::Refused))
@@ -107,35 +107,35 @@ fn reason_of_unknown(alloc: Global, top: &Table, key: &str) -> Result<&'static s
 }
 
 // What follows the sentence of a value that is not of its rule's kind: of a topology that a later version has, that it has it.
-fn reason_of_kind(top: &Table, kind: Kind) -> &'static str
+fn reason_of_kind(top: &Table, kind: ValueKind) -> &'static str
     ensures { IsReasonOfKind (table_view top.now) kind result.now }
 {
     match kind {
-        Kind::Word(Words::Topologies) if says(top, Key::Topology, "parents") =>
+        ValueKind::Word(Words::Topologies) if says(top, FileKey::Topology, "parents") =>
             "; version 3 has \"parents\" too",
         _ => "",
     }
 }
 
 // Whether a key says something of the parents of nodes, or of the links to them.
-fn is_for_parents(key: Key) -> bool
+fn is_for_parents(key: FileKey) -> bool
     ensures { result ≡ is_for_parents key }
 {
-    matches!(key, Key::Parent | Key::Delays | Key::Backs)
+    matches!(key, FileKey::Parent | FileKey::Delays | FileKey::Backs)
 }
 
 // Why a key is not allowed in a table that names a topology.
-fn topology_reason(top: &Table, key: Key) -> &'static str
+fn topology_reason(top: &Table, key: FileKey) -> &'static str
     requires { is_shaped (table_view top.now) ≡ true }
     ensures { IsTopologyReason (table_view top.now) key result.now }
 {
-    if matches!(key, Key::Degree) {
+    if matches!(key, FileKey::Degree) {
         " unless topology is \"tree\""
-    } else if matches!(key, Key::Size) && says(top, Key::Topology, "parents") {
+    } else if matches!(key, FileKey::Size) && says(top, FileKey::Topology, "parents") {
         " beside parent: there is one node more than parents"
-    } else if matches!(key, Key::Delay) && has_key(top, Key::Delays) {
+    } else if matches!(key, FileKey::Delay) && has_key(top, FileKey::Delays) {
         " beside delays"
-    } else if matches!(key, Key::Back) && has_key(top, Key::Backs) {
+    } else if matches!(key, FileKey::Back) && has_key(top, FileKey::Backs) {
         " beside backs"
     } else {
         " beside topology"
@@ -148,7 +148,7 @@ fn has_in(
     version: Version,
     part: Part,
     top: &Table,
-    key: Key,
+    key: FileKey,
 ) -> Result<bool, AllocError>
     ensures { IfOk result (λ has. has ≡ allows (rules_for version part (table_view top.now)) key) }
 {
@@ -161,7 +161,7 @@ fn first_version_with(
     alloc: Global,
     part: Part,
     top: &Table,
-    key: Key,
+    key: FileKey,
 ) -> Result<Option<Version>, AllocError>
     ensures { IfOk result (λ since. since ≡ first_version_with part (table_view top.now) key) }
 {
@@ -181,12 +181,12 @@ fn first_version_with(
 }
 
 // Why a key is not allowed that no version has beside such a topology.
-fn reason_of_form(top: &Table, key: Key) -> &'static str
+fn reason_of_form(top: &Table, key: FileKey) -> &'static str
     ensures { IsReasonOfForm (table_view top.now) key result.now }
 {
-    if is_for_parents(key) && !says(top, Key::Topology, "parents") {
+    if is_for_parents(key) && !says(top, FileKey::Topology, "parents") {
         " unless topology is \"parents\", which version 3 has"
-    } else if !has_key(top, Key::Topology) {
+    } else if !has_key(top, FileKey::Topology) {
         " without topology"
     } else {
         topology_reason(top, key)
@@ -194,7 +194,7 @@ fn reason_of_form(top: &Table, key: Key) -> &'static str
 }
 
 // Why a key is not allowed, where this is the first version after version 1 that has it.
-fn reason_since(since: Option<Version>, top: &Table, key: Key) -> &'static str
+fn reason_since(since: Option<Version>, top: &Table, key: FileKey) -> &'static str
     ensures { IsReasonSince since (table_view top.now) key result.now }
 {
     match since {
@@ -207,7 +207,12 @@ fn reason_since(since: Option<Version>, top: &Table, key: Key) -> &'static str
 }
 
 // Why a key of this part is not allowed, where its rule refuses it.
-fn reason_for(alloc: Global, part: Part, top: &Table, key: Key) -> Result<&'static str, AllocError>
+fn reason_for(
+    alloc: Global,
+    part: Part,
+    top: &Table,
+    key: FileKey,
+) -> Result<&'static str, AllocError>
     ensures { IfOk result (λ reason. IsReason part (table_view top.now) key reason.now) }
 {
     let since = first_version_with(alloc, part, top, key)?;

@@ -1,12 +1,12 @@
 //! What is said of what is wrong with the keys of a table.
 ghost use Rattle.std.specs.Prelude.{◌≡◌, IfOk, string_bytes};
-ghost use Rattle.srm_scenario.specs.declared.rule.Kind.TheVariants.{Word};
+ghost use Rattle.srm_scenario.specs.declared.rule.ValueKind.TheVariants.{Word};
 ghost use Rattle.srm_explain.specs.Findings.{allowed, below_sentence, item_sentence, keys_of, length_sentence, passed_sentence, sentence_of, word_of};
 
 use crate::finding::Finding;
 use crate::keys::array_key;
 use srm_scenario::fault::Part;
-use srm_scenario::rule::{Kind, Need, Rule, Words};
+use srm_scenario::rule::{Need, Rule, ValueKind, Words};
 use std::alloc::{AllocError, Global};
 
 /// What is said of what is wrong with a table beside these rules.
@@ -116,35 +116,35 @@ fn length_sentence(alloc: Global, rule: Rule, length: u64) -> Result<String, All
 }
 
 // What a key may hold.
-fn allowed(alloc: Global, kind: Kind) -> Result<String, AllocError>
+fn allowed(alloc: Global, kind: ValueKind) -> Result<String, AllocError>
     ensures { IfOk result (λ s. string_bytes s ≡ allowed kind) }
 {
     match kind {
-        Kind::Whole(low, high) => {
+        ValueKind::Whole(low, high) => {
             let allowed = format!(in alloc; "a whole number from {low} to {high}")?;
             Ok(allowed)
         }
-        Kind::Word(words) => {
+        ValueKind::Word(words) => {
             let allowed = String::from_str(alloc, allowed_words(words))?;
             Ok(allowed)
         }
-        Kind::Numbers(most, high) => {
+        ValueKind::Numbers(most, high) => {
             let allowed = format!(in alloc;
                 "an array of at most {most} whole numbers from 0 to {high}"
             )?;
             Ok(allowed)
         }
-        Kind::Each(count, low, high) => {
+        ValueKind::Each(count, low, high) => {
             let allowed = format!(in alloc;
                 "an array with one number for each of {count} links, from {low} to {high}"
             )?;
             Ok(allowed)
         }
-        Kind::Elements(most) => {
+        ValueKind::Elements(most) => {
             let allowed = format!(in alloc; "an array of at most {most} tables")?;
             Ok(allowed)
         }
-        Kind::Repeated(most) => {
+        ValueKind::Repeated(most) => {
             let allowed = format!(in alloc; "an array of tables that stand for at most {most}")?;
             Ok(allowed)
         }

@@ -2,7 +2,7 @@
 use Rattle.std.proofs.Common.{◌≡◌, ℕ, ◌<◌, Bool, true, false, cond, List, [], ◌∷◌, ◌++◌, length, refl}
 use Rattle.std.proofs.Common.{sym, ap, ◌∙◌, arith, eqb, slice_set, ◌||◌, ◌==◌}
 use Rattle.std.proofs.lemmas.List.{get_or-set_same, get_or-set_other}
-use Rattle.srm_net.specs.declared.step.Step.{Step}
+use Rattle.srm_net.specs.declared.attaching.Attaching.{Attaching}
 use Rattle.srm_net.specs.Growth.{attached}
 use Rattle.srm_net.specs.Paths.{is_in}
 use Rattle.srm_net.specs.Known.{is_known}
@@ -13,7 +13,7 @@ abbrev pub Marks : ℕ → List ℕ → List Bool → Type 0
 Marks nodes xs known = (x : ℕ) → x < nodes → is_known known x ≡ is_in xs x
 
 -- the nodes marked as known are the attached ones
-abbrev pub KnownAre : ℕ → List Step → List Bool → Type 0
+abbrev pub KnownAre : ℕ → List Attaching → List Bool → Type 0
 KnownAre nodes ss known = Marks nodes (attached ss) known
 
 -- whether a node is marked, after one of them was
@@ -35,6 +35,6 @@ pub mark_push : (nodes : ℕ) (xs : List ℕ) (n : ℕ) (known : List Bool) → 
 mark_push nodes xs n known e h k x lt =
     known_set known n (omega arith) x ∙ ap (λ b. cond (eqb n x) true b) (k x lt) ∙ sym (any_push (λ m. m == x) xs n)
 
-pub known_more : (nodes : ℕ) (ss : List Step) (s : Step) (known : List Bool) → length known ≡ nodes → s.node < nodes
+pub known_more : (nodes : ℕ) (ss : List Attaching) (s : Attaching) (known : List Bool) → length known ≡ nodes → s.node < nodes
     → KnownAre nodes ss known → KnownAre nodes (s ∷ ss) (slice_set known s.node true)
 known_more nodes ss s known e h k = mark_more nodes (attached ss) s.node known e h k

@@ -5,7 +5,7 @@ use Rattle.std.proofs.lemmas.Bool.{ne_eqb, cases_eq, both_ways, false≢true}
 use Rattle.std.proofs.lemmas.List.{length-append, length-reverse, reverse-append}
 use Rattle.srm_net.specs.declared.link.LinkSpec.{LinkSpec}
 use Rattle.srm_net.specs.declared.position.Position.{Position}
-use Rattle.srm_net.specs.declared.step.Step.{Step}
+use Rattle.srm_net.specs.declared.attaching.Attaching.{Attaching}
 use Rattle.srm_net.specs.Growth.{attached, Grows, place_in}
 use Rattle.srm_net.specs.Network.{Network}
 use Rattle.srm_net.specs.Paths.{is_in}
@@ -15,14 +15,14 @@ use Rattle.srm_net.proofs.Numbers.{in_head, in_tail, in_cases}
 use Rattle.srm_net.proofs.Growing.{attached_length}
 use Rattle.srm_net.proofs.Rootings.{place_most}
 
-newest_last : (s : Step) (ss : List Step) → reverse (s.node ∷ attached ss) ≡ reverse (attached ss) ++ s.node ∷ []
+newest_last : (s : Attaching) (ss : List Attaching) → reverse (s.node ∷ attached ss) ≡ reverse (attached ss) ++ s.node ∷ []
 newest_last s ss = reverse-append (s.node ∷ []) (attached ss)
 
-so_many : (ss : List Step) → length (reverse (attached ss)) ≡ length ss + 1
+so_many : (ss : List Attaching) → length (reverse (attached ss)) ≡ length ss + 1
 so_many ss = length-reverse (attached ss) ∙ attached_length ss
 
 -- each attached node stands at its place
-pub stands_at : (ss : List Step) (u : ℕ) → is_in (attached ss) u ≡ true → slice_get (reverse (attached ss)) (place_in ss u) ≡ Some u
+pub stands_at : (ss : List Attaching) (u : ℕ) → is_in (attached ss) u ≡ true → slice_get (reverse (attached ss)) (place_in ss u) ≡ Some u
 stands_at [] u i = elim (in_cases 0 u [] i) [ inl e ↦ ap Some e | inr e ↦ absurd (false≢true e) ]
 stands_at (s ∷ ss) u i =
     elim (cases_eq s.node u) [
@@ -37,7 +37,7 @@ stands_at (s ∷ ss) u i =
     ]
 
 -- and what stands somewhere is an attached node of that place
-pub standing : (links : List LinkSpec) (ss : List Step) → Grows links ss → (i u : ℕ) → slice_get (reverse (attached ss)) i ≡ Some u
+pub standing : (links : List LinkSpec) (ss : List Attaching) → Grows links ss → (i u : ℕ) → slice_get (reverse (attached ss)) i ≡ Some u
     → (is_in (attached ss) u ≡ true) × (place_in ss u ≡ i)
 standing links [] g zero u h = (let e : 0 ≡ u = cc in subst (λ z. is_in (0 ∷ []) z ≡ true) e refl, refl)
 standing links [] g (suc i) u h = absurd (let k = get_below (0 ∷ []) (suc i) u h in omega arith)
@@ -57,7 +57,7 @@ standing links (s ∷ ss) g i u h =
           (in_tail s.node u (attached ss) rest.0, rw (ne_eqb s.node u other) rest.1))
     ]
 
-pub in_places : (w : Network) (ps : List Position) (links : List LinkSpec) (ss : List Step) → Grows links ss
+pub in_places : (w : Network) (ps : List Position) (links : List LinkSpec) (ss : List Attaching) → Grows links ss
     → ((u : ℕ) → u < w.nodes → is_in (attached ss) u ≡ true) → ((u : ℕ) → is_in (attached ss) u ≡ true → u < w.nodes)
     → ((u : ℕ) → u < w.nodes → (at ps u).place ≡ place_in ss u) → IsInOrder w ps (reverse (attached ss))
 in_places w ps links ss g inside below place = record {

@@ -3,7 +3,7 @@ use Rattle.std.proofs.Common.{◌≡◌, ◌≢◌, ℕ, ◌+◌, ◌-◌, ◌<�
 use Rattle.std.proofs.Common.{subst, inl, inr, arith, eq-eqb, slice_get, slice_set}
 use Rattle.std.proofs.lemmas.Bool.{cases_Bool, both_ways}
 use Rattle.srm_net.specs.declared.link.LinkSpec.{LinkSpec}
-use Rattle.srm_net.specs.declared.step.Step.{Step}
+use Rattle.srm_net.specs.declared.attaching.Attaching.{Attaching}
 use Rattle.srm_net.specs.Growth.{attached, used, Grows}
 use Rattle.srm_net.specs.Laws.{JoinsTwo, HasOnePathEach, TreesHaveOnePath}
 use Rattle.srm_net.specs.Network.{Network, Joins, IsWalk, IsPath, IsWithin, IsConnected, IsTree}
@@ -45,7 +45,7 @@ loop_of k = record { a = k.a; b = k.a; delay = k.delay; back = k.back }
 abbrev looped : List LinkSpec → ℕ → LinkSpec → List LinkSpec
 looped links l k = slice_set links l (loop_of k)
 
-grows_looped : (links : List LinkSpec) (l : ℕ) (k : LinkSpec) (ss : List Step) → is_in (used ss) l ≡ false → Grows links ss
+grows_looped : (links : List LinkSpec) (l : ℕ) (k : LinkSpec) (ss : List Attaching) → is_in (used ss) l ≡ false → Grows links ss
     → Grows (looped links l k) ss
 grows_looped links l k [] n g = tt
 grows_looped links l k (s ∷ ss) n g = (
@@ -94,7 +94,7 @@ ends_within : (w : Network) → HasOnePathEach w → All (IsWithin w.nodes) w.li
 ends_within w h = λ i d lt. let p = h.ends i d lt in (p.0, p.1)
 
 -- a tree that has grown to all nodes has each link
-needed : (w : Network) → HasOnePathEach w → (ss : List Step) → Grows w.links ss → length ss + 1 ≡ w.nodes → (l : ℕ) → l < length w.links
+needed : (w : Network) → HasOnePathEach w → (ss : List Attaching) → Grows w.links ss → length ss + 1 ≡ w.nodes → (l : ℕ) → l < length w.links
     → is_in (used ss) l ≡ true
 needed w h ss g all l lt =
     elim (cases_Bool (is_in (used ss) l)) [

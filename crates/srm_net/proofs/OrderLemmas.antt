@@ -2,7 +2,7 @@
 use Rattle.std.proofs.Common.{arith}
 use Rattle.std.proofs.Common.{◌≡◌, ℕ, ◌+◌, ◌≤◌, List, [], length, sym, subst, All}
 use Rattle.srm_net.specs.declared.link.LinkSpec.{LinkSpec}
-use Rattle.srm_net.specs.declared.step.Step.{Step}
+use Rattle.srm_net.specs.declared.attaching.Attaching.{Attaching}
 use Rattle.srm_net.specs.Limits.{most_nodes}
 use Rattle.srm_net.specs.Network.{plain_network, IsWithin, IsTree, HasDelays, AreHosts, IsNetwork}
 use Rattle.srm_net.specs.Growth.{Grows}
@@ -16,7 +16,7 @@ use Rattle.srm_net.proofs.Growing.{all_attached}
 use Rattle.srm_net.proofs.TreeWays.{both_ways_grown}
 
 -- what grew to all nodes is a tree
-pub whole_tree : (nodes : ℕ) (links : List LinkSpec) (ss : List Step) → 1 ≤ nodes → nodes ≤ most_nodes → All (IsWithin nodes) links
+pub whole_tree : (nodes : ℕ) (links : List LinkSpec) (ss : List Attaching) → 1 ≤ nodes → nodes ≤ most_nodes → All (IsWithin nodes) links
     → length links + 1 ≡ nodes → Grows links ss → length ss + 1 ≡ nodes → IsTree (plain_network nodes links [])
 whole_tree nodes links ss some few ends one g all = record {
   some_nodes = some;

@@ -5,7 +5,7 @@ use Rattle.std.proofs.lemmas.Bool.{cases_Bool}
 use Rattle.std.proofs.lemmas.Bool.Decides.{nat_tests}
 use Rattle.std.specs.Prelude.{◌||◌, ◌==◌}
 use Rattle.srm_net.specs.declared.link.LinkSpec.{LinkSpec}
-use Rattle.srm_net.specs.declared.step.Step.{Step}
+use Rattle.srm_net.specs.declared.attaching.Attaching.{Attaching}
 use Rattle.srm_net.specs.Growth.{attached, Grows}
 use Rattle.srm_net.specs.Limits.{most_nodes}
 use Rattle.srm_net.specs.Network.{IsWithin, IsTree, plain_network}
@@ -22,7 +22,7 @@ pub record JoinsParents (parent : ℕ → ℕ) (links : List LinkSpec) : Type 0 
 
 module _ (parent : ℕ → ℕ) where
   -- the steps that attach nodes 1 to n, the newest first
-  steps : ℕ → List Step
+  steps : ℕ → List Attaching
   steps zero = []
   steps (suc n) = record { link = n; parent = parent (n + 1); node = n + 1 } ∷ steps n
 

@@ -8,7 +8,7 @@ use Rattle.std.proofs.lemmas.List.{length-append, length-reverse, length-take, t
 use Rattle.std.proofs.lemmas.List.{get_or-set_same, get_or-set_other}
 use Rattle.srm_net.specs.declared.link.LinkSpec.{LinkSpec}
 use Rattle.srm_net.specs.declared.position.Position.{Position}
-use Rattle.srm_net.specs.declared.step.Step.{Step}
+use Rattle.srm_net.specs.declared.attaching.Attaching.{Attaching}
 use Rattle.srm_net.specs.Growth.{Attaches, attached, Grows, place_in}
 use Rattle.srm_net.specs.Network.{Network, Joins, IsWalk, IsTree, HasDelays, IsNetwork}
 use Rattle.srm_net.specs.Paths.{is_in, route, hops_between, delay_of, delay_along}
@@ -24,17 +24,17 @@ use Rattle.srm_net.proofs.SpreadLemmas.{end_joined, route_there}
 
 -- ---- places
 
-pub place_most : (ss : List Step) (v : ℕ) → place_in ss v ≤ length ss
+pub place_most : (ss : List Attaching) (v : ℕ) → place_in ss v ≤ length ss
 place_most [] v = omega arith
 place_most (s ∷ ss) v =
     elim (cases_Bool (eqb s.node v)) [ inl e ↦ rw e (omega arith) | inr e ↦ rw e (let k = place_most ss v in omega arith) ]
 
-pub in_later : (later ss : List Step) (v : ℕ) → is_in (attached ss) v ≡ true → is_in (attached (later ++ ss)) v ≡ true
+pub in_later : (later ss : List Attaching) (v : ℕ) → is_in (attached ss) v ≡ true → is_in (attached (later ++ ss)) v ≡ true
 in_later [] ss v i = i
 in_later (r ∷ later) ss v i = in_tail r.node v (attached (later ++ ss)) (in_later later ss v i)
 
 -- later steps leave places as they are
-pub place_kept : (links : List LinkSpec) (later ss : List Step) (v : ℕ) → Grows links (later ++ ss) → is_in (attached ss) v ≡ true
+pub place_kept : (links : List LinkSpec) (later ss : List Attaching) (v : ℕ) → Grows links (later ++ ss) → is_in (attached ss) v ≡ true
     → place_in (later ++ ss) v ≡ place_in ss v
 place_kept links [] ss v g i = refl
 place_kept links (r ∷ later) ss v g i =
@@ -42,7 +42,7 @@ place_kept links (r ∷ later) ss v g i =
     rw (ne_eqb r.node v d) (place_kept links later ss v g.1 i)
 
 -- a node of a place that some steps reach is attached by them
-placed_before : (later ss : List Step) (v : ℕ) → is_in (attached (later ++ ss)) v ≡ true → place_in (later ++ ss) v ≤ length ss
+placed_before : (later ss : List Attaching) (v : ℕ) → is_in (attached (later ++ ss)) v ≡ true → place_in (later ++ ss) v ≤ length ss
     → is_in (attached ss) v ≡ true
 placed_before [] ss v i h = i
 placed_before (s ∷ later) ss v i h =
@@ -54,7 +54,7 @@ placed_before (s ∷ later) ss v i h =
           placed_before later ss v (elim (in_cases s.node v (attached (later ++ ss)) i) [ inl e ↦ absurd (d e) | inr j ↦ j ]) low)
     ]
 
-pub place_apart : (ss : List Step) (u v : ℕ) → is_in (attached ss) u ≡ true → is_in (attached ss) v ≡ true → place_in ss u ≡ place_in ss v
+pub place_apart : (ss : List Attaching) (u v : ℕ) → is_in (attached ss) u ≡ true → is_in (attached ss) v ≡ true → place_in ss u ≡ place_in ss v
     → u ≡ v
 place_apart [] u v i j e =
     elim (in_cases 0 u [] i) [
@@ -78,10 +78,10 @@ place_apart (s ∷ ss) u v i j e =
       ]
     ]
   where
-    old : (ss : List Step) (n y : ℕ) → is_in (n ∷ attached ss) y ≡ true → n ≢ y → is_in (attached ss) y ≡ true
+    old : (ss : List Attaching) (n y : ℕ) → is_in (n ∷ attached ss) y ≡ true → n ≢ y → is_in (attached ss) y ≡ true
     old ss n y i d = elim (in_cases n y (attached ss) i) [ inl e ↦ absurd (d e) | inr j ↦ j ]
 
-pub place_root : (links : List LinkSpec) (ss : List Step) → Grows links ss → place_in ss 0 ≡ 0
+pub place_root : (links : List LinkSpec) (ss : List Attaching) → Grows links ss → place_in ss 0 ≡ 0
 place_root links [] g = refl
 place_root links (s ∷ ss) g =
     let d : s.node ≢ 0 = λ e. both_ways _ g.0.node (subst (λ y. is_in (attached ss) y ≡ true) (sym e) (root_attached ss)) in
@@ -134,7 +134,7 @@ passed_on w place u p j a b low = grind arith
 
 -- ---- a node that is attached
 
-module _ (w : Network) (t : IsTree w) (later : List Step) (s : Step) (ss : List Step) (g : Grows w.links (later ++ s ∷ ss))
+module _ (w : Network) (t : IsTree w) (later : List Attaching) (s : Attaching) (ss : List Attaching) (g : Grows w.links (later ++ s ∷ ss))
     (inside : (v : ℕ) → v < w.nodes → is_in (attached (later ++ s ∷ ss)) v ≡ true)
     (below : (v : ℕ) → is_in (attached (later ++ s ∷ ss)) v ≡ true → v < w.nodes) where
   pub here : Grows w.links (s ∷ ss)
@@ -240,9 +240,9 @@ module _ (w : Network) (t : IsTree w) (later : List Step) (s : Step) (ss : List 
 pub network_of : (w : Network) → IsTree w → All HasDelays w.links → w.hosts ≡ [] → IsNetwork w
 network_of w t d e = grind (arith, distinct_from_apart)
 
-module _ (w : Network) (t : IsTree w) (steps : List Step) (g : Grows w.links (reverse steps)) (all : length steps + 1 ≡ w.nodes) (i : ℕ)
+module _ (w : Network) (t : IsTree w) (steps : List Attaching) (g : Grows w.links (reverse steps)) (all : length steps + 1 ≡ w.nodes) (i : ℕ)
     (lt : i < length steps) where
-  s : Step
+  s : Attaching
   s = get_or steps i no_step
 
   split : reverse steps ≡ reverse (drop (i + 1) steps) ++ get_or steps i no_step ∷ reverse (take i steps)
@@ -342,7 +342,7 @@ each_alike (suc n) zero q h = refl
 each_alike (suc n) (suc u) q h = each_alike n u q (omega arith)
 
 -- one position more, of which each tells something
-pub position_set : (P : ℕ → Position → Type 0) (ss : List Step) (s : Step) (ps : List Position) (q : Position)
+pub position_set : (P : ℕ → Position → Type 0) (ss : List Attaching) (s : Attaching) (ps : List Position) (q : Position)
     → is_in (attached ss) s.node ≡ false → s.node < length ps
     → ((u : ℕ) → is_in (attached ss) u ≡ true → P u (at ps u))
     → P s.node q → (u : ℕ) → is_in (attached (s ∷ ss)) u ≡ true → P u (at (slice_set ps s.node q) u)

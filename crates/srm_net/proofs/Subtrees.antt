@@ -9,7 +9,7 @@ use Rattle.std.proofs.lemmas.List.{length-append, length-reverse, length-take, l
 use Rattle.std.proofs.lemmas.List.{take-append-drop, reverse-append}
 use Rattle.std.proofs.lemmas.List.{get_or-set_same, get_or-set_other}
 use Rattle.srm_net.specs.declared.link.LinkSpec.{LinkSpec}
-use Rattle.srm_net.specs.declared.step.Step.{Step}
+use Rattle.srm_net.specs.declared.attaching.Attaching.{Attaching}
 use Rattle.srm_net.specs.Growth.{attached, used, Grows, beyond, IsAbove, newest, IsInPreorder, place_in, IsSpan, TellsEnds}
 use Rattle.srm_net.specs.Network.{Network, IsTree}
 use Rattle.srm_net.specs.Paths.{is_in, route}
@@ -24,42 +24,42 @@ use Rattle.srm_net.proofs.Rootings.{place_most, place_root, in_later, place_kept
 
 -- ---- the node that was attached last
 
-newest_place : (rs : List Step) → place_in rs (newest rs) ≡ length rs
+newest_place : (rs : List Attaching) → place_in rs (newest rs) ≡ length rs
 newest_place [] = refl
 newest_place (r ∷ rs) = rw (eq-eqb r.node r.node refl) (omega arith)
 
-in_rest : (n x : ℕ) (rs : List Step) → is_in (n ∷ attached rs) x ≡ true → n ≢ x → is_in (attached rs) x ≡ true
+in_rest : (n x : ℕ) (rs : List Attaching) → is_in (n ∷ attached rs) x ≡ true → n ≢ x → is_in (attached rs) x ≡ true
 in_rest n x rs i d = elim (in_cases n x (attached rs) i) [ inl e ↦ absurd (d e) | inr j ↦ j ]
 
 -- each of these steps has an end past its own place, and not past the end of its parent
-abbrev pub Chained : (ℕ → ℕ) → List Step → Type 0
+abbrev pub Chained : (ℕ → ℕ) → List Attaching → Type 0
 Chained e [] = Unit {0}
 Chained e (r ∷ rs) = (length rs + 2 ≤ e r.node) × (e r.node ≤ e r.parent) × Chained e rs
 
 -- ---- at one of the steps
 
-module _ (links : List LinkSpec) (s : Step) (ss : List Step) where
-  used_all : (later : List Step) → is_in (used (later ++ s ∷ ss)) s.link ≡ true
+module _ (links : List LinkSpec) (s : Attaching) (ss : List Attaching) where
+  used_all : (later : List Attaching) → is_in (used (later ++ s ∷ ss)) s.link ≡ true
   used_all [] = in_head s.link (used ss)
   used_all (r ∷ later) = in_tail r.link s.link (used (later ++ s ∷ ss)) (used_all later)
 
-  other_link : (r : Step) (later : List Step) → Grows links (r ∷ later ++ s ∷ ss) → r.link ≢ s.link
+  other_link : (r : Attaching) (later : List Attaching) → Grows links (r ∷ later ++ s ∷ ss) → r.link ≢ s.link
   other_link r later g e =
       both_ways _ (used_fresh links r (later ++ s ∷ ss) g)
       (subst (λ l. is_in (used (later ++ s ∷ ss)) l ≡ true) (sym e) (used_all later))
 
-  pub place_here : (later : List Step) → Grows links (later ++ s ∷ ss) → place_in (later ++ s ∷ ss) s.node ≡ length ss + 1
+  pub place_here : (later : List Attaching) → Grows links (later ++ s ∷ ss) → place_in (later ++ s ∷ ss) s.node ≡ length ss + 1
   place_here later g =
       place_kept links later (s ∷ ss) s.node g (in_head s.node (attached ss))
       ∙ ap (λ b. cond b (length ss + 1) (place_in ss s.node)) (eq-eqb s.node s.node refl)
 
-  pub own_beyond : (later : List Step) → Grows links (later ++ s ∷ ss) → beyond (later ++ s ∷ ss) s.link s.node ≡ true
+  pub own_beyond : (later : List Attaching) → Grows links (later ++ s ∷ ss) → beyond (later ++ s ∷ ss) s.link s.node ≡ true
   own_beyond [] g = rw (eq-eqb s.node s.node refl, eq-eqb s.link s.link refl) refl
   own_beyond (r ∷ later) g =
       beyond_old r (later ++ s ∷ ss) s.link s.node g.0.node (in_later later (s ∷ ss) s.node (in_head s.node (attached ss)))
       ∙ own_beyond later g.1
 
-  pub above_step : (later : List Step) → Grows links (later ++ s ∷ ss) → IsAbove (later ++ s ∷ ss) s.parent s.node
+  pub above_step : (later : List Attaching) → Grows links (later ++ s ∷ ss) → IsAbove (later ++ s ∷ ss) s.parent s.node
   above_step [] g l b =
       let p : beyond ss l s.parent ≡ true = sym (beyond_old s ss l s.parent g.0.node g.0.parent) ∙ b in
       beyond_new s ss l ∙ elim (cases_Bool (eqb s.link l)) [ inl e ↦ rw e refl | inr e ↦ rw e p ]
@@ -69,11 +69,11 @@ module _ (links : List LinkSpec) (s : Step) (ss : List Step) where
       beyond_old r (later ++ s ∷ ss) l s.node g.0.node (in_later later (s ∷ ss) s.node (in_head s.node (attached ss)))
       ∙ above_step later old l (sym (beyond_old r (later ++ s ∷ ss) l s.parent g.0.node a) ∙ b)
     where
-      parent_in : (later : List Step) → Grows links (later ++ s ∷ ss) → is_in (attached (later ++ s ∷ ss)) s.parent ≡ true
+      parent_in : (later : List Attaching) → Grows links (later ++ s ∷ ss) → is_in (attached (later ++ s ∷ ss)) s.parent ≡ true
       parent_in [] g = in_tail s.node s.parent (attached ss) g.0.parent
       parent_in (r ∷ later) g = in_tail r.node s.parent (attached (later ++ s ∷ ss)) (parent_in later g.1)
 
-  pub parent_earlier : (later : List Step) → Grows links (later ++ s ∷ ss) → place_in (later ++ s ∷ ss) s.parent ≤ length ss
+  pub parent_earlier : (later : List Attaching) → Grows links (later ++ s ∷ ss) → place_in (later ++ s ∷ ss) s.parent ≤ length ss
   parent_earlier later g =
       let a = (grows_tail links later (s ∷ ss) g).0 in
       let d : s.node ≢ s.parent = λ e. both_ways _ a.node (subst (λ y. is_in (attached ss) y ≡ true) (sym e) a.parent) in
@@ -84,7 +84,7 @@ module _ (links : List LinkSpec) (s : Step) (ss : List Step) where
       omega arith
 
   -- what is beyond its link has no earlier place
-  pub beyond_from : (later : List Step) → Grows links (later ++ s ∷ ss) → (x : ℕ) → beyond (later ++ s ∷ ss) s.link x ≡ true
+  pub beyond_from : (later : List Attaching) → Grows links (later ++ s ∷ ss) → (x : ℕ) → beyond (later ++ s ∷ ss) s.link x ≡ true
       → length ss + 1 ≤ place_in (later ++ s ∷ ss) x
   beyond_from [] g x b =
       elim (cases_eq s.node x) [
@@ -100,7 +100,7 @@ module _ (links : List LinkSpec) (s : Step) (ss : List Step) where
       ]
 
   -- what has a place between it and one beyond its link is beyond it too
-  pub convex : (later : List Step) → Grows links (later ++ s ∷ ss) → IsInPreorder (later ++ s ∷ ss) → (x y : ℕ)
+  pub convex : (later : List Attaching) → Grows links (later ++ s ∷ ss) → IsInPreorder (later ++ s ∷ ss) → (x y : ℕ)
       → beyond (later ++ s ∷ ss) s.link y ≡ true → length ss + 1 ≤ place_in (later ++ s ∷ ss) x
       → place_in (later ++ s ∷ ss) x ≤ place_in (later ++ s ∷ ss) y → beyond (later ++ s ∷ ss) s.link x ≡ true
   convex [] g o x y b low le =
@@ -134,7 +134,7 @@ module _ (links : List LinkSpec) (s : Step) (ss : List Step) where
       ]
 
   -- what is beyond its link has an end past its place, and not past the end of its node
-  pub chain : (e : ℕ → ℕ) (later : List Step) → Grows links (later ++ s ∷ ss) → Chained e (later ++ s ∷ ss) → (x : ℕ)
+  pub chain : (e : ℕ → ℕ) (later : List Attaching) → Grows links (later ++ s ∷ ss) → Chained e (later ++ s ∷ ss) → (x : ℕ)
       → beyond (later ++ s ∷ ss) s.link x ≡ true → (place_in (later ++ s ∷ ss) x < e x) × (e x ≤ e s.node)
   chain e [] g h x b =
       elim (cases_eq s.node x) [
@@ -157,7 +157,7 @@ module _ (links : List LinkSpec) (s : Step) (ss : List Step) where
             rw (ne_eqb r.node x d) (chain e later g.1 h.2 x old))
       ]
 
-  pub span : (e : ℕ → ℕ) (later : List Step) → Grows links (later ++ s ∷ ss) → IsInPreorder (later ++ s ∷ ss)
+  pub span : (e : ℕ → ℕ) (later : List Attaching) → Grows links (later ++ s ∷ ss) → IsInPreorder (later ++ s ∷ ss)
       → Chained e (later ++ s ∷ ss) → (y : ℕ) → IsAbove (later ++ s ∷ ss) s.node y → place_in (later ++ s ∷ ss) y + 1 ≡ e s.node
       → IsSpan (later ++ s ∷ ss) s (e s.node)
   span e later g o h y a w =
@@ -176,16 +176,16 @@ module _ (links : List LinkSpec) (s : Step) (ss : List Step) where
 
 -- ---- at each of the steps
 
-abbrev pub step_at : List Step → ℕ → Step
+abbrev pub step_at : List Attaching → ℕ → Attaching
 step_at steps i = get_or steps i no_step
 
-pub parted : (steps : List Step) (i : ℕ) → i < length steps
+pub parted : (steps : List Attaching) (i : ℕ) → i < length steps
     → reverse steps ≡ reverse (drop (i + 1) steps) ++ step_at steps i ∷ reverse (take i steps)
 parted steps i lt =
     ap reverse (sym (take-append-drop (i + 1) steps)) ∙ reverse-append (take (i + 1) steps) (drop (i + 1) steps)
     ∙ ap (λ ts. reverse (drop (i + 1) steps) ++ ts) (reverse_more steps i no_step lt)
 
-before_count : (steps : List Step) (i : ℕ) → i ≤ length steps → length (reverse (take i steps)) ≡ i
+before_count : (steps : List Attaching) (i : ℕ) → i ≤ length steps → length (reverse (take i steps)) ≡ i
 before_count steps i le = length-reverse (take i steps) ∙ (let k = length-take i steps in omega arith)
 
 -- the end that is told of a node
@@ -193,17 +193,17 @@ abbrev pub end_at : List ℕ → ℕ → ℕ
 end_at ends u = slice_index_or ends u 0
 
 -- some node that is below u, or u, is the last one before this end
-abbrev pub EndsBelow : List Step → ℕ → ℕ → Type 0
+abbrev pub EndsBelow : List Attaching → ℕ → ℕ → Type 0
 EndsBelow ss u end = (y : ℕ) × IsAbove ss u y × (place_in ss y + 1 ≡ end)
 
 -- what the ends tell once the steps from the i-th on are seen
-pub record EndsFrom (steps : List Step) (i : ℕ) (ends : List ℕ) : Type 0 where
+pub record EndsFrom (steps : List Attaching) (i : ℕ) (ends : List ℕ) : Type 0 where
   pub root : 1 ≤ end_at ends 0
   pub chained : (j : ℕ) → i ≤ j → j < length steps → (j + 2 ≤ end_at ends (step_at steps j).node)
       × (end_at ends (step_at steps j).node ≤ end_at ends (step_at steps j).parent)
   pub below : (u : ℕ) → (end_at ends u ≡ 0) ⊎ EndsBelow (reverse steps) u (end_at ends u)
 
-chained_up_to : (steps : List Step) (ends : List ℕ) → EndsFrom steps 0 ends → (n : ℕ) → n ≤ length steps
+chained_up_to : (steps : List Attaching) (ends : List ℕ) → EndsFrom steps 0 ends → (n : ℕ) → n ≤ length steps
     → Chained (end_at ends) (reverse (take n steps))
 chained_up_to steps ends h zero le = tt
 chained_up_to steps ends h (suc n) le =
@@ -216,7 +216,7 @@ chained_up_to steps ends h (suc n) le =
     (omega arith, k.1, rest)
 
 -- no end passes the one of node 0
-under_root : (links : List LinkSpec) (e : ℕ → ℕ) (ss : List Step) → Grows links ss → Chained e ss → 1 ≤ e 0 → (x : ℕ)
+under_root : (links : List LinkSpec) (e : ℕ → ℕ) (ss : List Attaching) → Grows links ss → Chained e ss → 1 ≤ e 0 → (x : ℕ)
     → is_in (attached ss) x ≡ true → (place_in ss x < e x) × (e x ≤ e 0)
 under_root links e [] g h some x i =
     elim (in_cases 0 x [] i) [
@@ -234,10 +234,10 @@ under_root links e (s ∷ ss) g h some x i =
       | inr d ↦ rw (ne_eqb s.node x d) (under_root links e ss g.1 h.2 some x (in_rest s.node x ss i d))
     ]
 
-all_chained : (steps : List Step) (ends : List ℕ) → EndsFrom steps 0 ends → Chained (end_at ends) (reverse steps)
+all_chained : (steps : List Attaching) (ends : List ℕ) → EndsFrom steps 0 ends → Chained (end_at ends) (reverse steps)
 all_chained steps ends h = grind (arith, common_steps, chained_up_to)
 
-spans : (links : List LinkSpec) (steps : List Step) (ends : List ℕ) → Grows links (reverse steps) → IsInPreorder (reverse steps)
+spans : (links : List LinkSpec) (steps : List Attaching) (ends : List ℕ) → Grows links (reverse steps) → IsInPreorder (reverse steps)
     → EndsFrom steps 0 ends → (i : ℕ) → i < length steps
     → IsSpan (reverse steps) (step_at steps i) (end_at ends (step_at steps i).node)
 spans links steps ends g o h i lt =
@@ -255,12 +255,12 @@ spans links steps ends g o h i lt =
           (subst (λ ts. place_in ts w.0 + 1 ≡ end_at ends s.node) split w.2))
     ]
 
-pub told_ends : (links : List LinkSpec) (steps : List Step) (ends : List ℕ) → Grows links (reverse steps) → IsInPreorder (reverse steps)
+pub told_ends : (links : List LinkSpec) (steps : List Attaching) (ends : List ℕ) → Grows links (reverse steps) → IsInPreorder (reverse steps)
     → EndsFrom steps 0 ends → TellsEnds steps ends
 told_ends links steps ends g o h = record {
-  spans = λ i s e. subst (λ (z : Step). IsSpan (reverse steps) z (end_at ends z.node)) (get_index steps i s no_step e)
+  spans = λ i s e. subst (λ (z : Attaching). IsSpan (reverse steps) z (end_at ends z.node)) (get_index steps i s no_step e)
       (spans links steps ends g o h i (get_below steps i s e));
-  nested = λ i s e. subst (λ (z : Step). end_at ends z.node ≤ end_at ends z.parent) (get_index steps i s no_step e)
+  nested = λ i s e. subst (λ (z : Attaching). end_at ends z.node ≤ end_at ends z.parent) (get_index steps i s no_step e)
       ((h.chained i (omega arith) (get_below steps i s e)).1);
   root = λ x i.
       let k = under_root links (end_at ends) (reverse steps) g (all_chained steps ends h) h.root x i in
@@ -276,7 +276,7 @@ zeros zero u = refl
 zeros (suc n) zero = refl
 zeros (suc n) (suc u) = zeros n u
 
-pub ends_none : (links : List LinkSpec) (steps : List Step) → Grows links (reverse steps) → (n : ℕ) (ends : List ℕ) → 1 ≤ n
+pub ends_none : (links : List LinkSpec) (steps : List Attaching) → Grows links (reverse steps) → (n : ℕ) (ends : List ℕ) → 1 ≤ n
     → ends ≡ replicate n 0 → EndsFrom steps (length steps) (slice_set ends 0 1)
 ends_none links steps g n ends some e = grind (arith, place_root, zeros)
 
@@ -287,7 +287,7 @@ one_of_max a b m e = elim (cases_lt a b) [
   | inr h ↦ inl (omega arith, omega arith)
 ]
 
-module _ (links : List LinkSpec) (steps : List Step) (g : Grows links (reverse steps)) (i : ℕ) (lt : i < length steps) where
+module _ (links : List LinkSpec) (steps : List Attaching) (g : Grows links (reverse steps)) (i : ℕ) (lt : i < length steps) where
   grown : Grows links (reverse (drop (i + 1) steps) ++ step_at steps i ∷ reverse (take i steps))
   grown = subst (Grows links) (parted steps i lt) g
 
@@ -302,7 +302,7 @@ module _ (links : List LinkSpec) (steps : List Step) (g : Grows links (reverse s
       subst (λ ts. IsAbove ts (step_at steps i).parent (step_at steps i).node) (sym (parted steps i lt))
       (above_step links (step_at steps i) (reverse (take i steps)) (reverse (drop (i + 1) steps)) grown)
 
-module _ (links : List LinkSpec) (steps : List Step) (g : Grows links (reverse steps)) (i : ℕ) (lt : i < length steps) (ends : List ℕ)
+module _ (links : List LinkSpec) (steps : List Attaching) (g : Grows links (reverse steps)) (i : ℕ) (lt : i < length steps) (ends : List ℕ)
     (hn : (step_at steps i).node < length ends) (hp : (step_at steps i).parent < length ends) (old : EndsFrom steps (i + 1) ends)
     (own top : ℕ) (eo : own ≡ max (end_at ends (step_at steps i).node) (i + 2))
     (et : top ≡ max (end_at (slice_set ends (step_at steps i).node own) (step_at steps i).parent) own) where
@@ -398,14 +398,14 @@ module _ (links : List LinkSpec) (steps : List Step) (g : Grows links (reverse s
 
 -- ---- in the tree
 
-root_beyond : (links : List LinkSpec) (ss : List Step) → Grows links ss → (l : ℕ) → beyond ss l 0 ≡ false
+root_beyond : (links : List LinkSpec) (ss : List Attaching) → Grows links ss → (l : ℕ) → beyond ss l 0 ≡ false
 root_beyond links [] g l = refl
 root_beyond links (s ∷ ss) g l =
     let d : s.node ≢ 0 = λ e. both_ways _ g.0.node (subst (λ y. is_in (attached ss) y ≡ true) (sym e) (root_attached ss)) in
     rw (ne_eqb s.node 0 d) (root_beyond links ss g.1 l)
 
 -- the way from node 0 to a node takes the links that the node is beyond
-pub route_over : (w : Network) → IsTree w → (ss : List Step) → Grows w.links ss → length ss + 1 ≡ w.nodes → (l x : ℕ) → x < w.nodes
+pub route_over : (w : Network) → IsTree w → (ss : List Attaching) → Grows w.links ss → length ss + 1 ≡ w.nodes → (l x : ℕ) → x < w.nodes
     → beyond ss l x ≡ is_in (route w 0 x) l
 route_over w t ss g all l x hx =
     let one : length w.links + 1 ≡ w.nodes = t.one_fewer in
@@ -416,6 +416,6 @@ route_over w t ss g all l x hx =
     over ∙ ap (λ b. cond (is_in (route w 0 x) l) (not b) b) (root_beyond w.links ss g l)
     ∙ elim (is_in (route w 0 x) l) as (λ b. cond b true false ≡ b) [ true ↦ refl | false ↦ refl ]
 
-pub subtree_of : (w : Network) → IsTree w → (ss : List Step) → Grows w.links ss → length ss + 1 ≡ w.nodes → (s : Step) (end : ℕ)
+pub subtree_of : (w : Network) → IsTree w → (ss : List Attaching) → Grows w.links ss → length ss + 1 ≡ w.nodes → (s : Attaching) (end : ℕ)
     → IsSpan ss s end → IsSubtree w (place_in ss) s.node s.link end
 subtree_of w t ss g all s end h = grind (arith, all_attached, route_over)

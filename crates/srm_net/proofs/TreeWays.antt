@@ -5,7 +5,7 @@ use Rattle.std.proofs.Common.{All, get_or}
 use Rattle.std.proofs.lemmas.Bool.{both_ways, false≢true}
 use Rattle.std.proofs.lemmas.List.{reverse-append, take_more}
 use Rattle.srm_net.specs.declared.link.LinkSpec.{LinkSpec}
-use Rattle.srm_net.specs.declared.step.Step.{Step}
+use Rattle.srm_net.specs.declared.attaching.Attaching.{Attaching}
 use Rattle.srm_net.specs.Network.{Joins, IsWalk, IsAlike}
 use Rattle.srm_net.specs.Paths.{is_in, delay_from, delay_of, delay_along}
 use Rattle.srm_net.specs.Growth.{Attaches, attached, Grows}
@@ -50,7 +50,7 @@ pub way_kept : (links : List LinkSpec) (inside : List ℕ) (n u x delay : ℕ) �
     → IsWay links (n ∷ inside) u x delay
 way_kept links inside n u x delay w = grind arith
 
-pub way_there : (links : List LinkSpec) (inside : List ℕ) (s : Step) (a : Attaches links inside s) (u delay : ℕ)
+pub way_there : (links : List LinkSpec) (inside : List ℕ) (s : Attaching) (a : Attaches links inside s) (u delay : ℕ)
     → IsWay links inside u s.parent delay
     → IsWay links (s.node ∷ inside) u s.node (delay + delay_from s.parent a.spec)
 way_there links inside s a u delay w =
@@ -73,7 +73,7 @@ way_there links inside s a u delay w =
           ∙ ap (λ n. delay + n) (ap (delay_of s.parent) a.link);
     }
 
-pub way_back : (links : List LinkSpec) (inside : List ℕ) (s : Step) (a : Attaches links inside s) (x delay : ℕ)
+pub way_back : (links : List LinkSpec) (inside : List ℕ) (s : Attaching) (a : Attaches links inside s) (x delay : ℕ)
     → IsWay links inside s.parent x delay
     → IsWay links (s.node ∷ inside) s.node x (delay + delay_from s.node a.spec)
 way_back links inside s a x delay w =
@@ -105,7 +105,7 @@ pub record BothWays (links : List LinkSpec) (inside : List ℕ) (u x : ℕ) : Ty
   pub there : IsWay links inside u x delay
   pub back : IsWay links inside x u home
 
-pub both_ways_grown : (links : List LinkSpec) (ss : List Step) → Grows links ss → (u x : ℕ) → is_in (attached ss) u ≡ true
+pub both_ways_grown : (links : List LinkSpec) (ss : List Attaching) → Grows links ss → (u x : ℕ) → is_in (attached ss) u ≡ true
     → is_in (attached ss) x ≡ true → BothWays links (attached ss) u x
 both_ways_grown links [] g u x i j =
     let zero_in : (y : ℕ) → is_in (0 ∷ []) y ≡ true → 0 ≡ y = λ y h. elim
@@ -173,14 +173,14 @@ both_ways_grown links (s ∷ ss) g u x i j =
 
 -- ---- steps one by one
 
-pub grows_tail : (links : List LinkSpec) (xs ys : List Step) → Grows links (xs ++ ys) → Grows links ys
+pub grows_tail : (links : List LinkSpec) (xs ys : List Attaching) → Grows links (xs ++ ys) → Grows links ys
 grows_tail links [] ys g = g
 grows_tail links (x ∷ xs) ys g = grows_tail links xs ys g.1
 
-pub reverse_more : (steps : List Step) (i : ℕ) (d : Step) → i < length steps → reverse (take (i + 1) steps)
+pub reverse_more : (steps : List Attaching) (i : ℕ) (d : Attaching) → i < length steps → reverse (take (i + 1) steps)
     ≡ get_or steps i d ∷ reverse (take i steps)
 reverse_more steps i d h = ap reverse (take_more steps i d h) ∙ reverse-append (take i steps) (get_or steps i d ∷ [])
 
 -- a step of no use but as a default
-abbrev pub no_step : Step
+abbrev pub no_step : Attaching
 no_step = record { node = 0; parent = 0; link = 0 }

@@ -5,7 +5,7 @@ use Rattle.std.proofs.Common.{Some, refl, sym, ap, ◌∙◌, subst, inl, inr, a
 use Rattle.std.proofs.lemmas.Bool.{both_ways, false≢true}
 use Rattle.std.proofs.lemmas.List.{reverse-append, map-append}
 use Rattle.srm_net.specs.declared.link.LinkSpec.{LinkSpec}
-use Rattle.srm_net.specs.declared.step.Step.{Step}
+use Rattle.srm_net.specs.declared.attaching.Attaching.{Attaching}
 use Rattle.srm_net.specs.Network.{plain_network, Joins, IsWithin, IsTree}
 use Rattle.srm_net.specs.Paths.{is_in}
 use Rattle.srm_net.specs.Growth.{Attaches, attached, Grows, IsAbove}
@@ -18,23 +18,23 @@ use Rattle.srm_net.proofs.Growing.{root_attached}
 
 -- ---- above
 
-above_on : (ss : List Step) (p q x : ℕ) → IsAbove ss p q → IsAbove ss q x → IsAbove ss p x
+above_on : (ss : List Attaching) (p q x : ℕ) → IsAbove ss p q → IsAbove ss q x → IsAbove ss p x
 above_on ss p q x a b l h = b l (a l h)
 
-above_kept : (s : Step) (ss : List Step) (p x : ℕ) → is_in (attached ss) s.node ≡ false → is_in (attached ss) p ≡ true
+above_kept : (s : Attaching) (ss : List Attaching) (p x : ℕ) → is_in (attached ss) s.node ≡ false → is_in (attached ss) p ≡ true
     → is_in (attached ss) x ≡ true → IsAbove ss p x → IsAbove (s ∷ ss) p x
 above_kept s ss p x new hp hx a l h = beyond_old s ss l x new hx ∙ a l (sym (beyond_old s ss l p new hp) ∙ h)
 
-above_new : (s : Step) (ss : List Step) (p : ℕ) → is_in (attached ss) s.node ≡ false → is_in (attached ss) p ≡ true
+above_new : (s : Attaching) (ss : List Attaching) (p : ℕ) → is_in (attached ss) s.node ≡ false → is_in (attached ss) p ≡ true
     → IsAbove ss p s.parent → IsAbove (s ∷ ss) p s.node
 above_new s ss p new hp a l h = grind arith
 
 -- ---- waiting
 
-leads_kept : (links : List LinkSpec) (s : Step) (ss : List Step) (r : Step) → LeadsFrom links ss r → LeadsFrom links (s ∷ ss) r
+leads_kept : (links : List LinkSpec) (s : Attaching) (ss : List Attaching) (r : Attaching) → LeadsFrom links ss r → LeadsFrom links (s ∷ ss) r
 leads_kept links s ss r f = grind arith
 
-waits_kept : (links : List LinkSpec) (s : Step) (ss : List Step) (x : ℕ) (rest : List Step) → is_in (attached ss) s.node ≡ false
+waits_kept : (links : List LinkSpec) (s : Attaching) (ss : List Attaching) (x : ℕ) (rest : List Attaching) → is_in (attached ss) s.node ≡ false
     → is_in (attached ss) x ≡ true → Wait links ss x rest → Wait links (s ∷ ss) x rest
 waits_kept links s ss x [] new hx w = tt
 waits_kept links s ss x (r ∷ rest) new hx w = (
@@ -44,7 +44,7 @@ waits_kept links s ss x (r ∷ rest) new hx w = (
 )
 
 -- once the first of them is taken, the others wait at its node
-pub waits_new : (links : List LinkSpec) (s : Step) (ss : List Step) (rest : List Step) → is_in (attached ss) s.node ≡ false
+pub waits_new : (links : List LinkSpec) (s : Attaching) (ss : List Attaching) (rest : List Attaching) → is_in (attached ss) s.node ≡ false
     → Wait links ss s.parent rest → Wait links (s ∷ ss) s.node rest
 waits_new links s ss [] new w = tt
 waits_new links s ss (r ∷ rest) new w = (
@@ -54,25 +54,25 @@ waits_new links s ss (r ∷ rest) new w = (
 )
 
 -- and where it is left out, at the same node as before
-pub waits_skip : (links : List LinkSpec) (ss : List Step) (x : ℕ) (s : Step) (rest : List Step) → Wait links ss x (s ∷ rest)
+pub waits_skip : (links : List LinkSpec) (ss : List Attaching) (x : ℕ) (s : Attaching) (rest : List Attaching) → Wait links ss x (s ∷ rest)
     → Wait links ss x rest
 waits_skip links ss x s [] w = tt
 waits_skip links ss x s (r ∷ rest) w = (w.2.0, above_on ss r.parent s.parent x w.2.1 w.1, w.2.2)
 
-pub waits_push : (links : List LinkSpec) (ss : List Step) (x : ℕ) (ps : List Step) (s : Step) → s.parent ≡ x → LeadsFrom links ss s
+pub waits_push : (links : List LinkSpec) (ss : List Attaching) (x : ℕ) (ps : List Attaching) (s : Attaching) → s.parent ≡ x → LeadsFrom links ss s
     → Wait links ss x (reverse ps) → Wait links ss x (reverse (ps ++ s ∷ []))
 waits_push links ss x ps s e f w = grind (arith, reverse-append)
 
-pub attaches_waited : (links : List LinkSpec) (ss : List Step) (s : Step) → LeadsFrom links ss s → is_in (attached ss) s.node ≡ false
+pub attaches_waited : (links : List LinkSpec) (ss : List Attaching) (s : Attaching) → LeadsFrom links ss s → is_in (attached ss) s.node ≡ false
     → Attaches links (attached ss) s
 attaches_waited links ss s f new = record { spec = f.spec; link = f.link; joins = f.joins; parent = f.parent; node = new }
 
 -- the step that comes next, before which the others stood
-pub next_waits : (links : List LinkSpec) (ss : List Step) (x : ℕ) (pending ps : List Step) (s : Step) → pending ≡ ps ++ s ∷ []
+pub next_waits : (links : List LinkSpec) (ss : List Attaching) (x : ℕ) (pending ps : List Attaching) (s : Attaching) → pending ≡ ps ++ s ∷ []
     → Wait links ss x (reverse pending) → Wait links ss x (s ∷ reverse ps)
 next_waits links ss x pending ps s e w = subst (Wait links ss x) (ap reverse e ∙ reverse-append ps (s ∷ [])) w
 
-pub leads_below : (nodes : ℕ) (links : List LinkSpec) (ss : List Step) (s : Step) → All (IsWithin nodes) links → LeadsFrom links ss s
+pub leads_below : (nodes : ℕ) (links : List LinkSpec) (ss : List Attaching) (s : Attaching) → All (IsWithin nodes) links → LeadsFrom links ss s
     → s.node < nodes
 leads_below nodes links ss s ends f =
     (joins_below nodes f.spec s.parent s.node (all_get (IsWithin nodes) links s.link f.spec ends f.link) f.joins).1
@@ -80,21 +80,21 @@ leads_below nodes links ss s ends f =
 -- ---- all neighbours
 
 -- each neighbour of an attached node is attached, or a step to it waits
-abbrev pub Covers : List LinkSpec → List Step → List Step → Type 0
+abbrev pub Covers : List LinkSpec → List Attaching → List Attaching → Type 0
 Covers links ss pending =
     (l : ℕ) (k : LinkSpec) (u x : ℕ) → slice_get links l ≡ Some k → Joins k u x → is_in (attached ss) u ≡ true
     → (is_in (attached ss) x ≡ true) ⊎ (is_in (targets pending) x ≡ true)
 
-target_cases : (ps : List Step) (s : Step) (x : ℕ) → is_in (targets (ps ++ s ∷ [])) x ≡ true
+target_cases : (ps : List Attaching) (s : Attaching) (x : ℕ) → is_in (targets (ps ++ s ∷ [])) x ≡ true
     → (is_in (targets ps) x ≡ true) ⊎ (s.node ≡ x)
 target_cases ps s x h = grind (arith, in_append_cases, map-append)
 
-pub covers_skip : (links : List LinkSpec) (ss ps : List Step) (s : Step) → is_in (attached ss) s.node ≡ true
+pub covers_skip : (links : List LinkSpec) (ss ps : List Attaching) (s : Attaching) → is_in (attached ss) s.node ≡ true
     → Covers links ss (ps ++ s ∷ [])
     → Covers links ss ps
 covers_skip links ss ps s known c l k u x g j i = grind (arith, target_cases)
 
-pub covers_new : (nodes : ℕ) (links : List LinkSpec) (s : Step) (ss : List Step) (marks : List Bool) (ps new : List Step)
+pub covers_new : (nodes : ℕ) (links : List LinkSpec) (s : Attaching) (ss : List Attaching) (marks : List Bool) (ps new : List Attaching)
     → All (IsWithin nodes) links
     → KnownAre nodes (s ∷ ss) marks → AddsSteps links marks s.node ps new → Covers links ss (ps ++ s ∷ []) → Covers links (s ∷ ss) new
 covers_new nodes links s ss marks ps new ends agree a c l k u x g j i = grind (arith, elements, target_cases)
@@ -102,7 +102,7 @@ covers_new nodes links s ss marks ps new ends agree a c l k u x g j i = grind (a
 -- ---- the end
 
 -- no more nodes are attached than there are
-pub attached_fit : (nodes : ℕ) (links : List LinkSpec) (ss : List Step) → 1 ≤ nodes → All (IsWithin nodes) links → Grows links ss
+pub attached_fit : (nodes : ℕ) (links : List LinkSpec) (ss : List Attaching) → 1 ≤ nodes → All (IsWithin nodes) links → Grows links ss
     → length ss + 1 ≤ nodes
 attached_fit nodes links ss some ends g =
     let k = few_apart nodes (attached ss) (attached_apart links ss g) (attached_below nodes links ss some ends g) in
@@ -110,7 +110,7 @@ attached_fit nodes links ss some ends g =
     omega arith
 
 -- where no step waits, and some node is not attached, there is no tree
-pub stuck_no_tree : (nodes : ℕ) (links : List LinkSpec) (ss : List Step) → length ss + 1 < nodes → Covers links ss []
+pub stuck_no_tree : (nodes : ℕ) (links : List LinkSpec) (ss : List Attaching) → length ss + 1 < nodes → Covers links ss []
     → (t : IsTree (plain_network nodes links [])) → ⊥
 stuck_no_tree nodes links ss few c t =
     let long = attached_length ss in
@@ -123,7 +123,7 @@ stuck_no_tree nodes links ss few c t =
 
 -- ---- it ends
 
-pub none_left : (ps : List Step) → length ps ≡ 0 → ps ≡ []
+pub none_left : (ps : List Attaching) → length ps ≡ 0 → ps ≡ []
 none_left [] e = refl
 none_left (s ∷ ss) e = absurd (omega arith)
 
@@ -132,9 +132,9 @@ fewer_wait m n links old new e h = grind arith
 
 -- ---- one more waits
 
-pub target_kept : (ps : List Step) (s : Step) (x : ℕ) → is_in (targets ps) x ≡ true → is_in (targets (ps ++ s ∷ [])) x ≡ true
+pub target_kept : (ps : List Attaching) (s : Attaching) (x : ℕ) → is_in (targets ps) x ≡ true → is_in (targets (ps ++ s ∷ [])) x ≡ true
 target_kept ps s x h =
-    subst (λ ns. is_in ns x ≡ true) (sym (map-append (λ (t : Step). t.node) ps (s ∷ []))) (in_append_left (targets ps) (s.node ∷ []) x h)
+    subst (λ ns. is_in ns x ≡ true) (sym (map-append (λ (t : Attaching). t.node) ps (s ∷ []))) (in_append_left (targets ps) (s.node ∷ []) x h)
 
-pub target_new : (ps : List Step) (s : Step) (x : ℕ) → s.node ≡ x → is_in (targets (ps ++ s ∷ [])) x ≡ true
+pub target_new : (ps : List Attaching) (s : Attaching) (x : ℕ) → s.node ≡ x → is_in (targets (ps ++ s ∷ [])) x ≡ true
 target_new ps s x e = grind (arith, map-append, in_append_right)

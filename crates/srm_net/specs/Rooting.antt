@@ -4,7 +4,7 @@ use Rattle.std.specs.Prelude.{slice_index_or}
 use Rattle.srm_net.specs.declared.link.LinkSpec.{LinkSpec}
 use Rattle.srm_net.specs.declared.position.Position.{Position}
 use Rattle.srm_net.specs.declared.rooted.Rooted.{Rooted}
-use Rattle.srm_net.specs.declared.step.Step.{Step}
+use Rattle.srm_net.specs.declared.attaching.Attaching.{Attaching}
 use Rattle.srm_net.specs.Network.{Network, IsTree}
 use Rattle.srm_net.specs.Paths.{is_in, route, hops_between, end_of, delay_of, delay_along}
 
@@ -106,7 +106,7 @@ pub record IsChildAbove (w : Network) (positions : List Position) (u v x : ℕ) 
   pub held : IsHeld (at positions x) (at positions v)
 
 -- the positions tell all that is asked of the node that this step attaches, and its delays and depth fit
-pub record MayFollow (links : List LinkSpec) (positions : List Position) (s : Step) : Type 0 where
+pub record MayFollow (links : List LinkSpec) (positions : List Position) (s : Attaching) : Type 0 where
   pub link : s.link < length links
   pub parent : s.parent < length positions
   pub far : (at positions s.parent).jump < length positions
@@ -116,7 +116,7 @@ pub record MayFollow (links : List LinkSpec) (positions : List Position) (s : St
   pub down : (at positions s.parent).down + delay_of s.parent (slice_get links s.link) < 2 ^ 64
 
 -- what the position of that node tells, by those of its parent and of the jump from there
-pub record Follows (links : List LinkSpec) (place end : ℕ) (s : Step) (above far new : Position) : Type 0 where
+pub record Follows (links : List LinkSpec) (place end : ℕ) (s : Attaching) (above far new : Position) : Type 0 where
   pub place_is : new.place ≡ place
   pub end_is : new.end ≡ end
   pub depth_is : new.depth ≡ above.depth + 1

@@ -4,9 +4,9 @@ ghost use Rattle.srm_net.specs.Network.{IsWithin};
 ghost use Rattle.srm_net.specs.Adjacencies.{TellsLinks};
 ghost use Rattle.srm_net.specs.Waiting.{AddsSteps};
 
+use crate::attaching::Attaching;
 use crate::earlier::Earlier;
 use crate::link::LinkSpec;
-use crate::step::Step;
 use std::alloc::{AllocError, Global};
 
 /// For each node the last link that meets it, and for each link the one before it at each of its ends. So the links that meet a node are
@@ -49,7 +49,7 @@ impl Adjacency {
         links: &[LinkSpec],
         known: &[bool],
         node: u16,
-        pending: &mut Vec<Step>,
+        pending: &mut Vec<Attaching>,
     ) -> Result<(), AllocError>
         requires ends { All (IsWithin (length known.now)) links.now }
         requires node { node < length known.now }
@@ -62,7 +62,7 @@ impl Adjacency {
             let spec = links[usize::from(link)];
             let other = spec.far_from(node);
             if !known[usize::from(other)] {
-                pending.push(Step {
+                pending.push(Attaching {
                     node: other,
                     parent: node,
                     link,

@@ -2,6 +2,7 @@
 #![tactic(auto)]
 
 mod adjacency;
+mod attaching;
 mod checks;
 mod drop_sets;
 pub mod drops;
@@ -31,6 +32,5 @@ mod sending;
 pub mod sequence;
 mod sides;
 pub mod spread;
-mod step;
 mod tree;
 mod word;

@@ -4,10 +4,10 @@ ghost use Rattle.srm_net.specs.Network.{plain_network, IsTree};
 ghost use Rattle.srm_net.specs.Growth.{Grows, IsInPreorder};
 
 use crate::adjacency::Adjacency;
+use crate::attaching::Attaching;
 use crate::checks::are_within;
 use crate::fault::NetFault;
 use crate::link::LinkSpec;
-use crate::step::Step;
 use std::alloc::Global;
 
 /// The steps by which the tree of these links grows from node 0, one for each other node, in preorder. It takes a number of steps that
@@ -18,7 +18,7 @@ pub(crate) fn attaching_order(
     alloc: Global,
     nodes: u16,
     links: &[LinkSpec],
-) -> Result<Vec<Step>, NetFault>
+) -> Result<Vec<Attaching>, NetFault>
     ensures grows { IfOk result (λ steps. Grows links.now (reverse steps.items)) }
     ensures preorder { IfOk result (λ steps. IsInPreorder (reverse steps.items)) }
     ensures all { IfOk result (λ steps. length steps.items + 1 ≡ nodes) }
@@ -32,8 +32,8 @@ pub(crate) fn attaching_order(
     let adjacency = Adjacency::of(alloc, nodes, links)?;
     let mut known = vec![in alloc; false; usize::from(nodes)]?;
     known[0] = true;
-    let mut steps: Vec<Step> = Vec::new(alloc);
-    let mut pending: Vec<Step> = Vec::new(alloc);
+    let mut steps: Vec<Attaching> = Vec::new(alloc);
+    let mut pending: Vec<Attaching> = Vec::new(alloc);
     adjacency.push_steps(links, known.as_slice(), 0, &mut pending)?;
     while let Some(step) = pending.pop() {
         if known[usize::from(step.node)] {

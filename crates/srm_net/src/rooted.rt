@@ -9,11 +9,11 @@ ghost use Rattle.srm_net.specs.Paths.{hops_between, takes_out};
 ghost use Rattle.srm_net.specs.Rooting.{takes, at, IsRooted, TellsTree, IsMeeting, IsFirstLink, IsHeld, IsChildAbove, MayFollow, Follows};
 ghost use Rattle.srm_net.specs.Spreads.{TellsArrivals, TellsAbove, TellsFirst, TellsHops};
 
+use crate::attaching::Attaching;
 use crate::drops::Drops;
 use crate::link::LinkSpec;
 use crate::position::Position;
 use crate::sending::Sending;
-use crate::step::Step;
 use std::alloc::{AllocError, Global};
 
 /// The position of each node, and the nodes in the order of their places.
@@ -29,7 +29,7 @@ impl Rooted {
         alloc: Global,
         nodes: u16,
         links: &[LinkSpec],
-        steps: &[Step],
+        steps: &[Attaching],
     ) -> Result<Rooted, AllocError>
         requires tree { IsTree (plain_network nodes links.now []) }
         requires delays { All HasDelays links.now }
@@ -331,7 +331,7 @@ impl Rooted {
 }
 
 // The nodes in the order in which these steps attach them, node 0 the first.
-fn in_order(alloc: Global, steps: &[Step]) -> Result<Vec<u16>, AllocError>
+fn in_order(alloc: Global, steps: &[Attaching]) -> Result<Vec<u16>, AllocError>
     ensures { IfOk result (λ order. order.items ≡ reverse (attached (reverse steps.now))) }
 {
     let mut order = vec![in alloc; 0u16]?;
@@ -345,7 +345,7 @@ fn in_order(alloc: Global, steps: &[Step]) -> Result<Vec<u16>, AllocError>
 fn attached_position(
     positions: &[Position],
     links: &[LinkSpec],
-    step: Step,
+    step: Attaching,
     place: u16,
     end: u16,
 ) -> Position
@@ -383,7 +383,7 @@ fn jump_of(parent: u16, above: Position, far: Position, farther: Position) -> u1
 
 // For each node one more than the last place of the nodes that are it or below it. The steps are seen from the last to the
 // first: so all nodes below one are seen before it.
-fn subtree_ends(alloc: Global, nodes: u16, steps: &[Step]) -> Result<Vec<u16>, AllocError>
+fn subtree_ends(alloc: Global, nodes: u16, steps: &[Attaching]) -> Result<Vec<u16>, AllocError>
     requires grows { (links : List LinkSpec) × IsTree (plain_network nodes links []) × Grows links (reverse steps.now) }
     requires preorder { IsInPreorder (reverse steps.now) }
     requires all { length steps.now + 1 ≡ nodes }

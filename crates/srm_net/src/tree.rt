@@ -11,6 +11,7 @@ ghost use Rattle.srm_net.specs.Spreads.{TellsArrivals, TellsHops};
 ghost use Rattle.srm_net.specs.Least.{least_delay};
 ghost use Rattle.srm_net.specs.Tables.{covers, is_beyond, TellsAllSides, TellsOuts};
 
+use crate::attaching::Attaching;
 use crate::drops::Drops;
 use crate::link::LinkSpec;
 use crate::occupied::Occupied;
@@ -20,7 +21,6 @@ use crate::rooted::Rooted;
 use crate::sending::Sending;
 use crate::sequence::Sequence;
 use crate::sides::Sides;
-use crate::step::Step;
 use std::alloc::{AllocError, Global};
 use std::marker::Model;
 
@@ -52,7 +52,7 @@ impl Tree {
         nodes: u16,
         links: &[LinkSpec],
         hosts: &[u16],
-        steps: &[Step],
+        steps: &[Attaching],
     ) -> Result<Tree, AllocError>
         requires tree { IsTree (plain_network nodes links.now []) }
         requires delays { All HasDelays links.now }

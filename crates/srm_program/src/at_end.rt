@@ -9,7 +9,7 @@ ghost use Rattle.srm_program.specs.Askings.{IsKept, MayStep, Reports};
 use crate::asked::Asked;
 use crate::end_table::EndTable;
 use crate::fault::LabFault;
-use crate::keep_rows::{keep_steps, keep_windows};
+use crate::keep_run::{keep_steps, keep_windows};
 use crate::report::write_text;
 use crate::task::Task;
 use srm_interfaces::watch_crew::WatchCrew;

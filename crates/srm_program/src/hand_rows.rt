@@ -8,7 +8,7 @@ ghost use Rattle.srm_interfaces.specs.Sinks.{IsReady};
 
 use crate::asked::Asked;
 use crate::fault::LabFault;
-use crate::keep_rows::fault_of;
+use crate::keep_run::fault_of;
 use crate::options::{Engine, Options};
 use srm_engine::start::Start;
 use srm_engine::step_rows::step_rows;

@@ -9,7 +9,7 @@ mod explained;
 pub mod fault;
 mod hand_rows;
 mod in_windows;
-mod keep_rows;
+mod keep_run;
 mod kept_tables;
 pub mod line;
 mod listed;

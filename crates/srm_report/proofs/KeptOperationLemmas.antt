@@ -16,7 +16,7 @@ use Rattle.srm_model.proofs.StandAlike.{listed_alike}
 use Rattle.srm_report.specs.declared.course.Course.{Course}
 use Rattle.srm_report.specs.declared.loss.Loss.{Loss}
 use Rattle.srm_report.specs.declared.member_operations.MemberOperations.{MemberOperations}
-use Rattle.srm_report.specs.declared.sending.Sending.{Sending}
+use Rattle.srm_report.specs.declared.sent_for_name.SentForName.{SentForName}
 use Rattle.srm_report.specs.KeptOperations.{KeepsOperations, TellOperations}
 use Rattle.srm_report.specs.Operations.{has_left}
 use Rattle.srm_report.specs.Sendings.{TellLeft, TellSent}
@@ -49,10 +49,10 @@ joined_more rows (suc n) i j e =
     ∙ sym (append_assoc (rows_of_member i rows) (joined (by_member (suc i) n rows)) (rows_of_member j rows))
 
 -- of the members so far
-abbrev pub SentOf : List MemberOperations → ℕ → List (Name × Sending) → Type 0
+abbrev pub SentOf : List MemberOperations → ℕ → List (Name × SentForName) → Type 0
 SentOf ks i sent = (rows : List Row) → KeepMembers Kept 0 ks rows → TellSent (joined (by_member 0 i rows)) sent
 
-pub sent_more : (ks : List MemberOperations) (i : ℕ) (k : MemberOperations) (old new : List (Name × Sending)) → i < length ks
+pub sent_more : (ks : List MemberOperations) (i : ℕ) (k : MemberOperations) (old new : List (Name × SentForName)) → i < length ks
     → k ≡ get_or ks i k → SentOf ks i old
     → ((xs ys : List Row) → TellSent xs old → TellSent ys k.sent → TellSent (xs ++ ys) new) → SentOf ks (i + 1) new
 sent_more ks i k old new lt here was add rows h =
@@ -85,7 +85,7 @@ left_kept rows i (k ∷ ks) h none (suc m) j e = left_kept rows (suc i) ks h.1 (
 pub kept_operations : (rows : List Row) (members : ℕ) → IsOrderly members rows → (ks : List MemberOperations) → members ≤ length ks
     → KeepMembers Kept 0 ks rows → (i : ℕ) → i ≡ length ks
     → (es : List (Loss × Course)) → es ≡ entries_of (λ (k : MemberOperations). k.losses) (take i ks)
-    → (sent : List (Name × Sending)) → SentOf ks i sent
+    → (sent : List (Name × SentForName)) → SentOf ks i sent
     → (left : List Bool) → left ≡ map (λ (k : MemberOperations). k.left) (take i ks) → TellOperations rows es sent left
 kept_operations rows members o ks all h i whole es is sent asks left leave =
     let few = all_few rows members (length ks) o all in

@@ -13,7 +13,7 @@ use Rattle.srm_net.proofs.TotalOrders.{name_total}
 use Rattle.srm_member.proofs.TableChanges.{same_names}
 use Rattle.srm_member.specs.declared.row.Row.{Row}
 use Rattle.srm_member.specs.Kinds.{is_ask, is_answer}
-use Rattle.srm_report.specs.declared.sending.Sending.{Sending}
+use Rattle.srm_report.specs.declared.sent_for_name.SentForName.{SentForName}
 use Rattle.srm_report.specs.Operations.{sending_of, sends_for, sooner}
 use Rattle.srm_report.specs.Rows.{is_name}
 use Rattle.srm_report.specs.Sendings.{sending_in, TellSent, together, asked_in}
@@ -48,18 +48,18 @@ sent_after xs ys n i = record {
 -- ---- names after others
 
 -- to what was sent before, these entries were added
-pub record HasAdded (old more new : List (Name × Sending)) : Type 0 where
+pub record HasAdded (old more new : List (Name × SentForName)) : Type 0 where
   pub sorted : T (is_sorted name_cmp new)
   pub sent : (m : Name) → sending_in new m ≡ together (sending_in old m) (sending_in more m)
 
-with_none : (s : Sending) (m : Name) → together s (sending_of [] m) ≡ s
+with_none : (s : SentForName) (m : Name) → together s (sending_of [] m) ≡ s
 with_none s m i = record { asked = s.asked; requests = add-zero s.requests i; repairs = add-zero s.repairs i }
 
-pub none_added : (old : List (Name × Sending)) → T (is_sorted name_cmp old) → HasAdded old [] old
+pub none_added : (old : List (Name × SentForName)) → T (is_sorted name_cmp old) → HasAdded old [] old
 none_added old rises = record { sorted = rises; sent = λ m. sym (with_none (sending_in old m) m) }
 
-module _ (old more now : List (Name × Sending)) (rises : T (is_sorted name_cmp more)) (i : ℕ) (d : Name × Sending) (lt : i < length more)
-    (was : HasAdded old (take i more) now) (v : Sending) where
+module _ (old more now : List (Name × SentForName)) (rises : T (is_sorted name_cmp more)) (i : ℕ) (d : Name × SentForName) (lt : i < length more)
+    (was : HasAdded old (take i more) now) (v : SentForName) where
   abbrev n : Name
   n = (get_or more i d).0
 
@@ -99,7 +99,7 @@ module _ (old more now : List (Name × Sending)) (rises : T (is_sorted name_cmp 
           ∙ ap (together (sending_in old m)) (sym (among m true h))
       by m false h = there m false h ∙ was.sent m ∙ ap (together (sending_in old m)) (sym (among m false h))
 
-pub all_added : (xs ys : List Row) (old more new : List (Name × Sending)) → TellSent xs old → TellSent ys more → HasAdded old more new
+pub all_added : (xs ys : List Row) (old more new : List (Name × SentForName)) → TellSent xs old → TellSent ys more → HasAdded old more new
     → TellSent (xs ++ ys) new
 all_added xs ys old more new t u h = record {
   sorted = h.sorted;

@@ -18,7 +18,7 @@ use Rattle.srm_member.specs.declared.told.Told.{Told}
 use Rattle.srm_member.specs.declared.row.Word.{Word}
 use Rattle.srm_member.specs.declared.row.About.{About}
 use Rattle.srm_report.specs.declared.line.Line.{Line}
-use Rattle.srm_report.specs.declared.recovery.Recovery.{Recovery}
+use Rattle.srm_report.specs.declared.mended_loss.MendedLoss.{MendedLoss}
 use Rattle.srm_report.specs.Lines.{line_text, line_written}
 use Rattle.srm_report.specs.Losses.{delay_of}
 use Rattle.srm_report.specs.Members.{role_word}
@@ -112,11 +112,11 @@ pub time_is_plain : (o : Option ℕ) → IsPlain (or_dash decimal o)
 time_is_plain None = refl
 time_is_plain (Some at) = decimal_is_plain at
 
-pub last_is_plain : (o : Option Recovery) → IsPlain (or_dash (λ r. decimal r.member) o)
+pub last_is_plain : (o : Option MendedLoss) → IsPlain (or_dash (λ r. decimal r.member) o)
 last_is_plain None = refl
 last_is_plain (Some r) = decimal_is_plain r.member
 
-pub delay_is_plain : (net : Network) (source : ℕ) (o : Option Recovery) → IsPlain (or_dash (delay_of net source) o)
+pub delay_is_plain : (net : Network) (source : ℕ) (o : Option MendedLoss) → IsPlain (or_dash (delay_of net source) o)
 delay_is_plain net source None = refl
 delay_is_plain net source (Some r) = ratio_is_plain (r.recovered - r.detected) (round net r.member source)
 

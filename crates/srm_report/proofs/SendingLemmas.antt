@@ -18,7 +18,7 @@ use Rattle.srm_member.specs.declared.told.Told.TheVariants.{Sent}
 use Rattle.srm_member.specs.Kinds.{is_ask, is_answer, is_sent}
 use Rattle.srm_member.proofs.ByMemberLemmas.{same_of_alike}
 use Rattle.srm_member.proofs.TableChanges.{same_names}
-use Rattle.srm_report.specs.declared.sending.Sending.{Sending}
+use Rattle.srm_report.specs.declared.sent_for_name.SentForName.{SentForName}
 use Rattle.srm_report.specs.Operations.{is_about, sending_of, sends_for, sooner}
 use Rattle.srm_report.specs.Rows.{is_name}
 use Rattle.srm_report.specs.Sendings.{repaired, requested, sending_in, TellSent, asked_in}
@@ -61,7 +61,7 @@ count_within t pre x post =
     ∙ if_one (t x) (count_by t (pre ++ post))
 
 -- what was sent, with a row that asks, or answers
-abbrev after : Bool → Bool → ℕ → Sending → Sending
+abbrev after : Bool → Bool → ℕ → SentForName → SentForName
 after a b at s = record {
   asked = sooner s.asked (cond a (Some at) None);
   requests = cond a (s.requests + 1) s.requests;
@@ -87,20 +87,20 @@ sent_alike : (n : Name) (xs ys : List Row) → AreAlike xs ys → sending_of xs 
 sent_alike n = same_of_alike (λ rows. sending_of rows n) (λ r. after (sends_for is_ask n r) (sends_for is_answer n r) r.key.time)
     (sent_within n)
 
-pub tell_sent_alike : (xs ys : List Row) (es : List (Name × Sending)) → AreAlike xs ys → TellSent xs es → TellSent ys es
+pub tell_sent_alike : (xs ys : List Row) (es : List (Name × SentForName)) → AreAlike xs ys → TellSent xs es → TellSent ys es
 tell_sent_alike xs ys es alike t = record { sorted = t.sorted; sent = λ n. t.sent n ∙ sent_alike n xs ys alike }
 
 -- ---- a row more
 
 -- the row sends nothing for any name
-pub sent_none : (rows : List Row) (r : Row) (es : List (Name × Sending)) → TellSent rows es
+pub sent_none : (rows : List Row) (r : Row) (es : List (Name × SentForName)) → TellSent rows es
     → ((m : Name) → (sends_for is_ask m r ≡ false) × (sends_for is_answer m r ≡ false)) → TellSent (rows ++ r ∷ []) es
 sent_none rows r es was none = record {
   sorted = was.sorted;
   sent = λ m. was.sent m ∙ sym (grown rows r m ∙ (λ i. after ((none m).0 i) ((none m).1 i) r.key.time (sending_of rows m)));
 }
 
-module _ (rows : List Row) (r : Row) (es : List (Name × Sending)) (was : TellSent rows es) (n : Name) (v : Sending) where
+module _ (rows : List Row) (r : Row) (es : List (Name × SentForName)) (was : TellSent rows es) (n : Name) (v : SentForName) where
   -- the row sends for this name alone
   sent_one : (a b : Bool) → ((m : Name) → sends_for is_ask m r ≡ (a && is_name m n)) → ((m : Name)
       → sends_for is_answer m r ≡ (b && is_name m n))
@@ -137,7 +137,7 @@ module _ (rows : List Row) (r : Row) (es : List (Name × Sending)) (was : TellSe
           ∙ neither b) i) r.key.time (sending_of rows m)))
 
 -- a request was sent
-pub sent_request : (rows : List Row) (r : Row) (es : List (Name × Sending)) → TellSent rows es → (n : Name) → r.cause ≡ Ask → r.told ≡ Sent
+pub sent_request : (rows : List Row) (r : Row) (es : List (Name × SentForName)) → TellSent rows es → (n : Name) → r.cause ≡ Ask → r.told ≡ Sent
     → r.about ≡ Named n → TellSent (rows ++ r ∷ []) (put name_cmp n (requested r.key.time (sending_in es n)) es)
 sent_request rows r es was n cause sent about =
     sent_one rows r es was n (requested r.key.time (sending_in es n)) true false
@@ -145,7 +145,7 @@ sent_request rows r es was n cause sent about =
     (λ m i. is_answer (cause i) && (is_sent (sent i) && is_about m (about i))) refl
 
 -- a repair was sent
-pub sent_repair : (rows : List Row) (r : Row) (es : List (Name × Sending)) → TellSent rows es → (n : Name) → r.cause ≡ Answer
+pub sent_repair : (rows : List Row) (r : Row) (es : List (Name × SentForName)) → TellSent rows es → (n : Name) → r.cause ≡ Answer
     → r.told ≡ Sent
     → r.about ≡ Named n → TellSent (rows ++ r ∷ []) (put name_cmp n (repaired (sending_in es n)) es)
 sent_repair rows r es was n cause sent about =
@@ -179,16 +179,16 @@ fails is_kind m r (inr (inr h)) = ap (λ b. is_kind r.cause && (is_sent r.told &
     two true false = refl
     two false b = refl
 
-pub about_none : (rows : List Row) (r : Row) (es : List (Name × Sending)) → TellSent rows es → ((n : Name) → r.about ≡ Named n → ⊥)
+pub about_none : (rows : List Row) (r : Row) (es : List (Name × SentForName)) → TellSent rows es → ((n : Name) → r.about ≡ Named n → ⊥)
     → TellSent (rows ++ r ∷ []) es
 about_none rows r es was h = sent_none rows r es was
     (λ m. (fails is_ask m r (inr (inr (unnamed r h m))), fails is_answer m r (inr (inr (unnamed r h m)))))
 
-pub told_other : (rows : List Row) (r : Row) (es : List (Name × Sending)) → TellSent rows es → is_sent r.told ≡ false
+pub told_other : (rows : List Row) (r : Row) (es : List (Name × SentForName)) → TellSent rows es → is_sent r.told ≡ false
     → TellSent (rows ++ r ∷ []) es
 told_other rows r es was h = sent_none rows r es was (λ m. (fails is_ask m r (inr (inl h)), fails is_answer m r (inr (inl h))))
 
-pub caused_other : (rows : List Row) (r : Row) (es : List (Name × Sending)) → TellSent rows es → is_ask r.cause ≡ false
+pub caused_other : (rows : List Row) (r : Row) (es : List (Name × SentForName)) → TellSent rows es → is_ask r.cause ≡ false
     → is_answer r.cause ≡ false → TellSent (rows ++ r ∷ []) es
 caused_other rows r es was h k = sent_none rows r es was (λ m. (fails is_ask m r (inl h), fails is_answer m r (inl k)))
 

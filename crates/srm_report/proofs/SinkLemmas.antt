@@ -15,7 +15,7 @@ use Rattle.srm_report.specs.Standings.{text_next, after_answer, TakesText}
 use Rattle.srm_report.specs.ListingSinks.{outlet_under, gathered_by, stage_at, written_by, PutsAll, PutsFront}
 use Rattle.srm_report.specs.ListingSinks.{PutsText, PutsRows, PutsPart, WritesThrough}
 use Rattle.srm_report.specs.SinkLaws.{all_more, front_more, front_longer}
-use Rattle.srm_report.specs.declared.piece.Piece.{Piece}
+use Rattle.srm_report.specs.declared.text_piece.TextPiece.{TextPiece}
 use Rattle.srm_report.specs.Pieces.{bytes_of, whole_text}
 use Rattle.srm_report.proofs.PieceLemmas.{pieces_so_far, pieces_cut}
 
@@ -50,7 +50,7 @@ pub rows_put : {L O A : Type 0} (taken : O → Option (List ℕ)) (f : Form) (a 
 rows_put taken f a b rows r begun s fits h e = grind arith
 
 -- after the first pieces of a text one more is put, or else no more than a front of it is taken
-module _ {L O : Type 0} (taken : O → Option (List ℕ)) (a b c : ListingSink L O) (ps : List Piece) (i : ℕ) (p : Piece)
+module _ {L O : Type 0} (taken : O → Option (List ℕ)) (a b c : ListingSink L O) (ps : List TextPiece) (i : ℕ) (p : TextPiece)
     (lt : i < length ps) (is : p ≡ get_or ps i p) (so_far : PutsAll taken a (whole_text (take i ps)) b) where
   pub piece_put : PutsAll taken b (bytes_of p) c → PutsAll taken a (whole_text (take (i + 1) ps)) c
   piece_put k =

@@ -20,9 +20,9 @@ use Rattle.srm_member.specs.Orderly.{IsOrderly}
 use Rattle.srm_member.proofs.TableChanges.{same_names}
 use Rattle.srm_report.specs.declared.course.Course.{Course}
 use Rattle.srm_report.specs.declared.loss.Loss.{Loss}
-use Rattle.srm_report.specs.declared.recovery.Recovery.{Recovery}
-use Rattle.srm_report.specs.declared.sending.Sending.{Sending}
-use Rattle.srm_report.specs.declared.tally.Tally.{Tally}
+use Rattle.srm_report.specs.declared.mended_loss.MendedLoss.{MendedLoss}
+use Rattle.srm_report.specs.declared.sent_for_name.SentForName.{SentForName}
+use Rattle.srm_report.specs.declared.loss_tally.LossTally.{LossTally}
 use Rattle.srm_report.specs.Courses.{TellLosses}
 use Rattle.srm_report.specs.Losses.{detected_at, loss_cmp, recovered_at, recovery_by}
 use Rattle.srm_report.specs.Operations.{each_once, has_left, is_open, last_told, later, losses_of}
@@ -72,7 +72,7 @@ keys es = map (λ e. e.0) es
 pub no_tally : (rows : List Row) → AreTallies rows [] []
 no_tally rows = record { sorted = tt; names = refl; counts = λ n. refl }
 
-names_grown : (ns : List Name) (n : Name) (v : Tally) (ts : List (Name × Tally)) → T (is_sorted name_cmp ts)
+names_grown : (ns : List Name) (n : Name) (v : LossTally) (ts : List (Name × LossTally)) → T (is_sorted name_cmp ts)
     → map (λ e. e.0) ts ≡ ordered name_cmp (each_once ns)
     → map (λ e. e.0) (put name_cmp n v ts) ≡ ordered name_cmp (each_once (ns ++ n ∷ []))
 names_grown ns n v ts sorted was =
@@ -85,7 +85,7 @@ names_grown ns n v ts sorted was =
     has : is_some (find name_cmp n ts) ≡ list_any (is_name n) (each_once ns)
     has = is_some-find name_cmp n ts ∙ ap (list_any (is_name n)) was ∙ any_ordered name_cmp name_total (is_name n) (each_once ns)
 
-    by : (o : Option Tally) → find name_cmp n ts ≡ o → map (λ e. e.0) (put name_cmp n v ts)
+    by : (o : Option LossTally) → find name_cmp n ts ≡ o → map (λ e. e.0) (put name_cmp n v ts)
         ≡ ordered name_cmp (cond (list_any (is_name n) (each_once ns)) (each_once ns) (each_once ns ++ n ∷ []))
     by (Some old) e =
         keys_same name_cmp name_total n v ts sorted old e ∙ was
@@ -97,7 +97,7 @@ names_grown ns n v ts sorted was =
 
 module _ (rows : List Row) (left : List Bool) (gone : TellLeft rows left) where
   -- the losses with those of one entry more
-  tallies_grown : (ks : List Loss) (k : Loss) (c : Course) (all : List (Name × Tally)) (after : Tally)
+  tallies_grown : (ks : List Loss) (k : Loss) (c : Course) (all : List (Name × LossTally)) (after : LossTally)
       → detected_at rows k ≡ Some c.detected → recovered_at rows k ≡ c.recovered
       → after ≡ tallied (tally_in all k.name) k c (get_or left k.member false)
       → AreTallies rows ks all → AreTallies rows (ks ++ k ∷ []) (put name_cmp k.name after all)
@@ -128,7 +128,7 @@ module _ (rows : List Row) (left : List Bool) (gone : TellLeft rows left) where
       counts n false h = there n false h ∙ was.counts n ∙ sym (ap (tally_of rows) (among n false h ∙ append-nil (named n ks)))
 
 module _ (rows : List Row) (left : List Bool) (gone : TellLeft rows left) (es : List (Loss × Course)) (tell : TellLosses rows es) where
-  pub one_tally_more : (i : ℕ) (d : Loss × Course) (all new : List (Name × Tally)) (after : Tally) → i < length es
+  pub one_tally_more : (i : ℕ) (d : Loss × Course) (all new : List (Name × LossTally)) (after : LossTally) → i < length es
       → new ≡ put name_cmp (get_or es i d).0.name after all
       → after ≡ tallied (tally_in all (get_or es i d).0.name) (get_or es i d).0 (get_or es i d).1 (get_or left
       (get_or es i d).0.member false)
@@ -141,7 +141,7 @@ module _ (rows : List Row) (left : List Bool) (gone : TellLeft rows left) (es : 
       subst (λ ks. AreTallies rows ks new) (sym one) (subst (AreTallies rows (keys (take i es) ++ e.0 ∷ [])) (sym grown)
       (tallies_grown rows left gone (keys (take i es)) e.0 e.1 all after facts.0 facts.1 is was))
 
-  pub all_tallies : (i : ℕ) (all : List (Name × Tally)) → i ≡ length es → AreTallies rows (keys (take i es)) all
+  pub all_tallies : (i : ℕ) (all : List (Name × LossTally)) → i ≡ length es → AreTallies rows (keys (take i es)) all
       → AreTallies rows (all_losses rows) all
   all_tallies i all whole was =
       subst (λ ks. AreTallies rows ks all) (ap (λ n. keys (take n es)) whole ∙ ap keys (take-length es) ∙ tell.losses) was
@@ -149,14 +149,14 @@ module _ (rows : List Row) (left : List Bool) (gone : TellLeft rows left) (es : 
 -- ---- who is among the members
 
 module _ (rows : List Row) (members : ℕ) (n : Name) where
-  abbrev Within : Recovery → Type 0
+  abbrev Within : MendedLoss → Type 0
   Within r = (r.member < members) × (n.source < members)
 
   abbrev AllAmong : List Loss → Type 0
   AllAmong [] = Unit {0}
   AllAmong (k ∷ ks) = ((k.member < members) × (k.name.source < members)) × AllAmong ks
 
-  later_within : (last next : Option Recovery) → options.IfSome last Within → options.IfSome next Within
+  later_within : (last next : Option MendedLoss) → options.IfSome last Within → options.IfSome next Within
       → options.IfSome (later last next) Within
   later_within last None h k = h
   later_within None (Some next) h k = k
@@ -171,9 +171,9 @@ module _ (rows : List Row) (members : ℕ) (n : Name) where
   recovery_within m (Some d) None h = tt
   recovery_within m (Some d) (Some r) h = h
 
-  one_within : (k : Loss) (ks : List Loss) (last : Option Recovery) (b : Bool) → is_name n k.name ≡ b
+  one_within : (k : Loss) (ks : List Loss) (last : Option MendedLoss) (b : Bool) → is_name n k.name ≡ b
       → (k.member < members) × (k.name.source < members) → options.IfSome last Within
-      → ((next : Option Recovery) → options.IfSome next Within → options.IfSome (fold later next (map (recovery_of rows) ks)) Within)
+      → ((next : Option MendedLoss) → options.IfSome next Within → options.IfSome (fold later next (map (recovery_of rows) ks)) Within)
       → options.IfSome (fold later last (map (recovery_of rows) (cond b (k ∷ ks) ks))) Within
   one_within k ks last true e a h rest =
       let same : n ≡ k.name = same_names n k.name e in
@@ -181,7 +181,7 @@ module _ (rows : List Row) (members : ℕ) (n : Name) where
       (recovery_within k.member (detected_at rows k) (recovered_at rows k) (a.0, subst (λ m. m.source < members) (sym same) a.1)))
   one_within k ks last false e a h rest = rest last h
 
-  fold_within : (ks : List Loss) (last : Option Recovery) → AllAmong ks → options.IfSome last Within
+  fold_within : (ks : List Loss) (last : Option MendedLoss) → AllAmong ks → options.IfSome last Within
       → options.IfSome (fold later last (map (recovery_of rows) (named n ks))) Within
   fold_within [] last a h = h
   fold_within (k ∷ ks) last a h =
@@ -205,7 +205,7 @@ module _ (rows : List Row) (members : ℕ) (n : Name) where
 
 -- ---- the table
 
-pub table_is : (net : Network) (rows : List Row) (ts : List (Name × Tally)) (sent : List (Name × Sending))
+pub table_is : (net : Network) (rows : List Row) (ts : List (Name × LossTally)) (sent : List (Name × SentForName))
     → AreTallies rows (all_losses rows) ts
     → TellSent rows sent
     → table_lines operation_columns (map (λ n. operation_fields net n (tally_in ts n) (sending_in sent n)) (map (λ e. e.0) ts))

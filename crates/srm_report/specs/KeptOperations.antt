@@ -7,7 +7,7 @@ use Rattle.srm_net.specs.declared.packet.Name.{Name}
 use Rattle.srm_report.specs.declared.course.Course.{Course}
 use Rattle.srm_report.specs.declared.loss.Loss.{Loss}
 use Rattle.srm_report.specs.declared.member_operations.MemberOperations.{MemberOperations}
-use Rattle.srm_report.specs.declared.sending.Sending.{Sending}
+use Rattle.srm_report.specs.declared.sent_for_name.SentForName.{SentForName}
 use Rattle.srm_report.specs.Courses.{LoseInTurn, TellLosses}
 use Rattle.srm_report.specs.Sendings.{TellLeft, TellSent}
 use Rattle.srm_report.specs.Taking.{TakesIn}
@@ -24,7 +24,7 @@ abbrev pub KeepsMore : MemberOperations → List Row → MemberOperations → Ty
 KeepsMore = TakesIn KeepsOperations
 
 -- these are the losses of exactly these rows, what they tell was sent, and who left
-pub record TellOperations (rows : List Row) (losses : List (Loss × Course)) (sent : List (Name × Sending))
+pub record TellOperations (rows : List Row) (losses : List (Loss × Course)) (sent : List (Name × SentForName))
     (left : List Bool) : Type 0 where
   pub lost : TellLosses rows losses
   pub asked : TellSent rows sent

@@ -12,7 +12,7 @@ use Rattle.srm_member.specs.declared.row.Row.{Row}
 use Rattle.srm_member.specs.Orderly.{brought}
 use Rattle.srm_member.specs.Kinds.{is_fixed}
 use Rattle.srm_report.specs.declared.loss.Loss.{Loss}
-use Rattle.srm_report.specs.declared.recovery.Recovery.{Recovery}
+use Rattle.srm_report.specs.declared.mended_loss.MendedLoss.{MendedLoss}
 use Rattle.srm_report.specs.Rows.{is_name, or_dash, time_of_first}
 use Rattle.srm_report.specs.Tables.{table_lines}
 
@@ -37,13 +37,13 @@ recovered_at rows k =
     && (is_fixed r.told && option_map_or (is_name k.name) (brought r.about) false)) rows
 
 -- how a member recovered that detected a loss, and had it fixed, at these times
-abbrev pub recovery_by : ℕ → Option ℕ → Option ℕ → Option Recovery
+abbrev pub recovery_by : ℕ → Option ℕ → Option ℕ → Option MendedLoss
 recovery_by m (Some detected) (Some recovered) =
     Some (record { member = m; detected = detected; recovered = recovered })
 recovery_by m _ _ = None
 
 -- how long a recovery took, over the round trip to the source, not reduced
-abbrev pub delay_of : Network → ℕ → Recovery → List ℕ
+abbrev pub delay_of : Network → ℕ → MendedLoss → List ℕ
 delay_of net source r = decimal (r.recovered - r.detected) ++ codes "/" ++ decimal (round net r.member source)
 
 -- the columns of the table

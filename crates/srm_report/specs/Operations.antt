@@ -13,9 +13,9 @@ use Rattle.srm_member.specs.declared.row.Row.{Row}
 use Rattle.srm_member.specs.declared.row.Word.{Word}
 use Rattle.srm_member.specs.Kinds.{is_ask, is_answer, is_leave, is_sent}
 use Rattle.srm_report.specs.declared.loss.Loss.{Loss}
-use Rattle.srm_report.specs.declared.recovery.Recovery.{Recovery}
-use Rattle.srm_report.specs.declared.sending.Sending.{Sending}
-use Rattle.srm_report.specs.declared.tally.Tally.{Tally}
+use Rattle.srm_report.specs.declared.mended_loss.MendedLoss.{MendedLoss}
+use Rattle.srm_report.specs.declared.sent_for_name.SentForName.{SentForName}
+use Rattle.srm_report.specs.declared.loss_tally.LossTally.{LossTally}
 use Rattle.srm_report.specs.Losses.{loss_cmp, losses_in, detected_at, recovered_at, recovery_by, delay_of}
 use Rattle.srm_report.specs.Rows.{is_name, or_dash}
 use Rattle.srm_report.specs.Tables.{table_lines}
@@ -41,7 +41,7 @@ abbrev pub sends_for : (Word → Bool) → Name → Row → Bool
 sends_for is_kind n r = is_kind r.cause && (is_sent r.told && is_about n r.about)
 
 -- what all members sent for the name: when the first request was, and how many requests and repairs there were
-abbrev pub sending_of : List Row → Name → Sending
+abbrev pub sending_of : List Row → Name → SentForName
 sending_of rows n = record {
   asked = fold sooner None (map (λ r. cond (sends_for is_ask n r) (Some r.key.time) None) rows);
   requests = count_by (sends_for is_ask n) rows;
@@ -73,7 +73,7 @@ is_open rows k = not (is_some (recovered_at rows k)) && not (has_left rows k.mem
 -- ---- the last to recover
 
 -- the later of two recoveries, and the former of two at one time
-abbrev pub later : Option Recovery → Option Recovery → Option Recovery
+abbrev pub later : Option MendedLoss → Option MendedLoss → Option MendedLoss
 later last None = last
 later None (Some next) = Some next
 later (Some last) (Some next) = cond (nat_lt last.recovered next.recovered) (Some next) (Some last)
@@ -81,7 +81,7 @@ later (Some last) (Some next) = cond (nat_lt last.recovered next.recovered) (Som
 -- ---- the table
 
 -- what became of these losses
-abbrev pub tally_of : List Row → List Loss → Tally
+abbrev pub tally_of : List Row → List Loss → LossTally
 tally_of rows ks = record {
   losers = length ks;
   recovered = count_by (λ k. is_some (recovered_at rows k)) ks;
@@ -92,7 +92,7 @@ tally_of rows ks = record {
 }
 
 -- the last recovery as it is told: where no loss is open
-abbrev pub last_told : Tally → Option Recovery
+abbrev pub last_told : LossTally → Option MendedLoss
 last_told t = cond t.is_pending None t.last
 
 -- the columns of the table
@@ -102,7 +102,7 @@ operation_columns =
     ∷ codes "detected" ∷ codes "asked" ∷ codes "requests" ∷ codes "repairs" ∷ codes "last" ∷ codes "delay" ∷ []
 
 -- the row of a name of whose losses this became, and for which this was sent
-abbrev pub operation_fields : Network → Name → Tally → Sending → List (List ℕ)
+abbrev pub operation_fields : Network → Name → LossTally → SentForName → List (List ℕ)
 operation_fields net n t s =
     decimal n.source ∷ decimal n.page ∷ decimal n.number
     ∷ decimal t.losers ∷ decimal t.recovered ∷ decimal t.left

@@ -9,8 +9,8 @@ use Rattle.srm_net.specs.Orders.{ordered}
 use Rattle.srm_member.specs.declared.row.Row.{Row}
 use Rattle.srm_report.specs.declared.course.Course.{Course}
 use Rattle.srm_report.specs.declared.loss.Loss.{Loss}
-use Rattle.srm_report.specs.declared.tally.Tally.{Tally}
-use Rattle.srm_report.specs.declared.recovery.Recovery.{Recovery}
+use Rattle.srm_report.specs.declared.loss_tally.LossTally.{LossTally}
+use Rattle.srm_report.specs.declared.mended_loss.MendedLoss.{MendedLoss}
 use Rattle.srm_report.specs.Losses.{detected_at, loss_cmp, losses_in, recovered_at, recovery_by}
 use Rattle.srm_report.specs.Operations.{each_once, has_left, later, sooner, tally_of}
 use Rattle.srm_report.specs.Rows.{is_name}
@@ -27,11 +27,11 @@ named n ks = filter (λ k. is_name n k.name) ks
 abbrev pub is_left : List Row → Loss → Bool
 is_left rows k = not (is_some (recovered_at rows k)) && has_left rows k.member
 
-abbrev pub recovery_of : List Row → Loss → Option Recovery
+abbrev pub recovery_of : List Row → Loss → Option MendedLoss
 recovery_of rows k = recovery_by k.member (detected_at rows k) (recovered_at rows k)
 
 -- a loss more was counted, of a member that left, or did not
-abbrev pub tallied : Tally → Loss → Course → Bool → Tally
+abbrev pub tallied : LossTally → Loss → Course → Bool → LossTally
 tallied t k c gone = record {
   losers = t.losers + 1;
   recovered = cond (is_some c.recovered) (t.recovered + 1) t.recovered;
@@ -42,11 +42,11 @@ tallied t k c gone = record {
 }
 
 -- what a map tells of a name
-abbrev pub tally_in : List (Name × Tally) → Name → Tally
+abbrev pub tally_in : List (Name × LossTally) → Name → LossTally
 tally_in ts n = unwrap_or (find name_cmp n ts) (tally_of [] [])
 
 -- the map has the names of these losses, and of each what became of its losses
-pub record AreTallies (rows : List Row) (ks : List Loss) (ts : List (Name × Tally)) : Type 0 where
+pub record AreTallies (rows : List Row) (ks : List Loss) (ts : List (Name × LossTally)) : Type 0 where
   pub sorted : T (is_sorted name_cmp ts)
   pub names : map (λ e. e.0) ts ≡ ordered name_cmp (each_once (map (λ k. k.name) ks))
   pub counts : (n : Name) → tally_in ts n ≡ tally_of rows (named n ks)

@@ -11,8 +11,8 @@ use crate::in_order::put_in_order;
 use crate::lines::Lines;
 use crate::listing::Listing;
 use crate::outlet::{OutFault, Outlet};
-use crate::piece::Piece;
 use crate::standing::Standing;
+use crate::text_piece::TextPiece;
 use crate::writing::{WriteFault, write_out};
 use srm_interfaces::kept_sink::KeptSink;
 use srm_interfaces::sink::{RowSink, SinkFault};
@@ -58,7 +58,7 @@ fn pieces_of_lines<'a, L: Listing>(
     alloc: Global,
     standing: Standing,
     groups: &'a [Vec<Lines>],
-) -> Result<Vec<Piece<'a>>, ReportFault>
+) -> Result<Vec<TextPiece<'a>>, ReportFault>
     ensures { (rows : List R) → AreLinesOf L.form rows (all_in groups.now)
         → IfOk result (λ pieces. whole_text pieces.items ≡ text_next L.form standing rows) }
 {
@@ -66,7 +66,7 @@ fn pieces_of_lines<'a, L: Listing>(
     match standing {
         Standing::Fresh => {
             let text = L::text(alloc, &[])?;
-            match pieces.insert(0, Piece::Own { text }) {
+            match pieces.insert(0, TextPiece::Own { text }) {
                 Ok(()) => Ok(pieces),
                 Err(_) => Err(ReportFault::NoMemory),
             }
@@ -230,7 +230,7 @@ impl<'a, L: Listing, O: Outlet> ListingSink<'a, L, O> {
     }
 
     // Puts a text in pieces: gathers it where it is one, or writes the pieces after what is gathered.
-    fn put_pieces(&mut self, pieces: &[Piece]) -> Result<(), SinkFault>
+    fn put_pieces(&mut self, pieces: &[TextPiece]) -> Result<(), SinkFault>
         requires failures { O.failures (outlet_under self.old) < 2 ^ 64 - 1 }
         ensures outlet { AreOverOne self.old self.new }
         ensures standing { StandsAsBefore self.old self.new }
@@ -252,7 +252,7 @@ impl<'a, L: Listing, O: Outlet> ListingSink<'a, L, O> {
     }
 
     // Writes what is gathered, and the pieces of a text after it. It does not allocate.
-    fn write_each(&mut self, pieces: &[Piece]) -> Result<(), OutFault>
+    fn write_each(&mut self, pieces: &[TextPiece]) -> Result<(), OutFault>
         requires failures { O.failures (outlet_under self.old) < 2 ^ 64 - 1 }
         ensures outlet { AreOverOne self.old self.new }
         ensures standing { StandsAsBefore self.old self.new }

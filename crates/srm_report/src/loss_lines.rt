@@ -13,8 +13,8 @@ use crate::fault::ReportFault;
 use crate::field::Field;
 use crate::loss::Loss;
 use crate::losses::HEADER;
+use crate::mended_loss::MendedLoss;
 use crate::records::{put_record, text_of, writer_behind};
-use crate::recovery::Recovery;
 use crate::tallies::recovery;
 use csv::Writer;
 use srm_net::net::Net;
@@ -64,7 +64,7 @@ fn put_loss(
 }
 
 // How long a recovery took, over the round trip to the source, or a dash where there was none.
-pub(crate) fn delay(net: &Net, source: u16, recovery: Option<Recovery>) -> Field
+pub(crate) fn delay(net: &Net, source: u16, recovery: Option<MendedLoss>) -> Field
     requires { IfSome recovery (λ r. (r.member < length net.now.hosts) × (source < length net.now.hosts)) }
     ensures { result ≡ or_dash (delay_of net.now source) recovery }
 {

@@ -2,8 +2,8 @@
 use crate::by_loss::ByLoss;
 use crate::course::Course;
 use crate::courses::note;
-use crate::sending::Sending;
 use crate::sendings::note_sent;
+use crate::sent_for_name::SentForName;
 use srm_member::named::Named;
 use srm_member::row::Row;
 use std::alloc::{AllocError, Global};
@@ -12,7 +12,7 @@ use std::alloc::{AllocError, Global};
 #[derive(Drop)]
 pub struct MemberOperations {
     pub(crate) losses: ByLoss<Course>,
-    pub(crate) sent: Named<Sending>,
+    pub(crate) sent: Named<SentForName>,
     pub(crate) left: bool,
 }
 

@@ -17,13 +17,13 @@ use crate::fault::ReportFault;
 use crate::field::Field;
 use crate::loss::Loss;
 use crate::loss_lines::delay;
+use crate::loss_tally::LossTally;
+use crate::mended_loss::MendedLoss;
 use crate::operations::HEADER;
 use crate::records::{put_record, text_of, writer_behind};
-use crate::recovery::Recovery;
-use crate::sending::Sending;
 use crate::sendings::sending;
+use crate::sent_for_name::SentForName;
 use crate::tallies::{tallies, tally};
-use crate::tally::Tally;
 use csv::Writer;
 use srm_member::named::Named;
 use srm_net::net::Net;
@@ -36,7 +36,7 @@ pub(crate) fn found_text(
     alloc: Global,
     net: &Net,
     losses: &[(Loss, Course)],
-    sent: &Named<Sending>,
+    sent: &Named<SentForName>,
     left: &[bool],
 ) -> Result<Vec<u8>, ReportFault>
     requires { (rows : List R) × IsOrderly (length net.now.hosts) rows × TellOperations rows losses.now sent.now left.now }
@@ -51,8 +51,8 @@ pub(crate) fn found_text(
 fn table_text(
     alloc: Global,
     net: &Net,
-    tallies: &Named<Tally>,
-    sent: &Named<Sending>,
+    tallies: &Named<LossTally>,
+    sent: &Named<SentForName>,
 ) -> Result<Vec<u8>, ReportFault>
     requires { (n : AName) → IfSome (last_told (tally_in tallies.now n))
         (λ r. (r.member < length net.now.hosts) × (n.source < length net.now.hosts)) }
@@ -79,8 +79,8 @@ fn put_operation(
     writer: &mut Writer<Vec<u8>>,
     net: &Net,
     name: Name,
-    tally: &Tally,
-    sending: &Sending,
+    tally: &LossTally,
+    sending: &SentForName,
 ) -> Result<(), ReportFault>
     requires members { IfSome (last_told tally.now) (λ r. (r.member < length net.now.hosts) × (name.source < length net.now.hosts)) }
     ensures { (text : List ℕ) → HasText writer.old text → OnOk result (HasText writer.new
@@ -107,14 +107,14 @@ fn put_operation(
 }
 
 // How the last loser to recover did, where no loss is pending.
-fn last_of(tally: &Tally) -> Option<Recovery>
+fn last_of(tally: &LossTally) -> Option<MendedLoss>
     ensures { result ≡ last_told tally.now }
 {
     if tally.is_pending { None } else { tally.last }
 }
 
 // The member that recovered, or a dash where none did.
-fn member_of(recovery: Option<Recovery>) -> Field
+fn member_of(recovery: Option<MendedLoss>) -> Field
     ensures { result ≡ or_dash (λ r. decimal r.member) recovery }
 {
     match recovery {

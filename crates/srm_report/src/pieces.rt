@@ -2,7 +2,7 @@
 ghost use Rattle.std.specs.Prelude.{◌≡◌, ◌++◌, [], IfOk, OnOk};
 ghost use Rattle.srm_report.specs.Pieces.{whole_text};
 
-use crate::piece::Piece;
+use crate::text_piece::TextPiece;
 use std::alloc::{AllocError, Global};
 use std::marker::Model;
 use std::mem;
@@ -17,7 +17,7 @@ const USUAL_PIECE: usize = 65_536;
 #[derive(Drop)]
 pub(crate) struct Pieces<'a> {
     alloc: Global,
-    pieces: Vec<Piece<'a>>,
+    pieces: Vec<TextPiece<'a>>,
     // The piece to which short parts are copied.
     last: Vec<u8>,
 }
@@ -34,7 +34,7 @@ impl<'a> Model for Pieces<'a> {
 // Puts a text behind the pieces as one more, where it is not empty. It is empty then.
 fn close<'a>(
     alloc: Global,
-    pieces: &mut Vec<Piece<'a>>,
+    pieces: &mut Vec<TextPiece<'a>>,
     text: &mut Vec<u8>,
 ) -> Result<(), AllocError>
     ensures empty { OnOk result (text.new.items ≡ []) }
@@ -44,7 +44,7 @@ fn close<'a>(
         return Ok(());
     }
     let closed = mem::replace(text, Vec::new(alloc));
-    pieces.push(Piece::Own { text: closed })?;
+    pieces.push(TextPiece::Own { text: closed })?;
     Ok(())
 }
 
@@ -72,12 +72,12 @@ impl<'a> Pieces<'a> {
             return Ok(());
         }
         close(self.alloc, &mut self.pieces, &mut self.last)?;
-        self.pieces.push(Piece::Part { text: part })?;
+        self.pieces.push(TextPiece::Part { text: part })?;
         Ok(())
     }
 
     /// The pieces.
-    pub(crate) fn into_pieces(self) -> Result<Vec<Piece<'a>>, AllocError>
+    pub(crate) fn into_pieces(self) -> Result<Vec<TextPiece<'a>>, AllocError>
         ensures { IfOk result (λ pieces. whole_text pieces.items ≡ self.entry) }
     {
         let Pieces {

@@ -6,7 +6,7 @@ ghost use Rattle.srm_member.specs.declared.row.Row.{Row as R};
 ghost use Rattle.srm_report.specs.Operations.{sooner};
 ghost use Rattle.srm_report.specs.Sendings.{repaired, requested, sending_in, TellSent, together as sent_together};
 
-use crate::sending::Sending;
+use crate::sent_for_name::SentForName;
 use srm_member::named::Named;
 use srm_member::row::{About, Row, Word};
 use srm_member::told::Told;
@@ -15,7 +15,7 @@ use std::alloc::{AllocError, Global};
 
 // Takes in what one more row says of requests and repairs. It answers no memory also where a count would be too great for its
 // number.
-pub(crate) fn note_sent(sent: &mut Named<Sending>, row: &Row) -> Result<(), AllocError>
+pub(crate) fn note_sent(sent: &mut Named<SentForName>, row: &Row) -> Result<(), AllocError>
     ensures { (rows : List R) → TellSent rows sent.old → OnOk result (TellSent (rows ++ row.now ∷ []) sent.new) }
 {
     let About::Named { name } = row.about else {
@@ -32,12 +32,12 @@ pub(crate) fn note_sent(sent: &mut Named<Sending>, row: &Row) -> Result<(), Allo
 }
 
 // What was sent for a name so far.
-pub(crate) fn sending(sent: &Named<Sending>, name: Name) -> Sending
+pub(crate) fn sending(sent: &Named<SentForName>, name: Name) -> SentForName
     ensures { result ≡ sending_in sent.now name }
 {
     match sent.get(name) {
         Some(sending) => sending,
-        None => Sending {
+        None => SentForName {
             asked: None,
             requests: 0,
             repairs: 0,
@@ -46,7 +46,7 @@ pub(crate) fn sending(sent: &Named<Sending>, name: Name) -> Sending
 }
 
 // A request was sent for a name at this time.
-fn count_request(sent: &mut Named<Sending>, name: Name, at: u64) -> Result<(), AllocError>
+fn count_request(sent: &mut Named<SentForName>, name: Name, at: u64) -> Result<(), AllocError>
     ensures { OnOk result (sent.new ≡ put name_cmp name (requested at (sending_in sent.old name)) sent.old) }
 {
     let before = sending(sent, name);
@@ -56,7 +56,7 @@ fn count_request(sent: &mut Named<Sending>, name: Name, at: u64) -> Result<(), A
     let asked = sooner_of(before.asked, at);
     sent.put(
         name,
-        Sending {
+        SentForName {
             asked,
             requests,
             ..before
@@ -75,22 +75,22 @@ pub(crate) fn sooner_of(known: Option<u64>, at: u64) -> Option<u64>
 }
 
 // A repair was sent for a name.
-fn count_repair(sent: &mut Named<Sending>, name: Name) -> Result<(), AllocError>
+fn count_repair(sent: &mut Named<SentForName>, name: Name) -> Result<(), AllocError>
     ensures { OnOk result (sent.new ≡ put name_cmp name (repaired (sending_in sent.old name)) sent.old) }
 {
     let before = sending(sent, name);
     let Some(repairs) = before.repairs.checked_add(1) else {
         return Err(AllocError);
     };
-    sent.put(name, Sending { repairs, ..before })
+    sent.put(name, SentForName { repairs, ..before })
 }
 
 // Takes in what was sent in more rows, of which this was found. It answers no memory also where a count would be too great for its
 // number.
 pub(crate) fn add_sent(
     alloc: Global,
-    sent: &mut Named<Sending>,
-    more: &Named<Sending>,
+    sent: &mut Named<SentForName>,
+    more: &Named<SentForName>,
 ) -> Result<(), AllocError>
     ensures { (xs ys : List R) → TellSent xs sent.old → TellSent ys more.now → OnOk result (TellSent (xs ++ ys) sent.new) }
 {
@@ -106,7 +106,7 @@ pub(crate) fn add_sent(
 }
 
 // What was sent in some rows and what was sent in others, together, if its counts have room.
-fn together(some: Sending, others: Sending) -> Option<Sending>
+fn together(some: SentForName, others: SentForName) -> Option<SentForName>
     ensures { IfSome result (λ s. s ≡ sent_together some others) }
 {
     let asked = match others.asked {
@@ -115,7 +115,7 @@ fn together(some: Sending, others: Sending) -> Option<Sending>
     };
     let requests = some.requests.checked_add(others.requests)?;
     let repairs = some.repairs.checked_add(others.repairs)?;
-    Some(Sending {
+    Some(SentForName {
         asked,
         requests,
         repairs,

@@ -9,9 +9,9 @@ ghost use Rattle.srm_report.specs.Tallies.{AreTallies, tallied as tallied_by, ta
 
 use crate::course::Course;
 use crate::loss::Loss;
-use crate::recovery::Recovery;
+use crate::loss_tally::LossTally;
+use crate::mended_loss::MendedLoss;
 use crate::sendings::sooner_of;
-use crate::tally::Tally;
 use srm_member::named::Named;
 use srm_net::packet::Name;
 use std::alloc::{AllocError, Global};
@@ -21,7 +21,7 @@ pub(crate) fn tallies(
     alloc: Global,
     entries: &[(Loss, Course)],
     left: &[bool],
-) -> Result<Named<Tally>, AllocError>
+) -> Result<Named<LossTally>, AllocError>
     ensures { (rows : List R) → TellLosses rows entries.now → TellLeft rows left.now
         → IfOk result (AreTallies rows (all_losses rows)) }
 {
@@ -38,12 +38,12 @@ pub(crate) fn tallies(
 }
 
 // What a map tells of a name.
-pub(crate) fn tally(all: &Named<Tally>, name: Name) -> Tally
+pub(crate) fn tally(all: &Named<LossTally>, name: Name) -> LossTally
     ensures { result ≡ tally_in all.now name }
 {
     match all.get(name) {
         Some(tally) => tally,
-        None => Tally {
+        None => LossTally {
             losers: 0,
             recovered: 0,
             left: 0,
@@ -67,7 +67,7 @@ fn has_left(left: &[bool], member: u16) -> bool
 }
 
 // A tally with a loss more, if its counts have room.
-fn tallied(tally: Tally, loss: Loss, course: Course, gone: bool) -> Option<Tally>
+fn tallied(tally: LossTally, loss: Loss, course: Course, gone: bool) -> Option<LossTally>
     ensures { IfSome result (λ t. t ≡ tallied_by tally loss course gone) }
 {
     let losers = tally.losers.checked_add(1)?;
@@ -81,7 +81,7 @@ fn tallied(tally: Tally, loss: Loss, course: Course, gone: bool) -> Option<Tally
     } else {
         tally.left
     };
-    Some(Tally {
+    Some(LossTally {
         losers,
         recovered,
         left,
@@ -92,14 +92,14 @@ fn tallied(tally: Tally, loss: Loss, course: Course, gone: bool) -> Option<Tally
 }
 
 // How a member recovered, if it did.
-pub(crate) fn recovery(member: u16, course: Course) -> Option<Recovery>
+pub(crate) fn recovery(member: u16, course: Course) -> Option<MendedLoss>
     ensures { result ≡ recovery_by member (Some course.detected) course.recovered }
 {
     let Some(recovered) = course.recovered else {
         return None;
     };
     let detected = course.detected;
-    Some(Recovery {
+    Some(MendedLoss {
         member,
         detected,
         recovered,
@@ -107,7 +107,7 @@ pub(crate) fn recovery(member: u16, course: Course) -> Option<Recovery>
 }
 
 // The later of two recoveries, and the former of two at one time.
-fn later_of(last: Option<Recovery>, next: Option<Recovery>) -> Option<Recovery>
+fn later_of(last: Option<MendedLoss>, next: Option<MendedLoss>) -> Option<MendedLoss>
     ensures { result ≡ later last next }
 {
     let Some(next) = next else {

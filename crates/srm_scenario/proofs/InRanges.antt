@@ -16,9 +16,9 @@ use Rattle.srm_scenario.specs.declared.draft.Draft.{Draft}
 use Rattle.srm_scenario.specs.declared.delays.Delays.{Delays}
 use Rattle.srm_scenario.specs.declared.topology.Topology.{Topology}
 use Rattle.srm_scenario.specs.declared.version.Version.{Version}
-use Rattle.srm_scenario.specs.declared.key.Key.TheVariants as key
-use Rattle.srm_scenario.specs.declared.key.Key.{Key}
-use Rattle.srm_scenario.specs.declared.rule.Kind.TheVariants.{Whole, Each}
+use Rattle.srm_scenario.specs.declared.file_key.FileKey.TheVariants as key
+use Rattle.srm_scenario.specs.declared.file_key.FileKey.{FileKey}
+use Rattle.srm_scenario.specs.declared.rule.ValueKind.TheVariants.{Whole, Each}
 use Rattle.srm_scenario.specs.declared.rule.Need.TheVariants.{Optional}
 use Rattle.srm_scenario.specs.declared.rule.Rule.{Rule}
 use Rattle.srm_scenario.specs.KeyLimits.{greatest_delay, greatest_scope, last_stream}
@@ -111,7 +111,7 @@ each_fits low high (item d ds) (suc k) h lt =
     each_fits low high ds k (and_parts (is_whole low high d) (all_whole low high ds) h).1 (omega arith)
 
 -- the number at a place of a list that has one for each link, or else another delay
-delay_in : (allowed : Bool) (k : Key) (n : ℕ) (ms : Members) → is_met ms (rule_if allowed k (Each n 1 greatest_delay)) ≡ true
+delay_in : (allowed : Bool) (k : FileKey) (n : ℕ) (ms : Members) → is_met ms (rule_if allowed k (Each n 1 greatest_delay)) ≡ true
     → (i other : ℕ) → i < n → (is_some (get_member (name_of k) ms) ≡ false → IsLinkDelay other)
     → IsLinkDelay (number_at (values_at (name_of k) ms) i other)
 delay_in allowed k n ms h i other lt f = grind (arith, each_fits)

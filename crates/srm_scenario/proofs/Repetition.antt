@@ -16,9 +16,9 @@ use Rattle.srm_scenario.specs.declared.entry.MemberEntry.{MemberEntry}
 use Rattle.srm_scenario.specs.declared.fault.ScenarioFault.{ScenarioFault}
 use Rattle.srm_scenario.specs.declared.fault.ScenarioFault.TheVariants.{BadKey}
 use Rattle.srm_scenario.specs.declared.fault.Part.TheVariants as part
-use Rattle.srm_scenario.specs.declared.key.Key.TheVariants as key
+use Rattle.srm_scenario.specs.declared.file_key.FileKey.TheVariants as key
 use Rattle.srm_scenario.specs.declared.parts.MemberSpec.{MemberSpec}
-use Rattle.srm_scenario.specs.declared.rule.Kind.TheVariants.{Whole}
+use Rattle.srm_scenario.specs.declared.rule.ValueKind.TheVariants.{Whole}
 use Rattle.srm_scenario.specs.declared.rule.Need.TheVariants.{Refused}
 use Rattle.srm_scenario.specs.declared.rule.Rule.{Rule}
 use Rattle.srm_scenario.specs.declared.version.Version.{Version}

@@ -3,7 +3,7 @@ use Rattle.std.proofs.Common.{arith}
 use Rattle.std.proofs.Common.{◌≡◌, ℕ, Bool, List, [], ◌∷◌, Option, Some, None, map, option_map, is_some, ap, refl, sym, ◌∙◌}
 use Rattle.std.specs.List.{list_any, list_all}
 use Rattle.std.proofs.Common.{length, nat_le}
-use Rattle.srm_scenario.specs.declared.rule.Kind.TheVariants.{Numbers, Each, Elements, Repeated}
+use Rattle.srm_scenario.specs.declared.rule.ValueKind.TheVariants.{Numbers, Each, Elements, Repeated}
 use Rattle.std.specs.Prelude.{◌||◌, ◌&&◌, ◌==◌}
 use Rattle.std.specs.Str.{bytes_eq}
 use Rattle.toml.specs.Data.{Data, Items, Members, member, string, integer, float, boolean, datetime, array, table, as_array, get_member}

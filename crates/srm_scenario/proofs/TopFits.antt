@@ -9,9 +9,9 @@ use Rattle.std.specs.Prelude.{◌&&◌, ◌||◌, if◌then◌else◌}
 use Rattle.toml.specs.Data.{Data, Items, Members, no_items, item, string, integer, float, boolean, datetime, array, table, get_member}
 use Rattle.srm_net.specs.Limits.{end_of_time, most_links, most_nodes}
 use Rattle.srm_net.specs.Network.{IsLinkDelay}
-use Rattle.srm_scenario.specs.declared.key.Key.{Key}
-use Rattle.srm_scenario.specs.declared.key.Key.TheVariants as key
-use Rattle.srm_scenario.specs.declared.rule.Kind.TheVariants.{Whole, Word, Numbers, Each, Elements, Repeated}
+use Rattle.srm_scenario.specs.declared.file_key.FileKey.{FileKey}
+use Rattle.srm_scenario.specs.declared.file_key.FileKey.TheVariants as key
+use Rattle.srm_scenario.specs.declared.rule.ValueKind.TheVariants.{Whole, Word, Numbers, Each, Elements, Repeated}
 use Rattle.srm_scenario.specs.declared.rule.Need.TheVariants.{Required, Optional, Refused}
 use Rattle.srm_scenario.specs.declared.rule.Rule.{Rule}
 use Rattle.srm_scenario.specs.declared.topology.Topology.{Topology}
@@ -79,7 +79,7 @@ delays_by v ms (Some t) others more d b =
 
 -- ---- constants
 
-constant_room : (v : Version) (allowed : Bool) (ms : Members) (k l m : Key) → is_met ms (constant_rule k v) ≡ true
+constant_room : (v : Version) (allowed : Bool) (ms : Members) (k l m : FileKey) → is_met ms (constant_rule k v) ≡ true
     → is_met ms (rule_if allowed l (Whole 0 (number (name_of k) ms))) ≡ true
     → is_met ms (rule_if allowed m (Whole (number (name_of k) ms) greatest_limit)) ≡ true
     → HasRoom (number_or (name_of l) (name_of k) ms) (number (name_of k) ms) (number_or (name_of m) (name_of k) ms)
@@ -91,7 +91,7 @@ count-list : (ds : Items) → count_items ds ≡ length (items_list ds)
 count-list no_items = refl
 count-list (item d ds) = ap suc (count-list ds)
 
-few_listed : (k : Key) (most : ℕ) (ms : Members) → is_met ms (rule k (Elements most) Optional) ≡ true
+few_listed : (k : FileKey) (most : ℕ) (ms : Members) → is_met ms (rule k (Elements most) Optional) ≡ true
     → length (array_at (name_of k) ms) ≤ most
 few_listed k most ms h = grind (arith, count-list)
 
@@ -99,16 +99,16 @@ count-made : (ds : Items) → count_made ds ≡ sum_by times_repeated (items_lis
 count-made no_items = refl
 count-made (item d ds) = ap (λ n. times_repeated d + n) (count-made ds) ∙ sym (sum_by-cons times_repeated d (items_list ds))
 
-few_repeated : (k : Key) (most : ℕ) (ms : Members) → is_met ms (rule k (Repeated most) Optional) ≡ true
+few_repeated : (k : FileKey) (most : ℕ) (ms : Members) → is_met ms (rule k (Repeated most) Optional) ≡ true
     → sum_by times_repeated (array_at (name_of k) ms) ≤ most
 few_repeated k most ms h = grind (arith, count-made)
 
-few_elements : (v : Version) (k : Key) (ms : Members) → is_met ms (rule k (listed_in v) Optional) ≡ true
+few_elements : (v : Version) (k : FileKey) (ms : Members) → is_met ms (rule k (listed_in v) Optional) ≡ true
     → FewElements v (array_at (name_of k) ms)
 few_elements v k ms h = grind (arith, few_listed, few_repeated)
 
 -- parents that are given are few, and each of them is a node's number
-numbers_met : (here : Bool) (k : Key) (most high : ℕ) (ms : Members) → is_met ms (rule_where here k (Numbers most high)) ≡ true
+numbers_met : (here : Bool) (k : FileKey) (most high : ℕ) (ms : Members) → is_met ms (rule_where here k (Numbers most high)) ≡ true
     → (length (array_at (name_of k) ms) ≤ most) × (list_all (is_whole 0 high) (array_at (name_of k) ms) ≡ true)
 numbers_met here k most high ms h = by here (get_member (name_of k) ms) h
   where
@@ -146,7 +146,7 @@ module _ (ms : Members) (h : fits_rules (rules_of_top ms) ms ≡ true) where
   until_fits = number_fits (rules_of_top ms) ms h 1 key.Until 1 end_of_time refl
 
   -- a constant, by the places of the rules of its first, its least and its greatest value
-  room_at : (k l m : Key) (i : ℕ) → slice_get (rules_of_top ms) (2 + i) ≡ Some (constant_rule k (version_of ms))
+  room_at : (k l m : FileKey) (i : ℕ) → slice_get (rules_of_top ms) (2 + i) ≡ Some (constant_rule k (version_of ms))
       → slice_get (rules_of_top ms) (6 + i) ≡ Some (rule_if (allows_limits (version_of ms)) l (Whole 0 (number (name_of k) ms)))
       → slice_get (rules_of_top ms) (10 + i)
       ≡ Some (rule_if (allows_limits (version_of ms)) m (Whole (number (name_of k) ms) greatest_limit))
@@ -177,7 +177,7 @@ module _ (ms : Members) (h : fits_rules (rules_of_top ms) ms ≡ true) where
       (omega arith)).1
 
   -- a number of local recovery, which lies in its range where it is given, and is another one where it is not
-  recovery_at : (k : Key) (low high other i : ℕ)
+  recovery_at : (k : FileKey) (low high other i : ℕ)
       → slice_get (rules_of_top ms) i ≡ Some (rule_if (allows_scopes (version_of ms)) k (Whole low high)) → low ≤ other → other ≤ high
       → (low ≤ unwrap_or (optional_number (name_of k) ms) other) × (unwrap_or (optional_number (name_of k) ms) other ≤ high)
   recovery_at k low high other i is least most = or_fits (allows_scopes (version_of ms)) k low high other ms (met i _ is) least most

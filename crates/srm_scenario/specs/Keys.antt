@@ -1,10 +1,10 @@
 -- The names of the keys of scenario files.
 use Rattle.std.specs.Prelude.{ℕ, List, codes}
-use Rattle.srm_scenario.specs.declared.key.Key.{Key}
-use Rattle.srm_scenario.specs.declared.key.Key.TheVariants as key
+use Rattle.srm_scenario.specs.declared.file_key.FileKey.{FileKey}
+use Rattle.srm_scenario.specs.declared.file_key.FileKey.TheVariants as key
 
 -- a key as it stands in a file
-abbrev pub name_of : Key → List ℕ
+abbrev pub name_of : FileKey → List ℕ
 name_of key.Version = codes "version"
 name_of key.Until = codes "until"
 name_of key.C1 = codes "c1"

@@ -11,10 +11,10 @@ use Rattle.toml.specs.Data.{get_member}
 use Rattle.srm_net.specs.Limits.{end_of_time, greatest_constant}
 use Rattle.srm_scenario.specs.declared.parts.Constants.{Constants}
 use Rattle.srm_scenario.specs.declared.form.Form.{Form}
-use Rattle.srm_scenario.specs.declared.key.Key.{Key}
-use Rattle.srm_scenario.specs.declared.key.Key.TheVariants as key
-use Rattle.srm_scenario.specs.declared.rule.Kind.{Kind}
-use Rattle.srm_scenario.specs.declared.rule.Kind.TheVariants.{Whole, Word, Numbers, Each, Elements, Repeated}
+use Rattle.srm_scenario.specs.declared.file_key.FileKey.{FileKey}
+use Rattle.srm_scenario.specs.declared.file_key.FileKey.TheVariants as key
+use Rattle.srm_scenario.specs.declared.rule.ValueKind.{ValueKind}
+use Rattle.srm_scenario.specs.declared.rule.ValueKind.TheVariants.{Whole, Word, Numbers, Each, Elements, Repeated}
 use Rattle.srm_scenario.specs.declared.rule.Need.{Need}
 use Rattle.srm_scenario.specs.declared.rule.Need.TheVariants.{Required, Optional, Refused}
 use Rattle.srm_scenario.specs.declared.rule.Rule.{Rule}
@@ -32,7 +32,7 @@ spellings_of Topologies = codes "chain" ∷ codes "star" ∷ codes "tree" ∷ []
 spellings_of TopologiesAndParents = codes "chain" ∷ codes "star" ∷ codes "tree" ∷ codes "parents" ∷ []
 
 -- what the format says of one key
-abbrev pub rule : Key → Kind → Need → Rule
+abbrev pub rule : FileKey → ValueKind → Need → Rule
 rule key kind need = record { key = key; kind = kind; need = need }
 
 -- ---- what differs between the versions
@@ -133,11 +133,11 @@ greatest_constant_in Five = greatest_limit
 -- ---- the table of the format
 
 -- the number of a node, a link or a member
-abbrev pub index_rule : Key → Version → Rule
+abbrev pub index_rule : FileKey → Version → Rule
 index_rule k version = rule k (Whole 0 (last_number version)) Required
 
 -- the first value of a constant of timers
-abbrev pub constant_rule : Key → Version → Rule
+abbrev pub constant_rule : FileKey → Version → Rule
 constant_rule k version = rule k (Whole 0 (greatest_constant_in version)) Required
 
 -- numbers of the top table
@@ -152,7 +152,7 @@ number_rules version =
     ∷ []
 
 -- a key that a version has or has not
-abbrev pub rule_if : Bool → Key → Kind → Rule
+abbrev pub rule_if : Bool → FileKey → ValueKind → Rule
 rule_if allowed k kind = rule k kind (if allowed then Optional else Refused)
 
 -- the least and the greatest value of each constant of timers, beside its first value, and the factor of backoffs
@@ -198,7 +198,7 @@ abbrev pub back_rule : Bool → Rule
 back_rule allowed = rule_if allowed key.Back (Whole 1 greatest_delay)
 
 -- a key that must be there in one case, and must not in the other
-abbrev pub rule_where : Bool → Key → Kind → Rule
+abbrev pub rule_where : Bool → FileKey → ValueKind → Rule
 rule_where here k kind = rule k kind (if here then Required else Refused)
 
 -- nodes and links, in a top table of this form
@@ -222,11 +222,11 @@ parent_rules version form =
     ∷ []
 
 -- at most so many elements, each of which may stand for several in some versions
-abbrev pub elements_in : Version → ℕ → Kind
+abbrev pub elements_in : Version → ℕ → ValueKind
 elements_in version most = if allows_repetition version then Repeated most else Elements most
 
 -- at most as many as may be listed
-abbrev pub listed_in : Version → Kind
+abbrev pub listed_in : Version → ValueKind
 listed_in version = elements_in version (most_listed_in version)
 
 -- the other arrays of the top table
@@ -365,7 +365,7 @@ count_made no_items = 0
 count_made (item d ds) = times_repeated d + count_made ds
 
 -- the value is of this kind
-abbrev pub is_kind : Kind → Data → Bool
+abbrev pub is_kind : ValueKind → Data → Bool
 is_kind (Whole low high) d = is_whole low high d
 is_kind (Word ws) d = list_any (λ w. is_text w d) (spellings_of ws)
 is_kind (Numbers most high) (array ds) = nat_le (count_items ds) most && all_whole 0 high ds
@@ -375,7 +375,7 @@ is_kind (Repeated most) (array ds) = nat_le (count_made ds) most
 is_kind k d = false
 
 -- what stands at a key, if anything, is as it must be
-abbrev pub meets : Need → Kind → Option Data → Bool
+abbrev pub meets : Need → ValueKind → Option Data → Bool
 meets Required k None = false
 meets Required k (Some d) = is_kind k d
 meets Optional k None = true

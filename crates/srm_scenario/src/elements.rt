@@ -6,7 +6,7 @@ ghost use Rattle.srm_scenario.specs.Described.{link_of, draw_of, session_message
 ghost use Rattle.srm_scenario.specs.Faults.{accepted};
 
 use crate::element::Element;
-use crate::key::Key;
+use crate::file_key::FileKey;
 use crate::limits::{LAST_COUNT, LAST_NODE, LAST_TICK};
 use crate::parts::{DrawSpec, SessionSpec};
 use crate::repeated::{Repeated, risen, step_of};
@@ -24,12 +24,12 @@ fn link_of(version: Version, table: &Table) -> Option<LinkSpec>
     if !fits_rules(table, &link_rules(version)) {
         return None;
     }
-    let delay = number(table, Key::Delay);
+    let delay = number(table, FileKey::Delay);
     Some(LinkSpec {
-        a: number(table, Key::A) as u16,
-        b: number(table, Key::B) as u16,
+        a: number(table, FileKey::A) as u16,
+        b: number(table, FileKey::B) as u16,
         delay,
-        back: optional_number(table, Key::Back).unwrap_or(delay),
+        back: optional_number(table, FileKey::Back).unwrap_or(delay),
     })
 }
 
@@ -40,10 +40,10 @@ fn draw_of(version: Version, table: &Table) -> Option<DrawSpec>
         return None;
     }
     Some(DrawSpec {
-        member: number(table, Key::Member) as u16,
-        page: number(table, Key::Page) as u16,
-        ink: number(table, Key::Ink) as u32,
-        at: number(table, Key::At),
+        member: number(table, FileKey::Member) as u16,
+        page: number(table, FileKey::Page) as u16,
+        ink: number(table, FileKey::Ink) as u32,
+        at: number(table, FileKey::At),
     })
 }
 
@@ -54,8 +54,8 @@ fn session_message_of(version: Version, table: &Table) -> Option<SessionSpec>
         return None;
     }
     Some(SessionSpec {
-        member: number(table, Key::Member) as u16,
-        at: number(table, Key::At),
+        member: number(table, FileKey::Member) as u16,
+        at: number(table, FileKey::At),
     })
 }
 
@@ -66,10 +66,10 @@ fn drop_of(version: Version, table: &Table) -> Option<DropSpec>
         return None;
     }
     Some(DropSpec {
-        link: number(table, Key::Link) as u16,
+        link: number(table, FileKey::Link) as u16,
         id: PacketId {
-            sender: number(table, Key::Sender) as u16,
-            count: number(table, Key::Count),
+            sender: number(table, FileKey::Sender) as u16,
+            count: number(table, FileKey::Count),
         },
     })
 }
@@ -81,9 +81,9 @@ fn outage_of(version: Version, table: &Table) -> Option<OutageSpec>
         return None;
     }
     Some(OutageSpec {
-        link: number(table, Key::Link) as u16,
-        from: number(table, Key::From),
-        to: number(table, Key::To),
+        link: number(table, FileKey::Link) as u16,
+        from: number(table, FileKey::From),
+        to: number(table, FileKey::To),
     })
 }
 
@@ -94,12 +94,12 @@ fn loss_of(version: Version, table: &Table) -> Option<LossSpec>
         return None;
     }
     Some(LossSpec {
-        link: number(table, Key::Link) as u16,
-        rate: number(table, Key::Rate) as u32,
-        stream: number(table, Key::Stream),
-        from: number(table, Key::From),
-        to: optional_number(table, Key::To),
-        burst: optional_number(table, Key::Burst),
+        link: number(table, FileKey::Link) as u16,
+        rate: number(table, FileKey::Rate) as u32,
+        stream: number(table, FileKey::Stream),
+        from: number(table, FileKey::From),
+        to: optional_number(table, FileKey::To),
+        burst: optional_number(table, FileKey::Burst),
     })
 }
 

@@ -7,7 +7,7 @@ ghost use Rattle.srm_scenario.specs.Faults.{accepted, entry_copy, entry_in_range
 
 use crate::element::Element;
 use crate::fault::{Part, ScenarioFault};
-use crate::key::Key;
+use crate::file_key::FileKey;
 use crate::limits::{LAST_NODE, LAST_STREAM};
 use crate::numbers::numbers_of;
 use crate::parts::MemberSpec;
@@ -49,11 +49,11 @@ impl MemberEntry {
 fn role(table: &Table) -> Role
     ensures { result ≡ role_of (table_view table.now) }
 {
-    if says(table, Key::Role, "sender") {
+    if says(table, FileKey::Role, "sender") {
         Role::Sender
-    } else if says(table, Key::Role, "receiver") {
+    } else if says(table, FileKey::Role, "receiver") {
         Role::Receiver
-    } else if says(table, Key::Role, "late") {
+    } else if says(table, FileKey::Role, "late") {
         Role::Late
     } else {
         Role::Listener
@@ -71,19 +71,19 @@ fn entry_of(
     if !fits_rules(table, &member_rules(version)) {
         return Ok(None);
     }
-    let pages = numbers_of(alloc, array(table, Key::Pages))?;
+    let pages = numbers_of(alloc, array(table, FileKey::Pages))?;
     Ok(Some(MemberEntry {
         spec: MemberSpec {
-            node: number(table, Key::Node) as u16,
+            node: number(table, FileKey::Node) as u16,
             role: role(table),
-            stream: number(table, Key::Stream),
-            join: number(table, Key::Join),
-            leave: optional_number(table, Key::Leave),
+            stream: number(table, FileKey::Stream),
+            join: number(table, FileKey::Join),
+            leave: optional_number(table, FileKey::Leave),
             pages,
-            scope: number(table, Key::Scope) as u16,
+            scope: number(table, FileKey::Scope) as u16,
         },
-        has_pages: has_key(table, Key::Pages),
-        has_scope: has_key(table, Key::Scope),
+        has_pages: has_key(table, FileKey::Pages),
+        has_scope: has_key(table, FileKey::Scope),
     }))
 }
 

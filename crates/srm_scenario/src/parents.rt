@@ -7,7 +7,7 @@ ghost use Rattle.srm_scenario.specs.Rules.{fits_rules};
 ghost use Rattle.srm_scenario.specs.Described.{links_from, names_parents, number_at, parents_in, values_at};
 ghost use Rattle.srm_scenario.specs.Faults.{rules_of_top};
 
-use crate::key::Key;
+use crate::file_key::FileKey;
 use crate::numbers::numbers_of;
 use crate::table::{array, has_key, number, optional_number, says, whole_number_of};
 use srm_net::link::LinkSpec;
@@ -15,7 +15,7 @@ use std::alloc::{AllocError, Global};
 use toml::{Table, Value};
 
 /// The values of the array at a key, if the table has the key.
-fn values_at(table: &Table, key: Key) -> Option<&[Value]>
+fn values_at(table: &Table, key: FileKey) -> Option<&[Value]>
     ensures { option_map (λ vs. map view vs.now) result ≡ values_at (name_of key) (table_view table.now) }
 {
     if has_key(table, key) {
@@ -44,10 +44,10 @@ fn links_from(alloc: Global, table: &Table, parents: &[u16]) -> Result<Vec<LinkS
     requires { length parents.now ≤ most_links }
     ensures { IfOk result (λ links. links.items ≡ links_from (table_view table.now) 0 parents.now) }
 {
-    let delays = values_at(table, Key::Delays);
-    let delay = number(table, Key::Delay);
-    let backs = values_at(table, Key::Backs);
-    let back = optional_number(table, Key::Back);
+    let delays = values_at(table, FileKey::Delays);
+    let delay = number(table, FileKey::Delay);
+    let backs = values_at(table, FileKey::Backs);
+    let back = optional_number(table, FileKey::Back);
     let mut links = Vec::new(alloc);
     for (k, parent) in parents.iter().enumerate() {
         let there = number_at(delays, k, delay);
@@ -72,9 +72,9 @@ pub(crate) fn given_links(
     ensures { IfOk result (λ links. links.items ≡ (if names_parents (table_view table.now)
         then links_from (table_view table.now) 0 (parents_in (table_view table.now)) else listed.items)) }
 {
-    if !says(table, Key::Topology, "parents") {
+    if !says(table, FileKey::Topology, "parents") {
         return Ok(listed);
     }
-    let parents = numbers_of(alloc, array(table, Key::Parent))?;
+    let parents = numbers_of(alloc, array(table, FileKey::Parent))?;
     links_from(alloc, table, parents.as_slice())
 }

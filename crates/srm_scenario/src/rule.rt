@@ -3,7 +3,7 @@ ghost use Rattle.std.specs.Prelude.{◌≡◌, if◌then◌else◌};
 ghost use Rattle.srm_scenario.specs.declared.rule.Need.TheVariants.{Required, Optional, Refused};
 ghost use Rattle.srm_scenario.specs.Rules.{rule};
 
-use crate::key::Key;
+use crate::file_key::FileKey;
 
 /// A set of words.
 #[derive(Clone, Copy, Debug, PartialEq, Eq)]
@@ -18,7 +18,7 @@ pub enum Words {
 
 /// What a key may hold.
 #[derive(Clone, Copy, Debug, PartialEq, Eq)]
-pub enum Kind {
+pub enum ValueKind {
     /// A whole number from the first to the second, both allowed.
     Whole(u64, u64),
     /// A word of a set.
@@ -71,16 +71,16 @@ impl Need {
 #[derive(Clone, Copy, Debug, PartialEq, Eq)]
 pub struct Rule {
     /// The key.
-    pub key: Key,
+    pub key: FileKey,
     /// What it may hold.
-    pub kind: Kind,
+    pub kind: ValueKind,
     /// Whether it must be there.
     pub need: Need,
 }
 
 impl Rule {
     /// The rule of a key.
-    pub(crate) fn new(key: Key, kind: Kind, need: Need) -> Rule
+    pub(crate) fn new(key: FileKey, kind: ValueKind, need: Need) -> Rule
         ensures { result ≡ rule key kind need }
     {
         Rule { key, kind, need }

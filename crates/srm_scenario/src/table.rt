@@ -4,16 +4,16 @@ ghost use Rattle.std.specs.List.{list_any, list_all};
 ghost use Rattle.std.specs.Str.{bytes_eq};
 ghost use Rattle.toml.specs.Data.{as_array, get_member};
 ghost use Rattle.toml.specs.View.{view, items_view, table_view};
-ghost use Rattle.srm_scenario.specs.declared.rule.Kind.TheVariants.{Numbers, Each, Elements, Repeated};
-ghost use Rattle.srm_scenario.specs.declared.key.Key.TheVariants.{Times, Every};
+ghost use Rattle.srm_scenario.specs.declared.rule.ValueKind.TheVariants.{Numbers, Each, Elements, Repeated};
+ghost use Rattle.srm_scenario.specs.declared.file_key.FileKey.TheVariants.{Times, Every};
 ghost use Rattle.srm_scenario.specs.KeyLimits.{most_times};
 ghost use Rattle.srm_scenario.specs.Keys.{name_of};
 ghost use Rattle.srm_scenario.specs.Rules.{fits_rules, has_only, is_met, is_kind, is_whole, is_text, spellings_of, times_repeated, times_said, count_made};
 ghost use Rattle.srm_scenario.specs.Described.{number, whole_number_of, number_or, optional_number, array_at, says};
 
-use crate::key::Key;
+use crate::file_key::FileKey;
 use crate::limits::MOST_TIMES;
-use crate::rule::{Kind, Need, Rule, Words};
+use crate::rule::{Need, Rule, ValueKind, Words};
 use toml::{Table, Value};
 
 /// Whether the table has no unknown key, and each rule is met.
@@ -66,16 +66,16 @@ fn is_met(table: &Table, rule: Rule) -> bool
 }
 
 /// Whether a value is of a kind.
-pub fn is_kind(value: &Value, kind: Kind) -> bool
+pub fn is_kind(value: &Value, kind: ValueKind) -> bool
     ensures { result ≡ is_kind kind (view value.now) }
 {
     match kind {
-        Kind::Whole(low, high) => is_whole(value, low, high),
-        Kind::Word(words) => is_word(value, words),
-        Kind::Numbers(most, high) => are_numbers(value, most, high),
-        Kind::Each(count, low, high) => are_each(value, count, low, high),
-        Kind::Elements(most) => are_elements(value, most),
-        Kind::Repeated(most) => are_repeated(value, most),
+        ValueKind::Whole(low, high) => is_whole(value, low, high),
+        ValueKind::Word(words) => is_word(value, words),
+        ValueKind::Numbers(most, high) => are_numbers(value, most, high),
+        ValueKind::Each(count, low, high) => are_each(value, count, low, high),
+        ValueKind::Elements(most) => are_elements(value, most),
+        ValueKind::Repeated(most) => are_repeated(value, most),
     }
 }
 
@@ -109,7 +109,7 @@ pub fn times_in(table: &Table) -> u64
     ensures some { 1 ≤ result }
     ensures few { result ≤ most_times }
 {
-    match optional_number(table, Key::Times) {
+    match optional_number(table, FileKey::Times) {
         Some(times) if times >= 1 && times <= MOST_TIMES => times,
         _ => 1,
     }
@@ -119,7 +119,7 @@ pub fn times_in(table: &Table) -> u64
 pub fn every_in(table: &Table) -> u64
     ensures { result ≡ unwrap_or (optional_number (name_of Every) (table_view table.now)) 1 }
 {
-    optional_number(table, Key::Every).unwrap_or(1)
+    optional_number(table, FileKey::Every).unwrap_or(1)
 }
 
 /// Whether values stand together for at most so many elements.
@@ -238,7 +238,7 @@ pub fn whole_number_of(value: &Value) -> Option<u64>
 }
 
 /// The whole number at a key, if there is one.
-pub(crate) fn optional_number(table: &Table, key: Key) -> Option<u64>
+pub(crate) fn optional_number(table: &Table, key: FileKey) -> Option<u64>
     ensures { result ≡ optional_number (name_of key) (table_view table.now) }
 {
     match table.get(key.name()) {
@@ -248,14 +248,14 @@ pub(crate) fn optional_number(table: &Table, key: Key) -> Option<u64>
 }
 
 /// The whole number at a key, or 0.
-pub fn number(table: &Table, key: Key) -> u64
+pub fn number(table: &Table, key: FileKey) -> u64
     ensures { result ≡ number (name_of key) (table_view table.now) }
 {
     optional_number(table, key).unwrap_or(0)
 }
 
 /// The whole number at a key, or that at another key where there is none.
-pub(crate) fn number_or(table: &Table, key: Key, other: Key) -> u64
+pub(crate) fn number_or(table: &Table, key: FileKey, other: FileKey) -> u64
     ensures { result ≡ number_or (name_of key) (name_of other) (table_view table.now) }
 {
     match optional_number(table, key) {
@@ -265,14 +265,14 @@ pub(crate) fn number_or(table: &Table, key: Key, other: Key) -> u64
 }
 
 /// Whether the table has a key.
-pub fn has_key(table: &Table, key: Key) -> bool
+pub fn has_key(table: &Table, key: FileKey) -> bool
     ensures { result ≡ is_some (get_member (name_of key) (table_view table.now)) }
 {
     table.get(key.name()).is_some()
 }
 
 /// Whether this word stands at a key.
-pub fn says(table: &Table, key: Key, word: &str) -> bool
+pub fn says(table: &Table, key: FileKey, word: &str) -> bool
     ensures { result ≡ says (name_of key) word.now (table_view table.now) }
 {
     match table.get(key.name()) {
@@ -282,7 +282,7 @@ pub fn says(table: &Table, key: Key, word: &str) -> bool
 }
 
 /// The values of the array at a key: none where no array is there.
-pub fn array(table: &Table, key: Key) -> &[Value]
+pub fn array(table: &Table, key: FileKey) -> &[Value]
     ensures { map view result.now ≡ array_at (name_of key) (table_view table.now) }
 {
     match table.get(key.name()) {

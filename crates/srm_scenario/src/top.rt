@@ -8,8 +8,8 @@ ghost use Rattle.srm_scenario.specs.Faults.{rules_of_top};
 ghost use Rattle.srm_scenario.specs.LookUps.{HasNumbers, HasShape, HasArrays};
 
 use crate::delays::Delays;
+use crate::file_key::FileKey;
 use crate::form::Form;
-use crate::key::Key;
 use crate::parts::{Constants, LocalRecovery, Room};
 use crate::rules::top_rules;
 use crate::table::{array, fits_rules, has_key, number, number_or, optional_number, says};
@@ -23,12 +23,12 @@ fn topology(table: &Table) -> Option<Topology>
         → number (codes "degree") (table_view table.now) ≤ most_links }
     ensures { result ≡ topology_of (table_view table.now) }
 {
-    if says(table, Key::Topology, "tree") {
-        let degree = number(table, Key::Degree) as u16;
+    if says(table, FileKey::Topology, "tree") {
+        let degree = number(table, FileKey::Degree) as u16;
         Some(Topology::Tree { degree })
-    } else if says(table, Key::Topology, "chain") {
+    } else if says(table, FileKey::Topology, "chain") {
         Some(Topology::Chain)
-    } else if says(table, Key::Topology, "star") {
+    } else if says(table, FileKey::Topology, "star") {
         Some(Topology::Star)
     } else {
         None
@@ -57,10 +57,10 @@ pub fn constants_of(table: &Table) -> Constants
     ensures { result ≡ constants_of (table_view table.now) }
 {
     Constants {
-        c1: number(table, Key::C1),
-        c2: number(table, Key::C2),
-        d1: number(table, Key::D1),
-        d2: number(table, Key::D2),
+        c1: number(table, FileKey::C1),
+        c2: number(table, FileKey::C2),
+        d1: number(table, FileKey::D1),
+        d2: number(table, FileKey::D2),
     }
 }
 
@@ -69,10 +69,10 @@ fn least_of(table: &Table) -> Constants
     ensures { result ≡ least_of (table_view table.now) }
 {
     Constants {
-        c1: number_or(table, Key::C1Least, Key::C1),
-        c2: number_or(table, Key::C2Least, Key::C2),
-        d1: number_or(table, Key::D1Least, Key::D1),
-        d2: number_or(table, Key::D2Least, Key::D2),
+        c1: number_or(table, FileKey::C1Least, FileKey::C1),
+        c2: number_or(table, FileKey::C2Least, FileKey::C2),
+        d1: number_or(table, FileKey::D1Least, FileKey::D1),
+        d2: number_or(table, FileKey::D2Least, FileKey::D2),
     }
 }
 
@@ -81,10 +81,10 @@ fn most_of(table: &Table) -> Constants
     ensures { result ≡ most_of (table_view table.now) }
 {
     Constants {
-        c1: number_or(table, Key::C1Most, Key::C1),
-        c2: number_or(table, Key::C2Most, Key::C2),
-        d1: number_or(table, Key::D1Most, Key::D1),
-        d2: number_or(table, Key::D2Most, Key::D2),
+        c1: number_or(table, FileKey::C1Most, FileKey::C1),
+        c2: number_or(table, FileKey::C2Most, FileKey::C2),
+        d1: number_or(table, FileKey::D1Most, FileKey::D1),
+        d2: number_or(table, FileKey::D2Most, FileKey::D2),
     }
 }
 
@@ -95,7 +95,7 @@ fn room_of(table: &Table) -> Room
     Room {
         least: least_of(table),
         most: most_of(table),
-        backoff: optional_number(table, Key::Backoff).unwrap_or(2),
+        backoff: optional_number(table, FileKey::Backoff).unwrap_or(2),
     }
 }
 
@@ -105,9 +105,9 @@ fn recovery_of(table: &Table) -> LocalRecovery
     ensures { result ≡ recovery_of (table_view table.now) }
 {
     LocalRecovery {
-        widen: number(table, Key::Widen) as u16,
-        tries: optional_number(table, Key::Tries).unwrap_or(1) as u16,
-        steps: optional_number(table, Key::Steps).unwrap_or(2) as u16,
+        widen: number(table, FileKey::Widen) as u16,
+        tries: optional_number(table, FileKey::Tries).unwrap_or(1) as u16,
+        steps: optional_number(table, FileKey::Steps).unwrap_or(2) as u16,
     }
 }
 
@@ -117,11 +117,11 @@ fn numbers_of(table: &Table) -> Numbers
     ensures { HasNumbers (table_view table.now) result }
 {
     Numbers {
-        version: Version::of(number(table, Key::Version)),
-        until: number(table, Key::Until),
+        version: Version::of(number(table, FileKey::Version)),
+        until: number(table, FileKey::Until),
         constants: constants_of(table),
         room: room_of(table),
-        scope: number(table, Key::Scope) as u16,
+        scope: number(table, FileKey::Scope) as u16,
         recovery: recovery_of(table),
     }
 }
@@ -144,10 +144,10 @@ fn given_nodes(table: &Table) -> u64
     requires { length (array_at (codes "parent") (table_view table.now)) ≤ most_links }
     ensures { result ≡ given_nodes (table_view table.now) }
 {
-    if says(table, Key::Topology, "parents") {
-        array(table, Key::Parent).len() as u64 + 1
+    if says(table, FileKey::Topology, "parents") {
+        array(table, FileKey::Parent).len() as u64 + 1
     } else {
-        number(table, Key::Nodes)
+        number(table, FileKey::Nodes)
     }
 }
 
@@ -158,17 +158,17 @@ fn shape_of(table: &Table) -> Shape<'_>
 {
     let topology = topology(table);
     let nodes = match topology {
-        Some(_) => number(table, Key::Size),
+        Some(_) => number(table, FileKey::Size),
         None => given_nodes(table),
     };
     Shape {
         topology,
         nodes: nodes as u16,
         delays: Delays {
-            delay: number(table, Key::Delay),
-            back: number_or(table, Key::Back, Key::Delay),
+            delay: number(table, FileKey::Delay),
+            back: number_or(table, FileKey::Back, FileKey::Delay),
         },
-        links: array(table, Key::Link),
+        links: array(table, FileKey::Link),
     }
 }
 
@@ -197,12 +197,12 @@ fn arrays_of(table: &Table) -> Arrays<'_>
         (map view result.losses.now) }
 {
     Arrays {
-        members: array(table, Key::Member),
-        draws: array(table, Key::Draw),
-        sessions: array(table, Key::Session),
-        drops: array(table, Key::Drop),
-        outages: array(table, Key::Outage),
-        losses: array(table, Key::Loss),
+        members: array(table, FileKey::Member),
+        draws: array(table, FileKey::Draw),
+        sessions: array(table, FileKey::Session),
+        drops: array(table, FileKey::Drop),
+        outages: array(table, FileKey::Outage),
+        losses: array(table, FileKey::Loss),
     }
 }
 
@@ -221,15 +221,17 @@ pub(crate) struct Top<'a> {
 pub fn form_of(table: &Table) -> Form
     ensures { result ≡ form_of (table_view table.now) }
 {
-    let tree = says(table, Key::Topology, "tree");
+    let tree = says(table, FileKey::Topology, "tree");
     Form {
-        shaped: has_key(table, Key::Topology),
-        sized: tree || says(table, Key::Topology, "chain") || says(table, Key::Topology, "star"),
+        shaped: has_key(table, FileKey::Topology),
+        sized: tree
+            || says(table, FileKey::Topology, "chain")
+            || says(table, FileKey::Topology, "star"),
         tree,
-        parents: says(table, Key::Topology, "parents"),
-        listed: array(table, Key::Parent).len() as u64,
-        delays: has_key(table, Key::Delays),
-        backs: has_key(table, Key::Backs),
+        parents: says(table, FileKey::Topology, "parents"),
+        listed: array(table, FileKey::Parent).len() as u64,
+        delays: has_key(table, FileKey::Delays),
+        backs: has_key(table, FileKey::Backs),
     }
 }
 
@@ -237,7 +239,7 @@ pub fn form_of(table: &Table) -> Form
 fn is_top(table: &Table) -> bool
     ensures { result ≡ fits_rules (rules_of_top (table_view table.now)) (table_view table.now) }
 {
-    let version = Version::of(number(table, Key::Version));
+    let version = Version::of(number(table, FileKey::Version));
     fits_rules(
         table,
         &top_rules(version, constants_of(table), form_of(table)),

@@ -6,9 +6,9 @@ ghost use Rattle.srm_team.specs.Relays.{items_of, IsAsked};
 use crate::answer::Answer;
 use crate::batch::Batch;
 use crate::bench::Bench;
-use crate::ends::Ends;
 use crate::fault::TeamFault;
 use crate::front::Front;
+use crate::leader_ends::LeaderEnds;
 use crate::naming::Naming;
 use crate::opened::Opened;
 use crate::work::Work;
@@ -25,7 +25,7 @@ const MOST_ITEMS: u64 = 1 << 62;
 /// workers end once it is dropped. Clauses see the work, the room, how many items it took up, and those that are under way.
 #[derive(Drop)]
 pub struct Relay<W: Work<T, D> + Copy, T: Drop, D: Drop, J: Naming> {
-    ends: Ends<W, T, D, J>,
+    ends: LeaderEnds<W, T, D, J>,
     work: W,
     room: usize,
     // What came back of each item that is under way, the oldest first.
@@ -69,7 +69,7 @@ pub fn open_relay<W: Work<T, D> + Copy, T: Drop, D: Drop, J: Naming>(
     ensures asked { IfOk result (λ r. (r.0.work ≡ work) × (r.0.room ≡ room)) }
     ensures idle { IfOk result (λ r. (r.0.lists ≡ 0) × (r.0.under_way ≡ [])) }
 {
-    let (ends, bench) = Ends::open(alloc, opened, room)?;
+    let (ends, bench) = LeaderEnds::open(alloc, opened, room)?;
     let relay = Relay {
         ends,
         work,
@@ -112,7 +112,7 @@ fn keep<W: Work<T, D> + Copy, T: Drop, D: Drop, J: Naming>(
 
 // Waits until the first slot is full, where there is one.
 fn fill_first<W: Work<T, D> + Copy, T: Drop, D: Drop, J: Naming, R: Wait>(
-    ends: &Ends<W, T, D, J>,
+    ends: &LeaderEnds<W, T, D, J>,
     rt: &R,
     work: W,
     given: u64,

@@ -4,8 +4,8 @@ ghost use Rattle.std.specs.List.{AllZip};
 ghost use Rattle.srm_team.specs.Tells.{lists_after};
 
 use crate::bench::Bench;
-use crate::ends::Ends;
 use crate::fault::TeamFault;
+use crate::leader_ends::LeaderEnds;
 use crate::naming::Naming;
 use crate::opened::Opened;
 use crate::work::Work;
@@ -20,7 +20,7 @@ const MOST_LISTS: u64 = 1 << 62;
 /// is dropped. Clauses see how many items a list may have, and how many lists the team took up.
 #[derive(Drop)]
 pub struct Team<W: Work<T, D> + Copy, T: Drop, D: Drop, J: Naming> {
-    ends: Ends<W, T, D, J>,
+    ends: LeaderEnds<W, T, D, J>,
     room: usize,
     // How many lists it took up: the history has no more.
     lists: u64,
@@ -49,7 +49,7 @@ pub fn open_team<W: Work<T, D> + Copy, T: Drop, D: Drop, J: Naming>(
     requires { opened ≡ J.book }
     ensures { IfOk result (λ r. (r.0.room ≡ room) × (r.0.lists ≡ 0)) }
 {
-    let (ends, bench) = Ends::open(alloc, opened, room)?;
+    let (ends, bench) = LeaderEnds::open(alloc, opened, room)?;
     Ok((
         Team {
             ends,

@@ -1,5 +1,5 @@
 use Rattle.std.proofs.Common.{ap, sym}
-use Rattle.srm_scenario.specs.declared.rule.Kind.TheVariants.{Word}
+use Rattle.srm_scenario.specs.declared.rule.ValueKind.TheVariants.{Word}
 use Rattle.srm_explain.specs.Findings.{allowed}
 use Rattle.srm_explain.proofs.sentence.allowed_words.Goals as goal
 

@@ -1,7 +1,7 @@
 use Rattle.std.proofs.Common.{◌∙◌, ◌<◌, ◌++◌, [], ◌∷◌, IfSome, decimal, ap, length, subst, sym}
 use Rattle.std.specs.Result.{OnOk}
 use Rattle.csv.specs.Writing.{default_writer, row_text}
-use Rattle.srm_report.specs.declared.recovery.Recovery.{Recovery}
+use Rattle.srm_report.specs.declared.mended_loss.MendedLoss.{MendedLoss}
 use Rattle.srm_report.specs.Losses.{delay_of}
 use Rattle.srm_report.specs.Records.{HasText}
 use Rattle.srm_report.specs.Rows.{or_dash}
@@ -25,7 +25,7 @@ returns c text h =
     let asked = c.text-8.ensures ∙ c.or_dash-2.ensures in
     let requests = c.text-9.ensures ∙ c.number-7.ensures in
     let repairs = c.text-10.ensures ∙ c.number-8.ensures in
-    let last = c.text-11.ensures ∙ c.member_of.ensures ∙ ap (or_dash (λ (r : Recovery). decimal r.member)) c.last_of-last.ensures in
+    let last = c.text-11.ensures ∙ c.member_of.ensures ∙ ap (or_dash (λ (r : MendedLoss). decimal r.member)) c.last_of-last.ensures in
     let delay = c.text-12.ensures ∙ c.delay.ensures ∙ ap (or_dash (delay_of c.args.net.now c.args.name.source)) c.last_of-last.ensures in
     subst (λ fields. OnOk c.put_record.result (HasText c.put_record.new.writer (text ++ row_text default_writer fields)))
     (λ i. source i ∷ page i ∷ number i ∷ losers i ∷ recovered i ∷ left i ∷ detected i ∷ asked i ∷ requests i ∷ repairs i

@@ -1,5 +1,5 @@
 use Rattle.std.proofs.Common.{◌∙◌, ◌++◌, ap}
-use Rattle.srm_report.specs.declared.piece.Piece.TheVariants.{Own}
+use Rattle.srm_report.specs.declared.text_piece.TextPiece.TheVariants.{Own}
 use Rattle.srm_report.specs.Pieces.{whole_text}
 use Rattle.srm_report.proofs.PieceLemmas.{piece_more}
 use Rattle.srm_report.proofs.pieces.close.Goals as goal

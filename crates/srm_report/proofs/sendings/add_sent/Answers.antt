@@ -2,7 +2,7 @@ use Rattle.std.proofs.Common.{◌≡◌, ◌∙◌, ◌+◌, ◌<◌, None, leng
 use Rattle.std.proofs.Math.Seq.{take-length}
 use Rattle.std.proofs.lemmas.List.{get_or-map, length-map}
 use Rattle.srm_net.specs.declared.packet.Name.{Name}
-use Rattle.srm_report.specs.declared.sending.Sending.{Sending}
+use Rattle.srm_report.specs.declared.sent_for_name.SentForName.{SentForName}
 use Rattle.std.specs.FinMap.Entries.{put}
 use Rattle.srm_net.specs.Names.{name_cmp}
 use Rattle.srm_report.specs.Sendings.{sending_in, together}
@@ -10,7 +10,7 @@ use Rattle.srm_report.proofs.KeptSendings.{all_added, HasAdded, none_added, one_
 use Rattle.srm_report.proofs.sendings.add_sent.Goals as goal
 
 -- in place of an entry that is not there
-abbrev none : Name × Sending
+abbrev none : Name × SentForName
 none = (record { source = 0; page = 0; number = 0 }, record { asked = None; requests = 0; repairs = 0 })
 
 pub loop-name-init : goal.loop-name-init
@@ -21,9 +21,9 @@ loop-name-preserved c rises more =
     let es = c.args.more.now in
     let i = c.loop-name.name-index in
     let names : c.as_slice-name-items.result.now ≡ map (λ e. e.0) es = c.as_slice-name-items.ensures ∙ c.in_ok-names.ensures in
-    let many = ap length names ∙ length-map es (λ (e : Name × Sending). e.0) in
+    let many = ap length names ∙ length-map es (λ (e : Name × SentForName). e.0) in
     let lt : i < length es = (let l = c.loop-name-test.true in omega (arith, many)) in
-    let own = ap (λ ns. get_or ns i none.0) names ∙ get_or-map (λ (e : Name × Sending). e.0) es i none none.0 lt in
+    let own = ap (λ ns. get_or ns i none.0) names ∙ get_or-map (λ (e : Name × SentForName). e.0) es i none none.0 lt in
     let all = c.in-Some.ensures ∙ (λ k. together (c.sending.ensures k) (c.sending-in-loop-name.ensures k))
     ∙ ap (λ n. together (sending_in c.loop-name.sent n) (sending_in es n)) own in
     subst (HasAdded c.args.sent.now (take (i + 1) es)) (sym (c.in_ok-put.ensures.ok
@@ -33,7 +33,7 @@ loop-name-preserved c rises more =
 pub returns : goal.returns
 returns c xs ys was tell =
     let many = ap length (c.as_slice-name-items.ensures ∙ c.in_ok-names.ensures)
-    ∙ length-map c.args.more.now (λ (e : Name × Sending). e.0) in
+    ∙ length-map c.args.more.now (λ (e : Name × SentForName). e.0) in
     let whole : c.loop-name.name-index ≡ length c.args.more.now = omega (arith, many) in
     all_added xs ys c.args.sent.now c.args.more.now c.loop-name.sent was tell
     (subst (λ l. HasAdded c.args.sent.now l c.loop-name.sent)

@@ -9,7 +9,7 @@ use Rattle.srm_scenario.specs.Rules.{fits_rules, member_rules, pages_rule, scope
 use Rattle.srm_scenario.specs.Described.{number, scope_of}
 use Rattle.srm_scenario.specs.Faults.{entry_of}
 use Rattle.srm_scenario.specs.KeyLimits.{greatest_scope}
-use Rattle.srm_scenario.specs.declared.key.Key.TheVariants as key
+use Rattle.srm_scenario.specs.declared.file_key.FileKey.TheVariants as key
 use Rattle.srm_scenario.proofs.Arrays.{pages_whole, numbers_read}
 use Rattle.srm_scenario.proofs.KeyRanges.{or_fits, rule_met}
 use Rattle.srm_scenario.proofs.entry.entry_of.Goals as goal

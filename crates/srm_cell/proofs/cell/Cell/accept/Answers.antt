@@ -1,6 +1,6 @@
 use Rattle.std.proofs.Common.{◌≡◌, ◌∙◌, Some, refl, sym, ap, subst, arith}
 use Rattle.srm_cell.specs.Cells.{PlainCell, hear_at, next_event}
-use Rattle.srm_cell.specs.declared.pending.Source.TheVariants.{Inbox}
+use Rattle.srm_cell.specs.declared.pending_event.Source.TheVariants.{Inbox}
 use Rattle.srm_cell.specs.Pending.{IsNext}
 use Rattle.srm_cell.specs.Views.{plain_cell}
 use Rattle.srm_cell.proofs.Entries.{if_ok}

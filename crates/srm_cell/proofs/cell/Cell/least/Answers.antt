@@ -1,6 +1,6 @@
 use Rattle.std.proofs.Common.{◌≡◌, ◌∙◌, sym, ap, subst, arith}
 use Rattle.srm_cell.specs.Cells.{next_event, next_timer}
-use Rattle.srm_cell.specs.declared.pending.Source.TheVariants.{Inbox, Script, Timer}
+use Rattle.srm_cell.specs.declared.pending_event.Source.TheVariants.{Inbox, Script, Timer}
 use Rattle.srm_cell.specs.Pending.{IsNext, first_of, tick_of}
 use Rattle.srm_cell.specs.Views.{plain_cell}
 use Rattle.srm_cell.proofs.Nexts.{arrival_next, mark_next, timer_next}

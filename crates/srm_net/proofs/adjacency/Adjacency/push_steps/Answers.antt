@@ -3,7 +3,7 @@ use Rattle.std.proofs.Common.{◌++◌, ◌∷◌, [], reverse, inl, inr, Vec, G
 use Rattle.std.proofs.lemmas.Bool.{both_ways, cases_eq}
 use Rattle.std.proofs.lemmas.List.{length_push}
 use Rattle.srm_net.specs.declared.link.LinkSpec.{LinkSpec}
-use Rattle.srm_net.specs.declared.step.Step.{Step}
+use Rattle.srm_net.specs.declared.attaching.Attaching.{Attaching}
 use Rattle.srm_net.specs.Network.{Joins}
 use Rattle.srm_net.specs.Paths.{is_in}
 use Rattle.srm_net.specs.Tables.{far_from}
@@ -87,8 +87,8 @@ loop-next-preserved c =
     λ j x g h. far ∙ other_is k u x (subst (λ (i : LinkSpec). Joins i u x) (same_link links m m j k refl g t.link) h) in
     elim c.if-not-known-from.branch [
       | then-not-known-from+in_ok-push w ↦
-          (let s : Step = record { node = c.far_from-other.result; parent = u; link = m } in
-          let is : c.if-not-known-from.pending.items ≡ ps ++ s ∷ [] = ap (λ (v : Vec Step Global). v.items) w.pending-is
+          (let s : Attaching = record { node = c.far_from-other.result; parent = u; link = m } in
+          let is : c.if-not-known-from.pending.items ≡ ps ++ s ∷ [] = ap (λ (v : Vec Attaching Global). v.items) w.pending-is
           ∙ w.in_ok-push.ensures.items in
           let long : length c.if-not-known-from.pending.items ≡ length ps + 1 = ap length is ∙ length_push ps s in
           record {
@@ -110,7 +110,7 @@ loop-next-preserved c =
                 }) (inv.wait ss i v));
           })
       | else-not-known-from w ↦
-          (let is : c.if-not-known-from.pending.items ≡ ps = ap (λ (v : Vec Step Global). v.items) w.pending-is in
+          (let is : c.if-not-known-from.pending.items ≡ ps = ap (λ (v : Vec Attaching Global). v.items) w.pending-is in
           let long : length c.if-not-known-from.pending.items ≡ length ps = ap length is in
           record {
             next = (m, omega arith, before);

@@ -1,6 +1,6 @@
 use Rattle.std.proofs.Common.{◌≡◌, ◌+◌, ◌≤◌, ℕ, List, true, false, length, reverse, slice_get, Some}
 use Rattle.srm_net.specs.declared.link.LinkSpec.{LinkSpec}
-use Rattle.srm_net.specs.declared.step.Step.{Step}
+use Rattle.srm_net.specs.declared.attaching.Attaching.{Attaching}
 use Rattle.srm_net.specs.Adjacencies.{last_meeting}
 use Rattle.srm_net.specs.Growth.{attached}
 use Rattle.srm_net.specs.Network.{Joins}
@@ -16,7 +16,7 @@ invariant-loop-next l = record {
   kept : (x : ℕ) → is_in (targets l.fn.pending.items) x ≡ true → is_in (targets l.pending.items) x ≡ true;
   each : (m : ℕ) (k : LinkSpec) (x : ℕ) → l.next ≤ m → slice_get l.links m ≡ Some k → Joins k l.node x → is_known l.known x ≡ false
       → is_in (targets l.pending.items) x ≡ true;
-  wait : (ss : List Step) → is_in (attached ss) l.node ≡ true → Wait l.links ss l.node (reverse l.fn.pending.items)
+  wait : (ss : List Attaching) → is_in (attached ss) l.node ≡ true → Wait l.links ss l.node (reverse l.fn.pending.items)
       → Wait l.links ss l.node (reverse l.pending.items);
 }
 

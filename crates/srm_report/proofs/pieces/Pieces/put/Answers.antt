@@ -1,5 +1,5 @@
 use Rattle.std.proofs.Common.{◌∙◌, ◌++◌, ap, append-nil}
-use Rattle.srm_report.specs.declared.piece.Piece.TheVariants.{Part}
+use Rattle.srm_report.specs.declared.text_piece.TextPiece.TheVariants.{Part}
 use Rattle.srm_report.specs.Pieces.{whole_text}
 use Rattle.srm_report.proofs.PieceLemmas.{piece_more}
 use Rattle.srm_report.proofs.pieces.Pieces.put.Goals as goal
