@@ -10,7 +10,7 @@ use srm_engine::step_run::step_run;
 use srm_member::member::Member;
 use srm_net::net::Net;
 use srm_net::role::Role;
-use srm_report::trace::trace_text;
+use srm_report::listing::trace::trace_text;
 use srm_roles::late::Late;
 use srm_roles::listener::Listener;
 use srm_roles::receiver::Receiver;

@@ -68,11 +68,13 @@ pub attaches_waited : (links : List LinkSpec) (ss : List Attaching) (s : Attachi
 attaches_waited links ss s f new = record { spec = f.spec; link = f.link; joins = f.joins; parent = f.parent; node = new }
 
 -- the step that comes next, before which the others stood
-pub next_waits : (links : List LinkSpec) (ss : List Attaching) (x : ℕ) (pending ps : List Attaching) (s : Attaching) → pending ≡ ps ++ s ∷ []
+pub next_waits : (links : List LinkSpec) (ss : List Attaching) (x : ℕ) (pending ps : List Attaching) (s : Attaching)
+    → pending ≡ ps ++ s ∷ []
     → Wait links ss x (reverse pending) → Wait links ss x (s ∷ reverse ps)
 next_waits links ss x pending ps s e w = subst (Wait links ss x) (ap reverse e ∙ reverse-append ps (s ∷ [])) w
 
-pub leads_below : (nodes : ℕ) (links : List LinkSpec) (ss : List Attaching) (s : Attaching) → All (IsWithin nodes) links → LeadsFrom links ss s
+pub leads_below : (nodes : ℕ) (links : List LinkSpec) (ss : List Attaching) (s : Attaching)
+    → All (IsWithin nodes) links → LeadsFrom links ss s
     → s.node < nodes
 leads_below nodes links ss s ends f =
     (joins_below nodes f.spec s.parent s.node (all_get (IsWithin nodes) links s.link f.spec ends f.link) f.joins).1
@@ -134,7 +136,8 @@ fewer_wait m n links old new e h = grind arith
 
 pub target_kept : (ps : List Attaching) (s : Attaching) (x : ℕ) → is_in (targets ps) x ≡ true → is_in (targets (ps ++ s ∷ [])) x ≡ true
 target_kept ps s x h =
-    subst (λ ns. is_in ns x ≡ true) (sym (map-append (λ (t : Attaching). t.node) ps (s ∷ []))) (in_append_left (targets ps) (s.node ∷ []) x h)
+    subst (λ ns. is_in ns x ≡ true) (sym (map-append (λ (t : Attaching). t.node) ps (s ∷ [])))
+      (in_append_left (targets ps) (s.node ∷ []) x h)
 
 pub target_new : (ps : List Attaching) (s : Attaching) (x : ℕ) → s.node ≡ x → is_in (targets (ps ++ s ∷ [])) x ≡ true
 target_new ps s x e = grind (arith, map-append, in_append_right)

@@ -14,9 +14,9 @@ use Rattle.srm_interfaces.specs.declared.sink.Stage.TheVariants as stage
 use Rattle.srm_interfaces.specs.Sinks.{IsOpen}
 use Rattle.srm_model.specs.World.{World, IsReached, IsLast}
 use Rattle.srm_engine.specs.Streams as streams
-use Rattle.srm_report.specs.declared.standing.Standing.{Standing}
-use Rattle.srm_report.specs.declared.standing.Standing.TheVariants as standing
-use Rattle.srm_report.specs.declared.listing_sink.ListingSink.{ListingSink}
+use Rattle.srm_report.specs.declared.listing.standing.Standing.{Standing}
+use Rattle.srm_report.specs.declared.listing.standing.Standing.TheVariants as standing
+use Rattle.srm_report.specs.declared.listing.listing_sink.ListingSink.{ListingSink}
 use Rattle.srm_report.specs.Listings.{Form, text_in}
 use Rattle.srm_report.specs.Tables.{lines_of, table_lines}
 use Rattle.srm_report.specs.Timers.{timers_columns, timers_form, timers_rows}

@@ -11,7 +11,7 @@ use Rattle.srm_report.specs.declared.outlet.Outlet as outlet
 use Rattle.srm_options.specs.declared.options.Show.{Show}
 use Rattle.srm_options.specs.declared.options.Engine.TheVariants.{Step, Window}
 use Rattle.srm_report.specs.Listings.{Form, text_in}
-use Rattle.srm_report.specs.declared.listing_sink.ListingSink.{ListingSink}
+use Rattle.srm_report.specs.declared.listing.listing_sink.ListingSink.{ListingSink}
 use Rattle.srm_report.specs.ListingSinks.{stage_of, gathered_by, gathering_room, written_by}
 use Rattle.srm_interfaces.specs.declared.sink.Stage.TheVariants.{Fresh}
 use Rattle.srm_engine.specs.Openings.{HoldOpeningRecords}

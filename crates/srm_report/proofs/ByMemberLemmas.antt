@@ -16,8 +16,8 @@ use Rattle.srm_member.specs.Orderly.{IsOrderly, LostIn, FixedIn, brought}
 use Rattle.srm_member.specs.Kinds.{is_fixed}
 use Rattle.srm_member.proofs.OrderLemmas.{place-comm}
 use Rattle.srm_member.proofs.ByMemberLemmas.{split_filter, in_filter, from_filter, find_filtered, same_of_alike}
-use Rattle.srm_report.specs.declared.course.Course.{Course}
-use Rattle.srm_report.specs.declared.loss.Loss.{Loss}
+use Rattle.srm_report.specs.declared.losses.course.Course.{Course}
+use Rattle.srm_report.specs.declared.losses.loss.Loss.{Loss}
 use Rattle.srm_report.specs.Courses.{TellLosses, LoseInTurn, course_of, row_time}
 use Rattle.srm_report.specs.Losses.{loss_cmp, losses_in, detected_at, recovered_at}
 use Rattle.srm_report.specs.Rows.{is_name}

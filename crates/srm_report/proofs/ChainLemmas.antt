@@ -7,7 +7,7 @@ use Rattle.std.proofs.lemmas.List.{get_or-map, take_more}
 use Rattle.srm_member.proofs.AllIn.{AllIn, AllIn-at_places}
 use Rattle.srm_cell.specs.Crossings.{joined}
 use Rattle.srm_cell.proofs.RowPackets.{joined-append}
-use Rattle.srm_report.specs.declared.chains.Link.{Link}
+use Rattle.srm_report.specs.declared.listing.chains.Link.{Link}
 use Rattle.srm_report.specs.Chains.{chain, chain_in, LeadBack}
 
 -- a link begins no chain that begins before it

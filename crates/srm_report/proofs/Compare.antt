@@ -6,8 +6,8 @@ use Rattle.std.specs.Map.{lookup}
 use Rattle.std.specs.BTreeMap.{insert_entry, is_at}
 use Rattle.srm_member.proofs.Compare.{names_compared}
 use Rattle.srm_member.proofs.Maps as maps
-use Rattle.srm_report.specs.contracts.loss.LossOrd.TheImpl as loss_order
-use Rattle.srm_report.specs.declared.loss.Loss.{Loss}
+use Rattle.srm_report.specs.contracts.losses.loss.LossOrd.TheImpl as loss_order
+use Rattle.srm_report.specs.declared.losses.loss.Loss.{Loss}
 use Rattle.srm_report.specs.Losses.{loss_cmp}
 
 pub losses_compared : loss_order.cmp-value.it ≡ loss_cmp

@@ -10,8 +10,8 @@ use Rattle.srm_member.specs.declared.row.Row.{Row}
 use Rattle.srm_interfaces.specs.Watches.{KeepMembers}
 use Rattle.srm_member.specs.Kinds.{is_join, is_leave, is_draw, is_ask, is_answer, is_report, is_arrival, is_sent, is_fixed}
 use Rattle.srm_scenario.specs.declared.parts.MemberSpec.{MemberSpec}
-use Rattle.srm_report.specs.declared.counts.Counts.{Counts}
-use Rattle.srm_report.specs.declared.member_count.MemberCount.{MemberCount}
+use Rattle.srm_report.specs.declared.members.counts.Counts.{Counts}
+use Rattle.srm_report.specs.declared.members.member_count.MemberCount.{MemberCount}
 use Rattle.srm_report.specs.Counted.{first_known}
 use Rattle.srm_report.specs.MemberCounts.{IsCountOf, counts_at}
 use Rattle.srm_report.specs.Members.{counts_of, member_fields, member_rows}

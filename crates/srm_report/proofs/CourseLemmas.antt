@@ -23,8 +23,8 @@ use Rattle.srm_member.specs.declared.row.Row.{Row}
 use Rattle.srm_member.specs.Orderly.{LostIn, FixedIn, brought}
 use Rattle.srm_member.proofs.TableChanges.{same_names, name_is}
 use Rattle.srm_member.specs.Kinds.{is_fixed}
-use Rattle.srm_report.specs.declared.course.Course.{Course}
-use Rattle.srm_report.specs.declared.loss.Loss.{Loss}
+use Rattle.srm_report.specs.declared.losses.course.Course.{Course}
+use Rattle.srm_report.specs.declared.losses.loss.Loss.{Loss}
 use Rattle.srm_report.specs.Courses.{TellLosses, after_fix, fixed_at, course_of, losing, name_fixed, detects, fixes, row_time}
 use Rattle.srm_report.specs.Losses.{loss_cmp, losses_in, detected_at, recovered_at}
 use Rattle.srm_report.specs.Rows.{is_name}

@@ -6,7 +6,7 @@ use Rattle.std.proofs.Math.Seq.{drop-append_seam, take-length}
 use Rattle.std.proofs.lemmas.List.{drop-append-le, take-append-le, length-drop}
 use Rattle.std.proofs.Common.{length-append}
 use Rattle.std.proofs.Math.ListN.{get_or}
-use Rattle.srm_report.specs.declared.lines.LineEnd.{LineEnd}
+use Rattle.srm_report.specs.declared.listing.lines.LineEnd.{LineEnd}
 use Rattle.srm_report.specs.KeptLines.{cut_from, AreEnds, line_behind, start_at}
 
 pub as_many_lines : (start : ℕ) (text : List ℕ) (es : List LineEnd) → length (cut_from start text es) ≡ length es

@@ -12,7 +12,7 @@ use Rattle.srm_net.specs.Orders.{AllAfter, Ascends}
 use Rattle.srm_member.specs.declared.row.Row.{Row}
 use Rattle.srm_member.specs.Kinds.{is_ask}
 use Rattle.srm_member.proofs.TableChanges.{name_is, same_names}
-use Rattle.srm_report.specs.declared.loss.Loss.{Loss}
+use Rattle.srm_report.specs.declared.losses.loss.Loss.{Loss}
 use Rattle.srm_report.specs.Losses.{detected_at, loss_cmp, losses_in}
 use Rattle.srm_report.specs.OperationLaws.{FirstsAreLeast, loses}
 use Rattle.srm_report.specs.Operations.{losses_of, sends_for, sooner}

@@ -25,8 +25,8 @@ use Rattle.srm_cell.specs.Crossings.{joined}
 use Rattle.srm_interfaces.specs.Watches.{KeepMembers}
 use Rattle.srm_model.specs.Laws.{by_member}
 use Rattle.srm_model.proofs.StandAlike.{listed_alike}
-use Rattle.srm_report.specs.declared.course.Course.{Course}
-use Rattle.srm_report.specs.declared.loss.Loss.{Loss}
+use Rattle.srm_report.specs.declared.losses.course.Course.{Course}
+use Rattle.srm_report.specs.declared.losses.loss.Loss.{Loss}
 use Rattle.srm_report.specs.Courses.{LoseInTurn, TellLosses, course_of}
 use Rattle.srm_report.specs.Losses.{loss_cmp, losses_in}
 use Rattle.srm_report.proofs.ByMemberLemmas.{course_at, orderly_loses, tell_alike}

@@ -13,10 +13,10 @@ use Rattle.srm_cell.specs.Crossings.{joined}
 use Rattle.srm_interfaces.specs.Watches.{KeepMembers}
 use Rattle.srm_model.specs.Laws.{by_member}
 use Rattle.srm_model.proofs.StandAlike.{listed_alike}
-use Rattle.srm_report.specs.declared.course.Course.{Course}
-use Rattle.srm_report.specs.declared.loss.Loss.{Loss}
-use Rattle.srm_report.specs.declared.member_operations.MemberOperations.{MemberOperations}
-use Rattle.srm_report.specs.declared.sent_for_name.SentForName.{SentForName}
+use Rattle.srm_report.specs.declared.losses.course.Course.{Course}
+use Rattle.srm_report.specs.declared.losses.loss.Loss.{Loss}
+use Rattle.srm_report.specs.declared.operations.member_operations.MemberOperations.{MemberOperations}
+use Rattle.srm_report.specs.declared.operations.sent_for_name.SentForName.{SentForName}
 use Rattle.srm_report.specs.KeptOperations.{KeepsOperations, TellOperations}
 use Rattle.srm_report.specs.Operations.{has_left}
 use Rattle.srm_report.specs.Sendings.{TellLeft, TellSent}

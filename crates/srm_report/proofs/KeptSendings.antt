@@ -13,7 +13,7 @@ use Rattle.srm_net.proofs.TotalOrders.{name_total}
 use Rattle.srm_member.proofs.TableChanges.{same_names}
 use Rattle.srm_member.specs.declared.row.Row.{Row}
 use Rattle.srm_member.specs.Kinds.{is_ask, is_answer}
-use Rattle.srm_report.specs.declared.sent_for_name.SentForName.{SentForName}
+use Rattle.srm_report.specs.declared.operations.sent_for_name.SentForName.{SentForName}
 use Rattle.srm_report.specs.Operations.{sending_of, sends_for, sooner}
 use Rattle.srm_report.specs.Rows.{is_name}
 use Rattle.srm_report.specs.Sendings.{sending_in, TellSent, together, asked_in}
@@ -58,7 +58,8 @@ with_none s m i = record { asked = s.asked; requests = add-zero s.requests i; re
 pub none_added : (old : List (Name × SentForName)) → T (is_sorted name_cmp old) → HasAdded old [] old
 none_added old rises = record { sorted = rises; sent = λ m. sym (with_none (sending_in old m) m) }
 
-module _ (old more now : List (Name × SentForName)) (rises : T (is_sorted name_cmp more)) (i : ℕ) (d : Name × SentForName) (lt : i < length more)
+module _ (old more now : List (Name × SentForName)) (rises : T (is_sorted name_cmp more)) (i : ℕ) (d : Name × SentForName)
+  (lt : i < length more)
     (was : HasAdded old (take i more) now) (v : SentForName) where
   abbrev n : Name
   n = (get_or more i d).0

@@ -17,8 +17,8 @@ use Rattle.srm_net.specs.Paths.{round}
 use Rattle.srm_member.specs.declared.told.Told.{Told}
 use Rattle.srm_member.specs.declared.row.Word.{Word}
 use Rattle.srm_member.specs.declared.row.About.{About}
-use Rattle.srm_report.specs.declared.line.Line.{Line}
-use Rattle.srm_report.specs.declared.mended_loss.MendedLoss.{MendedLoss}
+use Rattle.srm_report.specs.declared.listing.line.Line.{Line}
+use Rattle.srm_report.specs.declared.losses.mended_loss.MendedLoss.{MendedLoss}
 use Rattle.srm_report.specs.Lines.{line_text, line_written}
 use Rattle.srm_report.specs.Losses.{delay_of}
 use Rattle.srm_report.specs.Members.{role_word}

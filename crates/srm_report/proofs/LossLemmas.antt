@@ -14,8 +14,8 @@ use Rattle.srm_net.specs.Network.{Network}
 use Rattle.srm_member.specs.declared.row.Row.{Row}
 use Rattle.srm_member.specs.Orderly.{IsOrderly, IsAmong, LostIn, FixedIn, brought}
 use Rattle.srm_member.specs.Kinds.{is_fixed}
-use Rattle.srm_report.specs.declared.course.Course.{Course}
-use Rattle.srm_report.specs.declared.loss.Loss.{Loss}
+use Rattle.srm_report.specs.declared.losses.course.Course.{Course}
+use Rattle.srm_report.specs.declared.losses.loss.Loss.{Loss}
 use Rattle.srm_report.specs.Courses.{TellLosses, LoseInTurn, course_of, losing, name_fixed, detects, row_time}
 use Rattle.srm_report.specs.Losses.{loss_cmp, detected_at, recovered_at, loss_columns, loss_fields, loss_row, losses_table}
 use Rattle.srm_report.specs.Tables.{table_lines}

@@ -8,8 +8,8 @@ use Rattle.csv.specs.Writing.{default_writer, row_text}
 use Rattle.srm_scenario.specs.declared.parts.MemberSpec.{MemberSpec}
 use Rattle.srm_scenario.specs.Plain.{PlainScenario}
 use Rattle.srm_member.specs.declared.row.Row.{Row}
-use Rattle.srm_report.specs.declared.counts.Counts.{Counts}
-use Rattle.srm_report.specs.declared.member_count.MemberCount.{MemberCount}
+use Rattle.srm_report.specs.declared.members.counts.Counts.{Counts}
+use Rattle.srm_report.specs.declared.members.member_count.MemberCount.{MemberCount}
 use Rattle.srm_report.specs.MemberCounts.{AreCounts, counts_at}
 use Rattle.srm_report.specs.Members.{counts_of, member_columns, member_fields, member_rows, members_table}
 use Rattle.srm_report.specs.Tables.{table_lines}

@@ -20,7 +20,7 @@ use Rattle.srm_model.specs.SentForLost.{IsForLost}
 use Rattle.srm_model.proofs.OrderlyRuns.{traces_are_orderly}
 use Rattle.srm_model.proofs.SentForLost.{sendings_are_for_losses}
 use Rattle.srm_scenario.specs.Plain.{network_of}
-use Rattle.srm_report.specs.declared.loss.Loss.{Loss}
+use Rattle.srm_report.specs.declared.losses.loss.Loss.{Loss}
 use Rattle.srm_report.specs.Losses.{loss_cmp, losses_in}
 use Rattle.srm_report.specs.Members.{counts_of}
 use Rattle.srm_report.specs.OperationLaws.{AddUp, loses, SendingsAddUp}

@@ -4,7 +4,7 @@ use Rattle.std.proofs.Common.{append-nil, take-append-drop}
 use Rattle.std.proofs.lemmas.List.{map-append, take_more}
 use Rattle.srm_cell.specs.Crossings.{joined}
 use Rattle.srm_cell.proofs.RowPackets.{joined-append}
-use Rattle.srm_report.specs.declared.text_piece.TextPiece.{TextPiece}
+use Rattle.srm_report.specs.declared.listing.text_piece.TextPiece.{TextPiece}
 use Rattle.srm_report.specs.Pieces.{bytes_of, whole_text}
 
 pub pieces_append : (ps qs : List TextPiece) → whole_text (ps ++ qs) ≡ whole_text ps ++ whole_text qs

@@ -13,7 +13,7 @@ use Rattle.std.proofs.lemmas.List.FromFn.{length-range_with_len, get_or-range_wi
 use Rattle.std.proofs.lemmas.List.Kept.{AllPairs-from_increasing, Contains-dedup_nat}
 use Rattle.std.proofs.lemmas.List.Sorted.{searched, list_any-IsPermutation}
 use Rattle.std.proofs.lemmas.Map.Keys.{IsStrictlyIncreasing-dedup}
-use Rattle.srm_report.specs.declared.span.Span.{Span}
+use Rattle.srm_report.specs.declared.listing.span.Span.{Span}
 use Rattle.srm_report.specs.KeptLines.{AreTicksOf, IsWithin, times_in}
 use Rattle.srm_report.proofs.TickLemmas.{range_has, range_increases}
 

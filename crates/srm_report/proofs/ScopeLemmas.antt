@@ -41,8 +41,8 @@ use Rattle.srm_cell.specs.Crossings.{joined}
 use Rattle.srm_interfaces.specs.Watches.{KeepMembers}
 use Rattle.srm_model.specs.Laws.{by_member}
 use Rattle.srm_model.proofs.StandAlike.{listed_alike}
-use Rattle.srm_report.specs.declared.member_scopes.MemberScopes.{MemberScopes}
-use Rattle.srm_report.specs.declared.scope_entry.ScopeEntry.{ScopeEntry}
+use Rattle.srm_report.specs.declared.scopes.member_scopes.MemberScopes.{MemberScopes}
+use Rattle.srm_report.specs.declared.scopes.scope_entry.ScopeEntry.{ScopeEntry}
 use Rattle.srm_report.specs.KeptScopes.{count_in, HearMore, KeepsScopes}
 use Rattle.srm_report.specs.Scopes.{entry_about, entry_of, heard_in, hears, scope_columns, scope_fields}
 use Rattle.srm_report.specs.Scopes.{scopes_table}

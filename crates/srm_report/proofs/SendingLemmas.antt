@@ -18,7 +18,7 @@ use Rattle.srm_member.specs.declared.told.Told.TheVariants.{Sent}
 use Rattle.srm_member.specs.Kinds.{is_ask, is_answer, is_sent}
 use Rattle.srm_member.proofs.ByMemberLemmas.{same_of_alike}
 use Rattle.srm_member.proofs.TableChanges.{same_names}
-use Rattle.srm_report.specs.declared.sent_for_name.SentForName.{SentForName}
+use Rattle.srm_report.specs.declared.operations.sent_for_name.SentForName.{SentForName}
 use Rattle.srm_report.specs.Operations.{is_about, sending_of, sends_for, sooner}
 use Rattle.srm_report.specs.Rows.{is_name}
 use Rattle.srm_report.specs.Sendings.{repaired, requested, sending_in, TellSent, asked_in}
@@ -137,7 +137,8 @@ module _ (rows : List Row) (r : Row) (es : List (Name × SentForName)) (was : Te
           ∙ neither b) i) r.key.time (sending_of rows m)))
 
 -- a request was sent
-pub sent_request : (rows : List Row) (r : Row) (es : List (Name × SentForName)) → TellSent rows es → (n : Name) → r.cause ≡ Ask → r.told ≡ Sent
+pub sent_request : (rows : List Row) (r : Row) (es : List (Name × SentForName)) → TellSent rows es → (n : Name)
+  → r.cause ≡ Ask → r.told ≡ Sent
     → r.about ≡ Named n → TellSent (rows ++ r ∷ []) (put name_cmp n (requested r.key.time (sending_in es n)) es)
 sent_request rows r es was n cause sent about =
     sent_one rows r es was n (requested r.key.time (sending_in es n)) true false

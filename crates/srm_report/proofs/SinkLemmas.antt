@@ -8,14 +8,14 @@ use Rattle.srm_interfaces.specs.declared.sink.SinkFault.{SinkFault}
 use Rattle.srm_interfaces.specs.declared.sink.SinkFault.TheVariants as fault
 use Rattle.srm_interfaces.specs.declared.sink.Stage.TheVariants as stage
 use Rattle.srm_interfaces.specs.Sinks.{stage_after}
-use Rattle.srm_report.specs.declared.standing.Standing.{Standing}
-use Rattle.srm_report.specs.declared.listing_sink.ListingSink.{ListingSink}
+use Rattle.srm_report.specs.declared.listing.standing.Standing.{Standing}
+use Rattle.srm_report.specs.declared.listing.listing_sink.ListingSink.{ListingSink}
 use Rattle.srm_report.specs.Listings.{Form}
 use Rattle.srm_report.specs.Standings.{text_next, after_answer, TakesText}
 use Rattle.srm_report.specs.ListingSinks.{outlet_under, gathered_by, stage_at, written_by, PutsAll, PutsFront}
 use Rattle.srm_report.specs.ListingSinks.{PutsText, PutsRows, PutsPart, WritesThrough}
 use Rattle.srm_report.specs.SinkLaws.{all_more, front_more, front_longer}
-use Rattle.srm_report.specs.declared.text_piece.TextPiece.{TextPiece}
+use Rattle.srm_report.specs.declared.listing.text_piece.TextPiece.{TextPiece}
 use Rattle.srm_report.specs.Pieces.{bytes_of, whole_text}
 use Rattle.srm_report.proofs.PieceLemmas.{pieces_so_far, pieces_cut}
 

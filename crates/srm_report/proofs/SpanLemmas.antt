@@ -6,7 +6,7 @@ use Rattle.std.proofs.lemmas.Grind.{flat_map-append}
 use Rattle.srm_member.proofs.AllIn.{AllIn-append, AllIn-map, AllIn-places, AllIn-at_places}
 use Rattle.srm_interfaces.specs.Grouped.{all_in}
 use Rattle.srm_interfaces.proofs.GroupedLemmas.{all_in_more}
-use Rattle.srm_report.specs.declared.span.Span.{Span}
+use Rattle.srm_report.specs.declared.listing.span.Span.{Span}
 use Rattle.srm_report.specs.KeptLines.{IsWithin, IsWider, times_in}
 
 pub wider_more : (s t u : Span) → IsWider s t → IsWider t u → IsWider s u

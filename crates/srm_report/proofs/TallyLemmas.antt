@@ -18,11 +18,11 @@ use Rattle.srm_net.proofs.TotalOrders.{name_total}
 use Rattle.srm_member.specs.declared.row.Row.{Row}
 use Rattle.srm_member.specs.Orderly.{IsOrderly}
 use Rattle.srm_member.proofs.TableChanges.{same_names}
-use Rattle.srm_report.specs.declared.course.Course.{Course}
-use Rattle.srm_report.specs.declared.loss.Loss.{Loss}
-use Rattle.srm_report.specs.declared.mended_loss.MendedLoss.{MendedLoss}
-use Rattle.srm_report.specs.declared.sent_for_name.SentForName.{SentForName}
-use Rattle.srm_report.specs.declared.loss_tally.LossTally.{LossTally}
+use Rattle.srm_report.specs.declared.losses.course.Course.{Course}
+use Rattle.srm_report.specs.declared.losses.loss.Loss.{Loss}
+use Rattle.srm_report.specs.declared.losses.mended_loss.MendedLoss.{MendedLoss}
+use Rattle.srm_report.specs.declared.operations.sent_for_name.SentForName.{SentForName}
+use Rattle.srm_report.specs.declared.losses.loss_tally.LossTally.{LossTally}
 use Rattle.srm_report.specs.Courses.{TellLosses}
 use Rattle.srm_report.specs.Losses.{detected_at, loss_cmp, recovered_at, recovery_by}
 use Rattle.srm_report.specs.Operations.{each_once, has_left, is_open, last_told, later, losses_of}

@@ -1,6 +1,6 @@
 -- Texts, each a chain of parts.
 use Rattle.std.specs.Prelude.{ℕ, List, [], ◌∷◌, ◌++◌, ◌≤◌, ◌==◌, ⊤, cond, length, reverse}
-use Rattle.srm_report.specs.declared.chains.Link.{Link}
+use Rattle.srm_report.specs.declared.listing.chains.Link.{Link}
 
 -- the text of the chain that begins with link number `at`, from 1 on, of these links, which stand last first
 abbrev pub chain : List Link → ℕ → List ℕ

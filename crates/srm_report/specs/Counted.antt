@@ -1,6 +1,6 @@
 -- Counting rows one by one.
 use Rattle.std.specs.Prelude.{ℕ, ◌*◌, ◌^◌, ◌≤◌, Bool, Option, Some, None, cond}
-use Rattle.srm_report.specs.declared.counts.Counts.{Counts}
+use Rattle.srm_report.specs.declared.members.counts.Counts.{Counts}
 
 -- after n rows, each of which may have lost as many names as a list can have
 pub record IsAtMost (n : ℕ) (c : Counts) : Type 0 where

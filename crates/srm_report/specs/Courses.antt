@@ -10,8 +10,8 @@ use Rattle.srm_member.specs.declared.row.Row.{Row}
 use Rattle.srm_member.specs.Orderly.{brought, AreLostOnce, AreFixedAfterLoss}
 use Rattle.srm_member.specs.ByMember.{rows_of_member}
 use Rattle.srm_member.specs.Kinds.{is_fixed}
-use Rattle.srm_report.specs.declared.course.Course.{Course}
-use Rattle.srm_report.specs.declared.loss.Loss.{Loss}
+use Rattle.srm_report.specs.declared.losses.course.Course.{Course}
+use Rattle.srm_report.specs.declared.losses.loss.Loss.{Loss}
 use Rattle.srm_report.specs.Losses.{loss_cmp, losses_in, detected_at, recovered_at}
 use Rattle.srm_report.specs.Rows.{is_name}
 

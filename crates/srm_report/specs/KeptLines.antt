@@ -6,10 +6,10 @@ use Rattle.std.specs.List.Sorted.{IsStrictlyIncreasing}
 use Rattle.srm_member.specs.declared.row.Row.{Row}
 use Rattle.srm_interfaces.specs.InTurn.{KeepInTurn}
 use Rattle.srm_report.specs.Listings.{Form}
-use Rattle.srm_report.specs.declared.lines.LineEnd.{LineEnd}
-use Rattle.srm_report.specs.declared.span.Span.{Span}
-use Rattle.srm_report.specs.declared.ticks.Times.{Times}
-use Rattle.srm_report.specs.declared.ticks.Times.TheVariants as times
+use Rattle.srm_report.specs.declared.listing.lines.LineEnd.{LineEnd}
+use Rattle.srm_report.specs.declared.listing.span.Span.{Span}
+use Rattle.srm_report.specs.declared.listing.ticks.Times.{Times}
+use Rattle.srm_report.specs.declared.listing.ticks.Times.TheVariants as times
 
 -- the parts of a text which end there, from this place on, each with its tick
 unfoldable pub cut_from : ℕ → List ℕ → List LineEnd → List (ℕ × List ℕ)

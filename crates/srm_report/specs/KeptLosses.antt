@@ -1,7 +1,7 @@
 -- What is kept of the losses of one member.
 use Rattle.std.specs.Prelude.{List, ◌++◌}
 use Rattle.srm_member.specs.declared.row.Row.{Row}
-use Rattle.srm_report.specs.declared.member_losses.MemberLosses.{MemberLosses}
+use Rattle.srm_report.specs.declared.losses.member_losses.MemberLosses.{MemberLosses}
 use Rattle.srm_report.specs.Courses.{LoseInTurn, TellLosses}
 use Rattle.srm_report.specs.Taking.{TakesIn}
 

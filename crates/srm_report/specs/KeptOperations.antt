@@ -4,10 +4,10 @@ use Rattle.std.specs.List.{list_any}
 use Rattle.srm_member.specs.declared.row.Row.{Row}
 use Rattle.srm_member.specs.Kinds.{is_leave}
 use Rattle.srm_net.specs.declared.packet.Name.{Name}
-use Rattle.srm_report.specs.declared.course.Course.{Course}
-use Rattle.srm_report.specs.declared.loss.Loss.{Loss}
-use Rattle.srm_report.specs.declared.member_operations.MemberOperations.{MemberOperations}
-use Rattle.srm_report.specs.declared.sent_for_name.SentForName.{SentForName}
+use Rattle.srm_report.specs.declared.losses.course.Course.{Course}
+use Rattle.srm_report.specs.declared.losses.loss.Loss.{Loss}
+use Rattle.srm_report.specs.declared.operations.member_operations.MemberOperations.{MemberOperations}
+use Rattle.srm_report.specs.declared.operations.sent_for_name.SentForName.{SentForName}
 use Rattle.srm_report.specs.Courses.{LoseInTurn, TellLosses}
 use Rattle.srm_report.specs.Sendings.{TellLeft, TellSent}
 use Rattle.srm_report.specs.Taking.{TakesIn}

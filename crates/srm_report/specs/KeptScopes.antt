@@ -6,7 +6,7 @@ use Rattle.std.specs.FinMap.Entries.{find}
 use Rattle.srm_net.specs.declared.packet.PacketId.{PacketId}
 use Rattle.srm_net.specs.Names.{id_cmp}
 use Rattle.srm_member.specs.declared.row.Row.{Row}
-use Rattle.srm_report.specs.declared.member_scopes.MemberScopes.{MemberScopes}
+use Rattle.srm_report.specs.declared.scopes.member_scopes.MemberScopes.{MemberScopes}
 use Rattle.srm_report.specs.Scopes.{heard_in, entry_of}
 use Rattle.srm_report.specs.Taking.{TakesIn}
 use Rattle.std.specs.Ordering.{eq_by_cmp}

@@ -1,7 +1,7 @@
 -- Lines of a CSV text in memory.
 use Rattle.std.specs.Prelude.{ℕ, ◌+◌, ◌-◌, List, drop}
-use Rattle.srm_report.specs.declared.line.Line.{Line}
-use Rattle.srm_report.specs.declared.line.TheConstants.{SIZE}
+use Rattle.srm_report.specs.declared.listing.line.Line.{Line}
+use Rattle.srm_report.specs.declared.listing.line.TheConstants.{SIZE}
 
 -- how many bytes fit before a line's line feed
 abbrev pub full_room : ℕ

@@ -6,9 +6,9 @@ use Rattle.srm_interfaces.specs.declared.sink.SinkFault.{SinkFault}
 use Rattle.srm_interfaces.specs.declared.sink.SinkFault.TheVariants as fault
 use Rattle.srm_interfaces.specs.declared.sink.Stage.{Stage}
 use Rattle.srm_interfaces.specs.declared.sink.Stage.TheVariants as stage
-use Rattle.srm_report.specs.declared.standing.Standing.{Standing}
-use Rattle.srm_report.specs.declared.standing.Standing.TheVariants.{Fresh, Live, NoMemory, Stopped}
-use Rattle.srm_report.specs.declared.listing_sink.ListingSink.{ListingSink}
+use Rattle.srm_report.specs.declared.listing.standing.Standing.{Standing}
+use Rattle.srm_report.specs.declared.listing.standing.Standing.TheVariants.{Fresh, Live, NoMemory, Stopped}
+use Rattle.srm_report.specs.declared.listing.listing_sink.ListingSink.{ListingSink}
 use Rattle.srm_report.specs.declared.writing.WriteFault.{WriteFault}
 use Rattle.srm_report.specs.Listings.{Form}
 use Rattle.srm_report.specs.Standings.{GrewBy, IsText, text_next}

@@ -11,8 +11,8 @@ use Rattle.srm_net.specs.Paths.{round}
 use Rattle.srm_member.specs.declared.row.Row.{Row}
 use Rattle.srm_member.specs.Orderly.{brought}
 use Rattle.srm_member.specs.Kinds.{is_fixed}
-use Rattle.srm_report.specs.declared.loss.Loss.{Loss}
-use Rattle.srm_report.specs.declared.mended_loss.MendedLoss.{MendedLoss}
+use Rattle.srm_report.specs.declared.losses.loss.Loss.{Loss}
+use Rattle.srm_report.specs.declared.losses.mended_loss.MendedLoss.{MendedLoss}
 use Rattle.srm_report.specs.Rows.{is_name, or_dash, time_of_first}
 use Rattle.srm_report.specs.Tables.{table_lines}
 

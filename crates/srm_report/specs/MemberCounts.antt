@@ -2,8 +2,8 @@
 use Rattle.std.specs.Prelude.{◌≡◌, ◌<◌, ℕ, List, [], map, slice_index_or}
 use Rattle.srm_member.specs.declared.row.Row.{Row}
 use Rattle.srm_member.specs.ByMember.{rows_of_member}
-use Rattle.srm_report.specs.declared.counts.Counts.{Counts}
-use Rattle.srm_report.specs.declared.member_count.MemberCount.{MemberCount}
+use Rattle.srm_report.specs.declared.members.counts.Counts.{Counts}
+use Rattle.srm_report.specs.declared.members.member_count.MemberCount.{MemberCount}
 use Rattle.srm_report.specs.Members.{counts_of}
 use Rattle.srm_report.specs.Taking.{TakesIn}
 

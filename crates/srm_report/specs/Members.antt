@@ -8,7 +8,7 @@ use Rattle.srm_scenario.specs.declared.parts.MemberSpec.{MemberSpec}
 use Rattle.srm_scenario.specs.Plain.{PlainScenario}
 use Rattle.srm_member.specs.declared.row.Row.{Row}
 use Rattle.srm_member.specs.Kinds.{is_join, is_leave, is_draw, is_ask, is_answer, is_report, is_arrival, is_fixed}
-use Rattle.srm_report.specs.declared.counts.Counts.{Counts}
+use Rattle.srm_report.specs.declared.members.counts.Counts.{Counts}
 use Rattle.srm_report.specs.Rows.{or_dash, sent_rows, time_of_first}
 use Rattle.srm_report.specs.Tables.{table_lines}
 

@@ -12,10 +12,10 @@ use Rattle.srm_member.specs.declared.row.About.TheVariants.{Nothing, Of, Named}
 use Rattle.srm_member.specs.declared.row.Row.{Row}
 use Rattle.srm_member.specs.declared.row.Word.{Word}
 use Rattle.srm_member.specs.Kinds.{is_ask, is_answer, is_leave, is_sent}
-use Rattle.srm_report.specs.declared.loss.Loss.{Loss}
-use Rattle.srm_report.specs.declared.mended_loss.MendedLoss.{MendedLoss}
-use Rattle.srm_report.specs.declared.sent_for_name.SentForName.{SentForName}
-use Rattle.srm_report.specs.declared.loss_tally.LossTally.{LossTally}
+use Rattle.srm_report.specs.declared.losses.loss.Loss.{Loss}
+use Rattle.srm_report.specs.declared.losses.mended_loss.MendedLoss.{MendedLoss}
+use Rattle.srm_report.specs.declared.operations.sent_for_name.SentForName.{SentForName}
+use Rattle.srm_report.specs.declared.losses.loss_tally.LossTally.{LossTally}
 use Rattle.srm_report.specs.Losses.{loss_cmp, losses_in, detected_at, recovered_at, recovery_by, delay_of}
 use Rattle.srm_report.specs.Rows.{is_name, or_dash}
 use Rattle.srm_report.specs.Tables.{table_lines}

@@ -1,8 +1,8 @@
 -- A text in pieces.
 use Rattle.std.specs.Prelude.{ℕ, List, map}
 use Rattle.srm_cell.specs.Crossings.{joined}
-use Rattle.srm_report.specs.declared.text_piece.TextPiece.{TextPiece}
-use Rattle.srm_report.specs.declared.text_piece.TextPiece.TheVariants.{Own, Part}
+use Rattle.srm_report.specs.declared.listing.text_piece.TextPiece.{TextPiece}
+use Rattle.srm_report.specs.declared.listing.text_piece.TextPiece.TheVariants.{Own, Part}
 
 -- the bytes of a piece
 abbrev pub bytes_of : TextPiece → List ℕ

@@ -14,7 +14,7 @@ use Rattle.srm_member.specs.declared.row.About.{About}
 use Rattle.srm_member.specs.declared.row.About.TheVariants.{Nothing, Of, Named}
 use Rattle.srm_member.specs.declared.row.Row.{Row}
 use Rattle.srm_member.specs.Kinds.{is_ask, is_answer, is_sent}
-use Rattle.srm_report.specs.declared.scope_entry.ScopeEntry.{ScopeEntry}
+use Rattle.srm_report.specs.declared.scopes.scope_entry.ScopeEntry.{ScopeEntry}
 use Rattle.srm_report.specs.Rows.{or_dash}
 use Rattle.srm_report.specs.Tables.{table_lines}
 use Rattle.srm_report.specs.Trace.{cause_word, name_text, packet_text}

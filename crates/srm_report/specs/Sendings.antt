@@ -6,7 +6,7 @@ use Rattle.srm_net.specs.declared.packet.Name.{Name}
 use Rattle.srm_net.specs.Names.{name_cmp}
 use Rattle.srm_member.specs.declared.row.Row.{Row}
 use Rattle.srm_member.specs.Kinds.{is_ask}
-use Rattle.srm_report.specs.declared.sent_for_name.SentForName.{SentForName}
+use Rattle.srm_report.specs.declared.operations.sent_for_name.SentForName.{SentForName}
 use Rattle.srm_report.specs.Operations.{has_left, sending_of, sends_for, sooner}
 
 -- when a request for the name was sent, if this row tells of one

@@ -5,9 +5,9 @@ use Rattle.std.proofs.KnownBytes.{Appends-nil, Appends-trans}
 use Rattle.std.proofs.Math.Nat.{add-zero, min-eq_left, min-eq_right, min-le_right}
 use Rattle.std.proofs.lemmas.Grind.{flat_map-append}
 use Rattle.srm_member.specs.declared.row.Row.{Row}
-use Rattle.srm_report.specs.declared.standing.Standing.{Standing}
-use Rattle.srm_report.specs.declared.standing.Standing.TheVariants.{Fresh, Live, NoMemory, Stopped}
-use Rattle.srm_report.specs.declared.listing_sink.ListingSink.{ListingSink}
+use Rattle.srm_report.specs.declared.listing.standing.Standing.{Standing}
+use Rattle.srm_report.specs.declared.listing.standing.Standing.TheVariants.{Fresh, Live, NoMemory, Stopped}
+use Rattle.srm_report.specs.declared.listing.listing_sink.ListingSink.{ListingSink}
 use Rattle.srm_report.specs.Listings.{Form, lines_in}
 use Rattle.srm_report.specs.Standings.{lead, text_next, IsText, GrewBy}
 use Rattle.srm_report.specs.ListingSinks.{outlet_under, gathered_by, written_by, Wrote}

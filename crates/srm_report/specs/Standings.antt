@@ -4,8 +4,8 @@ use Rattle.std.specs.Io.KnownBytes.{Appends}
 use Rattle.srm_member.specs.declared.row.Row.{Row}
 use Rattle.srm_interfaces.specs.declared.sink.SinkFault.{SinkFault}
 use Rattle.srm_interfaces.specs.declared.sink.SinkFault.TheVariants as fault
-use Rattle.srm_report.specs.declared.standing.Standing.{Standing}
-use Rattle.srm_report.specs.declared.standing.Standing.TheVariants.{Fresh, Live, NoMemory, Stopped}
+use Rattle.srm_report.specs.declared.listing.standing.Standing.{Standing}
+use Rattle.srm_report.specs.declared.listing.standing.Standing.TheVariants.{Fresh, Live, NoMemory, Stopped}
 use Rattle.srm_report.specs.Listings.{Form, lines_in}
 
 -- ---- text

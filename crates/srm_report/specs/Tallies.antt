@@ -7,10 +7,10 @@ use Rattle.srm_net.specs.declared.packet.Name.{Name}
 use Rattle.srm_net.specs.Names.{name_cmp}
 use Rattle.srm_net.specs.Orders.{ordered}
 use Rattle.srm_member.specs.declared.row.Row.{Row}
-use Rattle.srm_report.specs.declared.course.Course.{Course}
-use Rattle.srm_report.specs.declared.loss.Loss.{Loss}
-use Rattle.srm_report.specs.declared.loss_tally.LossTally.{LossTally}
-use Rattle.srm_report.specs.declared.mended_loss.MendedLoss.{MendedLoss}
+use Rattle.srm_report.specs.declared.losses.course.Course.{Course}
+use Rattle.srm_report.specs.declared.losses.loss.Loss.{Loss}
+use Rattle.srm_report.specs.declared.losses.loss_tally.LossTally.{LossTally}
+use Rattle.srm_report.specs.declared.losses.mended_loss.MendedLoss.{MendedLoss}
 use Rattle.srm_report.specs.Losses.{detected_at, loss_cmp, losses_in, recovered_at, recovery_by}
 use Rattle.srm_report.specs.Operations.{each_once, has_left, later, sooner, tally_of}
 use Rattle.srm_report.specs.Rows.{is_name}

@@ -1,4 +1,6 @@
 //! The table of links as CSV.
+pub mod keep_nothing;
+
 ghost use Rattle.std.specs.Prelude.{◌≡◌, ◌++◌, ℕ, List, IfOk, OnOk, slice_index};
 ghost use Rattle.csv.specs.Writing.{default_writer, row_text};
 ghost use Rattle.srm_ledger.specs.Counts.{place_of};
@@ -6,7 +8,7 @@ ghost use Rattle.srm_report.specs.Links.{link_fields, links_table};
 ghost use Rattle.srm_report.specs.Records.{HasText};
 
 use crate::fault::ReportFault;
-use crate::field::Field;
+use crate::records::field::Field;
 use crate::records::{put_record, text_of, writer_behind};
 use csv::Writer;
 use srm_ledger::kind::Kind;

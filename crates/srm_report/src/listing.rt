@@ -1,4 +1,19 @@
 //! Tables that list rows.
+mod chains;
+mod fields;
+mod in_order;
+pub mod keep_lines;
+mod line;
+pub mod lines;
+pub mod listing_sink;
+mod pieces;
+mod span;
+mod standing;
+mod text_piece;
+mod ticks;
+pub mod timers;
+pub mod trace;
+
 ghost use Rattle.std.specs.Prelude.{◌≡◌, ◌++◌, is_ok, IfOk, if◌then◌else◌};
 ghost use Rattle.srm_report.specs.Listings.{Form, lines_in, text_in};
 

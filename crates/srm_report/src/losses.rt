@@ -1,4 +1,15 @@
 //! The table of losses as CSV.
+pub(crate) mod by_loss;
+pub(crate) mod course;
+pub(crate) mod courses;
+pub mod find_losses;
+pub(crate) mod loss;
+pub(crate) mod loss_lines;
+pub(crate) mod loss_tally;
+pub mod member_losses;
+pub(crate) mod mended_loss;
+pub(crate) mod tallies;
+
 ghost use Rattle.std.specs.Prelude.{◌≡◌, ◌≤◌, List, IfOk, length};
 ghost use Rattle.srm_interfaces.specs.Watches.{KeepMembers};
 ghost use Rattle.srm_member.specs.declared.row.Row.{Row as R};
@@ -7,9 +18,9 @@ ghost use Rattle.srm_report.specs.KeptLosses.{KeepsLosses};
 ghost use Rattle.srm_report.specs.Losses.{losses_table};
 
 use crate::fault::ReportFault;
-use crate::find_losses::FindLosses;
-use crate::loss_lines::table_text;
-use crate::member_losses::MemberLosses;
+use crate::losses::find_losses::FindLosses;
+use crate::losses::loss_lines::table_text;
+use crate::losses::member_losses::MemberLosses;
 use srm_interfaces::keeping::kept_of;
 use srm_member::row::Row;
 use srm_net::net::Net;

@@ -1,14 +1,19 @@
 //! The table of members as CSV.
+pub mod count_rows;
+mod counts;
+pub mod member_count;
+mod member_lines;
+
 ghost use Rattle.std.specs.Prelude.{◌≡◌, ◌≤◌, List, length, IfOk};
 ghost use Rattle.srm_interfaces.specs.Watches.{KeepMembers};
 ghost use Rattle.srm_member.specs.declared.row.Row.{Row as R};
 ghost use Rattle.srm_report.specs.MemberCounts.{IsCountOf};
 ghost use Rattle.srm_report.specs.Members.{members_table};
 
-use crate::count_rows::CountRows;
 use crate::fault::ReportFault;
-use crate::member_count::MemberCount;
-use crate::member_lines::table_text;
+use crate::members::count_rows::CountRows;
+use crate::members::member_count::MemberCount;
+use crate::members::member_lines::table_text;
 use srm_interfaces::keeping::kept_of;
 use srm_member::row::Row;
 use srm_scenario::scenario::Scenario;

@@ -1,4 +1,11 @@
 //! The table of operations as CSV.
+pub mod find_operations;
+pub mod laws_of_operations;
+pub mod member_operations;
+mod operation_lines;
+pub(crate) mod sendings;
+mod sent_for_name;
+
 ghost use Rattle.std.specs.Prelude.{◌≡◌, ◌≤◌, List, IfOk, length};
 ghost use Rattle.srm_interfaces.specs.Watches.{KeepMembers};
 ghost use Rattle.srm_member.specs.declared.row.Row.{Row as R};
@@ -7,10 +14,10 @@ ghost use Rattle.srm_report.specs.KeptOperations.{KeepsOperations};
 ghost use Rattle.srm_report.specs.Operations.{operations_table};
 
 use crate::fault::ReportFault;
-use crate::find_operations::FindOperations;
-use crate::member_operations::MemberOperations;
-use crate::operation_lines::found_text;
-use crate::sendings::add_sent;
+use crate::operations::find_operations::FindOperations;
+use crate::operations::member_operations::MemberOperations;
+use crate::operations::operation_lines::found_text;
+use crate::operations::sendings::add_sent;
 use srm_interfaces::keeping::kept_of;
 use srm_member::named::Named;
 use srm_member::row::Row;

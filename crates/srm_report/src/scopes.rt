@@ -1,4 +1,10 @@
 //! The table of scopes as CSV.
+pub mod find_scopes;
+mod heard_counts;
+pub mod member_scopes;
+pub mod scope_entry;
+mod scope_lines;
+
 ghost use Rattle.std.specs.Prelude.{◌≡◌, ◌≤◌, ℕ, List, IfOk, length};
 ghost use Rattle.srm_interfaces.specs.Watches.{KeepMembers};
 ghost use Rattle.srm_member.specs.declared.row.Row.{Row as R};
@@ -7,9 +13,9 @@ ghost use Rattle.srm_report.specs.KeptScopes.{KeepsScopes};
 ghost use Rattle.srm_report.specs.Scopes.{scopes_table};
 
 use crate::fault::ReportFault;
-use crate::heard_counts::HeardCounts;
-use crate::member_scopes::MemberScopes;
-use crate::scope_lines::table_text;
+use crate::scopes::heard_counts::HeardCounts;
+use crate::scopes::member_scopes::MemberScopes;
+use crate::scopes::scope_lines::table_text;
 use srm_member::row::Row;
 use std::alloc::{AllocError, Global};
 
@@ -53,7 +59,7 @@ fn scopes_of(alloc: Global, rows: &[Row]) -> Result<MemberScopes, AllocError>
     Ok(all)
 }
 
-/// The same of orderly rows, as those of every run are, from what [`FindScopes`](crate::find_scopes::FindScopes) kept of each
+/// The same of orderly rows, as those of every run are, from what [`FindScopes`](crate::scopes::find_scopes::FindScopes) kept of each
 /// member's rows.
 ///
 /// # Errors

@@ -1,7 +1,7 @@
 use Rattle.std.proofs.Common.{◌≡◌, ◌∙◌, ◌++◌, ◌<◌, List, length, sym, arith}
-use Rattle.srm_report.specs.declared.course.Course.{Course}
-use Rattle.srm_report.specs.declared.loss.Loss.{Loss}
-use Rattle.srm_report.specs.declared.member_losses.MemberLosses.{MemberLosses}
+use Rattle.srm_report.specs.declared.losses.course.Course.{Course}
+use Rattle.srm_report.specs.declared.losses.loss.Loss.{Loss}
+use Rattle.srm_report.specs.declared.losses.member_losses.MemberLosses.{MemberLosses}
 use Rattle.srm_report.proofs.KeptLossLemmas.{entries_more, kept_losses}
 use Rattle.srm_report.proofs.losses.losses_kept.Goals as goal
 

@@ -1,5 +1,5 @@
 use Rattle.std.proofs.Common.{◌≡◌, take}
-use Rattle.srm_report.specs.declared.member_losses.MemberLosses.{MemberLosses}
+use Rattle.srm_report.specs.declared.losses.member_losses.MemberLosses.{MemberLosses}
 use Rattle.srm_report.proofs.KeptLossLemmas.{entries_of}
 use Rattle.srm_report.proofs.losses.losses_kept.Given as goal
 

@@ -1,6 +1,6 @@
 use Rattle.std.proofs.Common.{◌≡◌, ◌∙◌, ◌++◌, ◌<◌, ◌∷◌, [], length, map, take, ap, sym, arith}
 use Rattle.std.proofs.lemmas.List.{map-append, take_more}
-use Rattle.srm_report.specs.declared.member_operations.MemberOperations.{MemberOperations}
+use Rattle.srm_report.specs.declared.operations.member_operations.MemberOperations.{MemberOperations}
 use Rattle.srm_report.proofs.KeptLossLemmas.{entries_more}
 use Rattle.srm_report.proofs.KeptOperationLemmas.{kept_operations, sent_more}
 use Rattle.srm_report.proofs.operations.operations_kept.Goals as goal

@@ -1,5 +1,5 @@
 use Rattle.std.proofs.Common.{◌≡◌, map, take}
-use Rattle.srm_report.specs.declared.member_operations.MemberOperations.{MemberOperations}
+use Rattle.srm_report.specs.declared.operations.member_operations.MemberOperations.{MemberOperations}
 use Rattle.srm_report.proofs.KeptLossLemmas.{entries_of}
 use Rattle.srm_report.proofs.KeptOperationLemmas.{SentOf}
 use Rattle.srm_report.proofs.operations.operations_kept.Given as goal

@@ -3,8 +3,8 @@ use Rattle.std.specs.Result.{IfOk}
 use Rattle.std.proofs.lemmas.List.{take_all}
 use Rattle.std.proofs.lemmas.List.Sorted.{answers_always}
 use Rattle.srm_net.specs.declared.key.Key.{Key}
-use Rattle.srm_report.specs.declared.member_scopes.MemberScopes.{MemberScopes}
-use Rattle.srm_report.specs.declared.scope_entry.ScopeEntry.{ScopeEntry}
+use Rattle.srm_report.specs.declared.scopes.member_scopes.MemberScopes.{MemberScopes}
+use Rattle.srm_report.specs.declared.scopes.scope_entry.ScopeEntry.{ScopeEntry}
 use Rattle.srm_report.specs.KeptScopes.{HearMore}
 use Rattle.srm_report.proofs.ScopeLemmas.{hear_more, hear_none, heard_of, kept_entries, kept_heard, one_more, sent_of, table_of}
 use Rattle.srm_report.proofs.scopes.scopes_kept.Goals as goal

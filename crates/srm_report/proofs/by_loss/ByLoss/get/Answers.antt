@@ -1,5 +1,0 @@
-use Rattle.srm_report.proofs.Compare.{loss_find}
-use Rattle.srm_report.proofs.by_loss.ByLoss.get.Goals as goal
-
-pub returns : goal.returns
-returns g c = simp loss_find (cc)

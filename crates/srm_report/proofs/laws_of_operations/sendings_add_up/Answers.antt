@@ -1,5 +1,0 @@
-use Rattle.srm_report.proofs.OperationSums.{sendings_add_up}
-use Rattle.srm_report.proofs.laws_of_operations.sendings_add_up.Goals as goal
-
-pub returns : goal.returns
-returns c = sendings_add_up

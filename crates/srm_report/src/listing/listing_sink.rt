@@ -1,0 +1,400 @@
+//! A table that lists rows, written as they come.
+ghost use Rattle.std.specs.Prelude.{◌≡◌, ◌<◌, ◌+◌, ◌-◌, ◌^◌, ◌≤◌, ◌==◌, ◌||◌, List, [], false, true, is_ok, not, if◌then◌else◌, length, IfOk};
+ghost use Rattle.srm_member.specs.declared.row.Row.{Row as R};
+ghost use Rattle.srm_interfaces.specs.Grouped.{all_in, sizes};
+ghost use Rattle.srm_report.specs.KeptLines.{AreLinesOf};
+ghost use Rattle.srm_report.specs.Pieces.{whole_text};
+ghost use Rattle.srm_report.specs.Standings.{text_next, after_answer, TakesText};
+
+use crate::fault::ReportFault;
+use crate::listing::Listing;
+use crate::listing::in_order::put_in_order;
+use crate::listing::lines::Lines;
+use crate::listing::standing::Standing;
+use crate::listing::text_piece::TextPiece;
+use crate::outlet::{OutFault, Outlet};
+use crate::writing::{WriteFault, write_out};
+use srm_interfaces::kept_sink::KeptSink;
+use srm_interfaces::sink::{RowSink, SinkFault};
+use srm_member::row::Row;
+use std::alloc::Global;
+
+/// Writes a table that lists rows, such as a trace, to an outlet as the rows come, with the header before the first of them. Short
+/// pieces may be gathered before they are written, but not the header and the first rows, so that a long run is seen to go. `flush`
+/// writes what is left at the end.
+#[derive(Drop)]
+pub struct ListingSink<'a, L, O> {
+    // Which table.
+    listing: L,
+    outlet: &'a mut O,
+    // What is still to be written, and how long that may be.
+    gathered: Vec<u8>,
+    room: usize,
+    // Whether it was given rows: the first of them are not gathered.
+    has_begun: bool,
+    // How many bytes the outlet took, up to 2^64 - 1.
+    written: u64,
+    standing: Standing,
+    // No more is gathered than there is room for.
+    pub ghost within: { length gathered.items ≤ room },
+}
+
+// The text of the rows that a sink takes next.
+fn text_of<L: Listing>(
+    alloc: Global,
+    standing: Standing,
+    rows: &[Row],
+) -> Result<Vec<u8>, ReportFault>
+    ensures { IfOk result (λ text. text.items ≡ text_next L.form standing rows.now) }
+{
+    match standing {
+        Standing::Fresh => L::text(alloc, rows),
+        Standing::Live | Standing::NoMemory | Standing::Stopped => L::lines(alloc, rows),
+    }
+}
+
+// The same in pieces, of rows of which these are the lines of all members. A header is a piece of its own.
+fn pieces_of_lines<'a, L: Listing>(
+    alloc: Global,
+    standing: Standing,
+    groups: &'a [Vec<Lines>],
+) -> Result<Vec<TextPiece<'a>>, ReportFault>
+    ensures { (rows : List R) → AreLinesOf L.form rows (all_in groups.now)
+        → IfOk result (λ pieces. whole_text pieces.items ≡ text_next L.form standing rows) }
+{
+    let mut pieces = put_in_order(alloc, groups)?.into_pieces()?;
+    match standing {
+        Standing::Fresh => {
+            let text = L::text(alloc, &[])?;
+            match pieces.insert(0, TextPiece::Own { text }) {
+                Ok(()) => Ok(pieces),
+                Err(_) => Err(ReportFault::NoMemory),
+            }
+        }
+        Standing::Live | Standing::NoMemory | Standing::Stopped => Ok(pieces),
+    }
+}
+
+// Where a sink stands after this answer.
+fn standing_after(answer: &Result<(), SinkFault>) -> Standing
+    ensures { result ≡ after_answer answer.now }
+{
+    match answer {
+        Ok(()) => Standing::Live,
+        Err(SinkFault::NoMemory) => Standing::NoMemory,
+        Err(SinkFault::Stopped { .. }) => Standing::Stopped,
+    }
+}
+
+// Writes a text, and counts the bytes of it that were taken.
+fn write<O: Outlet>(outlet: &mut O, written: &mut u64, text: &[u8]) -> Result<(), OutFault>
+    requires { O.failures outlet.old < 2 ^ 64 - 1 }
+    ensures failures { O.failures outlet.new
+        ≡ (if is_ok result then O.failures outlet.old else O.failures outlet.old + 1) }
+    ensures taken { TakesText O.taken outlet.old written.old text.now result outlet.new written.new }
+{
+    match write_out(outlet, text) {
+        Ok(()) => {
+            *written = written.saturating_add(text.len() as u64);
+            Ok(())
+        }
+        Err(fault) => {
+            *written = written.saturating_add(fault.written);
+            Err(OutFault)
+        }
+    }
+}
+
+impl<'a, L: Listing, O: Outlet> ListingSink<'a, L, O> {
+    ghost use Rattle.srm_interfaces.specs.declared.sink.Stage.{Stage as AStage};
+    ghost use Rattle.std.specs.Prelude.{MatchResult};
+    ghost use Rattle.srm_interfaces.specs.Sinks.{IsOpen, stage_after, stops_in};
+    ghost use Rattle.srm_report.specs.ListingSinks.{stage_at, stage_of, standing_of, has_begun, outlet_under, gathered_by, gathering_room, written_by, AreOverOne, StandsAsBefore, Gathers, PutsPart, PutsRows, PutsText, LeavesOutlet, WritesGathered, WritesThrough, Flushes};
+
+    /// A sink of this table over this outlet, which took no rows yet. It writes each piece of the table as it comes. It does not
+    /// allocate.
+    pub fn over(alloc: Global, listing: L, outlet: &'a mut O) -> Self
+        ensures outlet { result.outlet.ghost_name ≡ outlet.entry.ghost_name }
+        ensures same { outlet_under result ≡ outlet.old }
+        ensures stage { stage_of result ≡ AStage.Fresh }
+        ensures gathered { gathered_by result ≡ [] }
+        ensures room { gathering_room result ≡ 0 }
+        ensures written { written_by result ≡ 0 }
+        ensures begun { has_begun result ≡ false }
+    {
+        ListingSink::gathering(alloc, listing, outlet, 0)
+    }
+
+    /// The same, but once the first rows are written up to so many bytes are gathered before they are written.
+    pub fn gathering(alloc: Global, listing: L, outlet: &'a mut O, room: usize) -> Self
+        ensures outlet { result.outlet.ghost_name ≡ outlet.entry.ghost_name }
+        ensures same { outlet_under result ≡ outlet.old }
+        ensures stage { stage_of result ≡ AStage.Fresh }
+        ensures gathered { gathered_by result ≡ [] }
+        ensures room { gathering_room result ≡ room }
+        ensures written { written_by result ≡ 0 }
+        ensures begun { has_begun result ≡ false }
+    {
+        ListingSink {
+            listing,
+            outlet,
+            gathered: Vec::new(alloc),
+            room,
+            has_begun: false,
+            written: 0,
+            standing: Standing::Fresh,
+        }
+    }
+
+    /// Writes what is gathered.
+    ///
+    /// # Errors
+    /// `WriteFault` exactly where the outlet failed in the call. The outlet has then taken a prefix of what was gathered, and its
+    /// count of failures is one higher. The fault says how many bytes it took by this sink in all, up to 2^64 - 1. The sink
+    /// stands refused, and may not be asked again.
+    pub fn flush(&mut self) -> Result<(), WriteFault>
+        requires open { IsOpen (stage_of self.old) }
+        requires failures { O.failures (outlet_under self.old) < 2 ^ 64 - 1 }
+        ensures outlet { AreOverOne self.old self.new }
+        ensures failures { O.failures (outlet_under self.new)
+            ≡ (if is_ok result then O.failures (outlet_under self.old) else O.failures (outlet_under self.old) + 1) }
+        ensures flushed { Flushes O.taken self.old result self.new }
+        ensures begun { has_begun self.new ≡ has_begun self.old }
+    {
+        match self.write_gathered() {
+            Ok(()) => Ok(()),
+            Err(OutFault) => {
+                self.standing = Standing::Stopped;
+                let written = self.written;
+                Err(WriteFault { written })
+            }
+        }
+    }
+
+    /// The outlet under the sink. What is still gathered is not written.
+    pub fn into_outlet(self) -> &'a mut O
+        ensures same_reference { result.ghost_name ≡ self.entry.outlet.ghost_name }
+        ensures outlet { result.now ≡ outlet_under self.entry }
+    {
+        let ListingSink { outlet, .. } = self;
+        outlet
+    }
+
+    // Writes what is gathered.
+    fn write_gathered(&mut self) -> Result<(), OutFault>
+        requires failures { O.failures (outlet_under self.old) < 2 ^ 64 - 1 }
+        ensures outlet { AreOverOne self.old self.new }
+        ensures standing { StandsAsBefore self.old self.new }
+        ensures failures { O.failures (outlet_under self.new)
+            ≡ (if is_ok result then O.failures (outlet_under self.old) else O.failures (outlet_under self.old) + 1) }
+        ensures written { WritesGathered O.taken self.old result self.new }
+    {
+        write(self.outlet, &mut self.written, self.gathered.as_slice())?;
+        self.gathered.clear();
+        Ok(())
+    }
+
+    // Puts the text of the rows that come next.
+    fn put_rows(&mut self, alloc: Global, rows: Vec<Row>) -> Result<(), SinkFault>
+        requires failures { O.failures (outlet_under self.old) < 2 ^ 64 - 1 }
+        ensures outlet { AreOverOne self.old self.new }
+        ensures standing { StandsAsBefore self.old self.new }
+        ensures failures { O.failures (outlet_under self.new) ≡ O.failures (outlet_under self.old) + stops_in result }
+        ensures text { PutsText O.taken self.old (text_next L.form (standing_of self.old) rows.items) result self.new }
+        ensures left { LeavesOutlet self.old result self.new }
+        ensures gathered { IfOk result (λ _. Gathers self.old (text_next L.form (standing_of self.old) rows.items) self.new) }
+    {
+        match text_of::<L>(alloc, self.standing, rows.as_slice()) {
+            Ok(text) => self.put(text.as_slice()),
+            Err(ReportFault::NoMemory) => Err(SinkFault::NoMemory),
+        }
+    }
+
+    // The same of rows of which these are the lines of all members.
+    fn put_lines(&mut self, alloc: Global, groups: &[Vec<Lines>]) -> Result<(), SinkFault>
+        requires failures { O.failures (outlet_under self.old) < 2 ^ 64 - 1 }
+        ensures outlet { AreOverOne self.old self.new }
+        ensures standing { StandsAsBefore self.old self.new }
+        ensures failures { O.failures (outlet_under self.new) ≡ O.failures (outlet_under self.old) + stops_in result }
+        ensures text { (rows : List R) → AreLinesOf L.form rows (all_in groups.now)
+            → PutsText O.taken self.old (text_next L.form (standing_of self.old) rows) result self.new }
+        ensures told { stage_at (after_answer result) (written_by self.new) ≡ stage_after result }
+        ensures left { LeavesOutlet self.old result self.new }
+        ensures gathered { (rows : List R) → AreLinesOf L.form rows (all_in groups.now)
+            → IfOk result (λ _. Gathers self.old (text_next L.form (standing_of self.old) rows) self.new) }
+    {
+        match pieces_of_lines::<L>(alloc, self.standing, groups) {
+            Ok(pieces) => self.put_pieces(pieces.as_slice()),
+            Err(ReportFault::NoMemory) => Err(SinkFault::NoMemory),
+        }
+    }
+
+    // Puts a text in pieces: gathers it where it is one, or writes the pieces after what is gathered.
+    fn put_pieces(&mut self, pieces: &[TextPiece]) -> Result<(), SinkFault>
+        requires failures { O.failures (outlet_under self.old) < 2 ^ 64 - 1 }
+        ensures outlet { AreOverOne self.old self.new }
+        ensures standing { StandsAsBefore self.old self.new }
+        ensures failures { O.failures (outlet_under self.new) ≡ O.failures (outlet_under self.old) + stops_in result }
+        ensures text { PutsText O.taken self.old (whole_text pieces.now) result self.new }
+        ensures left { LeavesOutlet self.old result self.new }
+        ensures gathered { IfOk result (λ _. Gathers self.old (whole_text pieces.now) self.new) }
+    {
+        if let [text] = pieces {
+            return self.put(text.bytes());
+        }
+        match self.write_each(pieces) {
+            Ok(()) => Ok(()),
+            Err(OutFault) => {
+                let written = self.written;
+                Err(SinkFault::Stopped { written })
+            }
+        }
+    }
+
+    // Writes what is gathered, and the pieces of a text after it. It does not allocate.
+    fn write_each(&mut self, pieces: &[TextPiece]) -> Result<(), OutFault>
+        requires failures { O.failures (outlet_under self.old) < 2 ^ 64 - 1 }
+        ensures outlet { AreOverOne self.old self.new }
+        ensures standing { StandsAsBefore self.old self.new }
+        ensures failures { O.failures (outlet_under self.new)
+            ≡ (if is_ok result then O.failures (outlet_under self.old) else O.failures (outlet_under self.old) + 1) }
+        ensures text { WritesThrough O.taken self.old (whole_text pieces.now) result self.new }
+    {
+        self.write_gathered()?;
+        for piece in pieces {
+            self.write_through(piece.bytes())?;
+        }
+        Ok(())
+    }
+
+    // Gathers a text, or writes it after what is gathered.
+    fn put(&mut self, text: &[u8]) -> Result<(), SinkFault>
+        requires failures { O.failures (outlet_under self.old) < 2 ^ 64 - 1 }
+        ensures outlet { AreOverOne self.old self.new }
+        ensures standing { StandsAsBefore self.old self.new }
+        ensures failures { O.failures (outlet_under self.new) ≡ O.failures (outlet_under self.old) + stops_in result }
+        ensures text { PutsText O.taken self.old text.now result self.new }
+        ensures left { LeavesOutlet self.old result self.new }
+        ensures gathered { IfOk result (λ _. Gathers self.old text.now self.new) }
+    {
+        if self.has_begun && self.gathered.len() + text.len() <= self.room {
+            return match self.gathered.extend_from_slice(text) {
+                Ok(()) => Ok(()),
+                Err(_) => Err(SinkFault::NoMemory),
+            };
+        }
+        match self.write_through(text) {
+            Ok(()) => Ok(()),
+            Err(OutFault) => {
+                let written = self.written;
+                Err(SinkFault::Stopped { written })
+            }
+        }
+    }
+
+    // Writes what is gathered, and a text after it.
+    fn write_through(&mut self, text: &[u8]) -> Result<(), OutFault>
+        requires failures { O.failures (outlet_under self.old) < 2 ^ 64 - 1 }
+        ensures outlet { AreOverOne self.old self.new }
+        ensures standing { StandsAsBefore self.old self.new }
+        ensures failures { O.failures (outlet_under self.new)
+            ≡ (if is_ok result then O.failures (outlet_under self.old) else O.failures (outlet_under self.old) + 1) }
+        ensures text { WritesThrough O.taken self.old text.now result self.new }
+    {
+        match self.write_gathered() {
+            Ok(()) => write(self.outlet, &mut self.written, text),
+            Err(OutFault) => Err(OutFault),
+        }
+    }
+}
+
+impl<'a, L: Listing, O: Outlet> RowSink for ListingSink<'a, L, O> {
+    ghost use Rattle.std.specs.Prelude.{refl};
+    ghost use Rattle.std.proofs.Common.{◌∙◌};
+    ghost use Rattle.std.specs.Prelude.{MatchResult};
+    ghost use Rattle.srm_interfaces.specs.Sinks.{IsOpen, stage_after, stops_in};
+    ghost use Rattle.srm_report.specs.ListingSinks.{stage_of, standing_of, has_begun, outlet_under, AreOverOne, Gathers, LeavesOutlet, PutsRows, PutsPart};
+    ghost use Rattle.srm_report.specs.SinkLaws.{one_self, over_one_more, rows_none, rows_more, part_none, part_more, part_longer};
+
+    ghost stage = { stage_of };
+
+    ghost failures = { λ s. O.failures (outlet_under s) };
+
+    ghost same = { AreOverOne };
+
+    ghost took = { PutsRows O.taken L.form };
+
+    ghost part = { PutsPart O.taken L.form };
+
+    ghost same_self = { one_self };
+
+    ghost same_more = { over_one_more };
+
+    ghost took_none = { rows_none O.taken L.form };
+
+    ghost took_more = { rows_more O.taken L.form };
+
+    ghost part_none = { part_none O.taken L.form };
+
+    ghost part_more = { part_more O.taken L.form };
+
+    ghost part_longer = { part_longer O.taken L.form };
+
+    /// Writes the rows after those before, or gathers them. The first call puts the header before its rows, also where it has
+    /// none. Where it answers `Ok`, it wrote all that was gathered, and these rows; or it wrote nothing, and gathers these rows
+    /// too, which is so only of a sink that was given rows before.
+    ///
+    /// # Errors
+    /// `Stopped` exactly where the outlet failed, with how many bytes it took by this sink in all, the header's too, up to 2^64 -
+    /// 1. `NoMemory`: then the outlet took nothing in this call.
+    fn rows(&mut self, alloc: Global, rows: Vec<Row>) -> Result<(), SinkFault>
+        requires open { IsOpen (stage_of self.old) }
+        requires failures { O.failures (outlet_under self.old) < 2 ^ 64 - 1 }
+        ensures same { AreOverOne self.old self.new }
+        ensures stage { stage_of self.new ≡ stage_after result }
+        ensures failures { O.failures (outlet_under self.new) ≡ O.failures (outlet_under self.old) + stops_in result }
+        ensures rows { MatchResult result (λ _. PutsRows O.taken L.form self.old rows.items self.new)
+            (λ _. PutsPart O.taken L.form self.old rows.items self.new) }
+        ensures left { LeavesOutlet self.old result self.new }
+        ensures gathered { IfOk result (λ _. Gathers self.old (text_next L.form (standing_of self.old) rows.items) self.new) }
+        ensures begun { has_begun self.new ≡ (has_begun self.old || not (length rows.items == 0)) }
+    {
+        let has_rows = !rows.is_empty();
+        let answer = self.put_rows(alloc, rows);
+        self.has_begun = self.has_begun || has_rows;
+        self.standing = standing_after(&answer);
+        answer
+    }
+}
+
+impl<'a, L: Listing, O: Outlet> KeptSink<Lines> for ListingSink<'a, L, O> {
+    ghost use Rattle.std.specs.Prelude.{MatchResult};
+    ghost use Rattle.srm_interfaces.specs.InTurn.{KeepInTurn};
+    ghost use Rattle.srm_interfaces.specs.Sinks.{IsOpen, stage_after, stops_in};
+    ghost use Rattle.srm_report.specs.KeptLines.{lines_of};
+    ghost use Rattle.srm_report.specs.ListingSinks.{stage_of, standing_of, has_begun, outlet_under, AreOverOne, Gathers, LeavesOutlet, PutsRows, PutsPart};
+
+    ghost keeps = { λ k rows. k ≡ lines_of L.form rows };
+
+    /// Writes the lines of the rows that come next after those before, as `rows` does, of the lines of each member.
+    fn kept(&mut self, alloc: Global, groups: &mut [Vec<Lines>]) -> Result<(), SinkFault>
+        requires open { IsOpen (stage_of self.old) }
+        requires failures { O.failures (outlet_under self.old) < 2 ^ 64 - 1 }
+        ensures same { AreOverOne self.old self.new }
+        ensures stage { stage_of self.new ≡ stage_after result }
+        ensures failures { O.failures (outlet_under self.new) ≡ O.failures (outlet_under self.old) + stops_in result }
+        ensures each { sizes groups.new ≡ sizes groups.old }
+        ensures rows { (rows : List R) → AreLinesOf L.form rows (all_in groups.old)
+            → MatchResult result (λ _. PutsRows O.taken L.form self.old rows self.new)
+            (λ _. PutsPart O.taken L.form self.old rows self.new) }
+        ensures left { LeavesOutlet self.old result self.new }
+        ensures gathered { (rows : List R) → AreLinesOf L.form rows (all_in groups.old)
+            → IfOk result (λ _. Gathers self.old (text_next L.form (standing_of self.old) rows) self.new) }
+        ensures begun { has_begun self.new ≡ true }
+    {
+        let answer = self.put_lines(alloc, groups);
+        self.has_begun = true;
+        self.standing = standing_after(&answer);
+        answer
+    }
+}

@@ -1,9 +1,0 @@
-//! What became of the losses of one member.
-use crate::by_loss::ByLoss;
-use crate::course::Course;
-
-/// What became of each loss of one member. Its room grows with the losses, and not with the rows.
-#[derive(Drop)]
-pub struct MemberLosses {
-    pub(crate) losses: ByLoss<Course>,
-}
