@@ -2,7 +2,7 @@
 ghost use Rattle.std.specs.Prelude.{◌≡◌, ◌≤◌, ◌<◌, ◌∷◌, ◌++◌, [], Some, None, OnOk, OnErr, IfOk, IfErr, All};
 ghost use Rattle.srm_net.specs.Limits.{end_of_time, most_sent};
 ghost use Rattle.srm_net.specs.Orders.{Rises};
-ghost use Rattle.srm_scenario.specs.Plain.{mark_cmp, network_of};
+ghost use Rattle.srm_scenario.specs.Plain.{mark_cmp};
 ghost use Rattle.srm_cell.specs.Flights.{BringsNone};
 ghost use Rattle.srm_cell.specs.Cells.{hear_at, first_arrival, first_mark, next_timer, due_in};
 ghost use Rattle.srm_cell.specs.Views.{AreWaiting, IsNew, Becomes, Steps, Ends, IsNextOf, IsNextTime, TellsMember, known_in};
@@ -31,11 +31,10 @@ use srm_member::rare::Rare;
 use srm_member::row::{About, Row, Word};
 use srm_member::told::Told;
 use srm_net::key::Key;
-use srm_net::net::Net;
 use srm_net::packet::Packet;
 use srm_net::sequence::Sequence;
 use srm_scenario::mark::Mark;
-use srm_scenario::scenario::Scenario;
+use srm_scenario::session::Session;
 use std::alloc::{AllocError, Global};
 
 /// A member's cell: its box, the packets on their way to it, the rest of its script, its packet count, once it left what it ended
@@ -121,15 +120,15 @@ impl<M: Participant> Cell<M> {
     ///
     /// # Errors
     /// [`AllocError`]. Nothing is known of the cell then.
-    pub fn hear(&mut self, scenario: &Scenario, net: &Net, sent: &[Sent]) -> Result<(), AllocError>
-        requires network { net.now ≡ network_of scenario.now }
-        requires sent { All (λ x. IsSent scenario.now net.now x) sent.now }
-        requires new { MayHearAll M.plain (traffic_of scenario.now net.now) (packets_in sent.now) self.old }
-        ensures { IfOk result (λ _. HearsAll M.plain (traffic_of scenario.now net.now) (packets_in sent.now)
-            self.old self.new) }
+    pub fn hear(&mut self, session: Session, sent: &[Sent]) -> Result<(), AllocError>
+        requires sent { All (λ x. IsSent session.scenario.now session.net.now x) sent.now }
+        requires new { MayHearAll M.plain (traffic_of session.scenario.now session.net.now) (packets_in sent.now)
+            self.old }
+        ensures { IfOk result (λ _. HearsAll M.plain (traffic_of session.entry.scenario.now session.entry.net.now)
+            (packets_in sent.now) self.old self.new) }
     {
         for one in sent {
-            if let Some(at) = arrival(scenario, net, &one.packet, &one.spread, self.number) {
+            if let Some(at) = arrival(session, &one.packet, &one.spread, self.number) {
                 let Ok(()) = self.accept(&one.packet, at) else {
                     return Err(AllocError);
                 };

@@ -1,12 +1,10 @@
 //! What was sent.
 ghost use Rattle.std.specs.Prelude.{◌≡◌, ◌<◌, length, IfOk};
 ghost use Rattle.srm_net.specs.Limits.{end_of_time};
-ghost use Rattle.srm_scenario.specs.Plain.{network_of};
 
-use srm_net::net::Net;
 use srm_net::packet::Packet;
 use srm_net::spread::Spread;
-use srm_scenario::scenario::Scenario;
+use srm_scenario::session::Session;
 use std::alloc::{AllocError, Global};
 
 /// A packet that was sent, with its spread, which is found once for all that hear the packet.
@@ -25,21 +23,15 @@ impl Sent {
     ///
     /// # Errors
     /// [`AllocError`].
-    pub fn of(
-        alloc: Global,
-        scenario: &Scenario,
-        net: &Net,
-        packet: &Packet,
-    ) -> Result<Sent, AllocError>
-        requires network { net.now ≡ network_of scenario.now }
+    pub fn of(alloc: Global, session: Session, packet: &Packet) -> Result<Sent, AllocError>
         requires sent { packet.now.sent < end_of_time }
-        requires sender { packet.now.id.sender < length scenario.now.members }
+        requires sender { packet.now.id.sender < length session.scenario.now.members }
         ensures packet { IfOk result (λ x. x.packet ≡ packet.now) }
-        ensures sent { IfOk result (λ x. IsSent scenario.now net.now x) }
+        ensures sent { IfOk result (λ x. IsSent session.entry.scenario.now session.entry.net.now x) }
     {
-        let spread = net.spread(
+        let spread = session.net.spread(
             alloc,
-            scenario.drops(),
+            session.scenario.drops(),
             packet.id,
             packet.sent,
             packet.body.scope(),

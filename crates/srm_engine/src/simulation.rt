@@ -80,14 +80,14 @@ impl<'a, M: Participant> Simulation<'a, M> {
         ensures undone { InRunsOn session.entry (map M.plain members.items)
             (λ s. TellsUndone S.stage S.took S.part (MayLackSteps s) s sink.old result sink.new) }
     {
-        let mut engine = match Simulation::open(alloc, session, members) {
-            Ok(engine) => engine,
+        let mut simulation = match Simulation::open(alloc, session, members) {
+            Ok(opened) => opened,
             Err(error) => return Err(error.into()),
         };
-        if let Err(halt) = engine.stream(alloc, sink) {
+        if let Err(halt) = simulation.stream(alloc, sink) {
             return Err(halt.into());
         }
-        Ok(engine)
+        Ok(simulation)
     }
 
     /// Steps, one after the other, until nothing is pending before the end of the run. The rows are handed to a sink in pieces:
@@ -196,13 +196,7 @@ impl<'a, M: Participant> Simulation<'a, M> {
         ensures heard { IfOk result (λ _. Delivers M.plain packet.now self.old self.new) }
     {
         for member in 0..self.session.scenario.members() {
-            if let Some(at) = arrival(
-                self.session.scenario,
-                self.session.net,
-                packet,
-                spread,
-                member,
-            ) {
+            if let Some(at) = arrival(self.session, packet, spread, member) {
                 self.cells.hand(member, packet, at)?;
             }
         }

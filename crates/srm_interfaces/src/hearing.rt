@@ -30,7 +30,7 @@ pub fn hear_groups<M: Participant>(
     let mut heard = Vec::new(alloc);
     for group in groups {
         let mut group = group;
-        hear_each(session.scenario, session.net, sent, group.as_mut_slice())?;
+        hear_each(session, sent, group.as_mut_slice())?;
         heard.push(group)?;
     }
     Ok(heard)

@@ -134,7 +134,7 @@ pub fn add_sent(
 {
     for row in rows {
         if let Some(packet) = &row.sent {
-            let sent = Sent::of(alloc, session.scenario, session.net, packet)?;
+            let sent = Sent::of(alloc, session, packet)?;
             all.push(sent)?;
         }
     }

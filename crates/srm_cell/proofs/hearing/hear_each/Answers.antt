@@ -11,9 +11,6 @@ use Rattle.srm_cell.proofs.hearing.hear_each.Goals as goal
 pub loop-cell-init : goal.loop-cell-init
 loop-cell-init g c = (refl, refl, tt)
 
-pub hear-requires-clause-network : goal.hear-requires-clause-network
-hear-requires-clause-network g c = c.requires.network
-
 pub hear-requires-clause-sent : goal.hear-requires-clause-sent
 hear-requires-clause-sent g c = c.requires.sent
 
@@ -24,7 +21,7 @@ hear-requires-clause-new g c =
     let d = c.cell-item.result in
     let same = c.loop-cell.invariant.0 in
     let test = c.loop-cell-test.true in
-    let t = traffic_of c.args.scenario.now c.args.net.now in
+    let t = traffic_of c.args.session.scenario.now c.args.session.net.now in
     subst (MayHearAll g.M.Participant.plain t (packets_in c.args.sent.now))
     (sym (at_front old c.args.cells.now i d (omega arith) (omega arith) c.loop-cell.invariant.1))
     (All-get_or (MayHearAll g.M.Participant.plain t (packets_in c.args.sent.now)) c.args.cells.now i d (omega arith) c.requires.new)
@@ -40,7 +37,7 @@ loop-cell-preserved g c =
     let test = c.loop-cell-test.true in
     let within : i < length old = omega arith in
     let before : i < length first = omega arith in
-    let t = traffic_of c.args.scenario.now c.args.net.now in
+    let t = traffic_of c.args.session.scenario.now c.args.session.net.now in
     let ps = packets_in c.args.sent.now in
     let R = λ (x y : Cell _). HearsAll g.M.Participant.plain t ps x y in (
       length-set old i after ∙ c.loop-cell.invariant.0,
@@ -59,7 +56,7 @@ returns g c =
     let same = c.loop-cell.invariant.0 in
     let all : i ≡ length old = omega arith in
     let whole : i ≡ length c.args.cells.now = omega arith in
-    subst (λ xs. EachHearsAll g.M.Participant.plain (traffic_of c.args.scenario.now c.args.net.now) (packets_in c.args.sent.now) xs old)
-    (ap (λ n. take n c.args.cells.now) whole ∙ take-length c.args.cells.now)
-    (subst (λ xs. EachHearsAll g.M.Participant.plain (traffic_of c.args.scenario.now c.args.net.now) (packets_in c.args.sent.now)
-    (take i c.args.cells.now) xs) (ap (λ n. take n old) all ∙ take-length old) c.loop-cell.invariant.2)
+    let heard = EachHearsAll g.M.Participant.plain (traffic_of c.args.session.scenario.now c.args.session.net.now)
+    (packets_in c.args.sent.now) in
+    subst (λ xs. heard xs old) (ap (λ n. take n c.args.cells.now) whole ∙ take-length c.args.cells.now)
+    (subst (heard (take i c.args.cells.now)) (ap (λ n. take n old) all ∙ take-length old) c.loop-cell.invariant.2)

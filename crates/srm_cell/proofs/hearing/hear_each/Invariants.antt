@@ -7,5 +7,5 @@ use Rattle.srm_cell.proofs.hearing.hear_each.Given as goal
 abbrev pub invariant-loop-cell : goal.invariant-loop-cell
 invariant-loop-cell g l =
     (length l.cells ≡ length l.fn.cells) × (drop l.cell-index l.cells ≡ drop l.cell-index l.fn.cells)
-    × EachHearsAll g.M.Participant.plain (traffic_of l.scenario l.net) (packets_in l.sent) (take l.cell-index l.fn.cells)
-    (take l.cell-index l.cells)
+    × EachHearsAll g.M.Participant.plain (traffic_of l.session.scenario.now l.session.net.now) (packets_in l.sent)
+    (take l.cell-index l.fn.cells) (take l.cell-index l.cells)

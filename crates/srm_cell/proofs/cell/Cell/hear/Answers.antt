@@ -15,20 +15,20 @@ loop-one-init g c = λ h. record { sound = h; is = refl }
 pub arrival-requires-clause-member : goal.arrival-requires-clause-member
 arrival-requires-clause-member g c =
     let may = c.requires.new in
-    subst (λ n. n < length c.args.scenario.now.members) (sym (ap (λ (q : OwnCell). q.member)
+    subst (λ n. n < length c.args.session.scenario.now.members) (sym (ap (λ (q : OwnCell). q.member)
     (c.loop-one.invariant may.sound).is)) may.member
 
 pub accept-requires : goal.accept-requires
 accept-requires g c =
     let may = c.requires.new in
-    let t = traffic_of c.args.scenario.now c.args.net.now in
+    let t = traffic_of c.args.session.scenario.now c.args.session.net.now in
     subst (BringsNone c.one-item.result.packet.id) (sym (ap (λ (q : OwnCell). q.cell.inbox) (c.loop-one.invariant may.sound).is))
     (is_new t c.args.self.now.number c.loop-one.one-index c.args.sent.now c.one-item.result
     (plain_cell g.M.Participant.plain c.args.self.now) may.new c.loop-one-test.true c.one-item.is)
 
 pub loop-one-preserved : goal.loop-one-preserved
 loop-one-preserved g c = λ h.
-    let t = traffic_of c.args.scenario.now c.args.net.now in
+    let t = traffic_of c.args.session.scenario.now c.args.session.net.now in
     let i = c.loop-one.one-index in
     let x = c.one-item.result in
     let m = c.args.self.now.number in
@@ -56,5 +56,5 @@ loop-one-preserved g c = λ h.
     ]
 
 pub returns : goal.returns
-returns g c = subst (λ xs. HearsAll g.M.Participant.plain (traffic_of c.args.scenario.now c.args.net.now) (packets_in xs)
+returns g c = subst (λ xs. HearsAll g.M.Participant.plain (traffic_of c.args.session.scenario.now c.args.session.net.now) (packets_in xs)
     c.args.self.now c.loop-one.self) (take_all c.loop-one.one-index c.args.sent.now c.loop-one-test.false) c.loop-one.invariant

@@ -6,4 +6,5 @@ use Rattle.srm_cell.proofs.cell.Cell.hear.Given as goal
 -- the packets so far were heard
 abbrev pub invariant-loop-one : goal.invariant-loop-one
 invariant-loop-one g l =
-    HearsAll g.M.Participant.plain (traffic_of l.scenario l.net) (packets_in (take l.one-index l.sent)) l.fn.self l.self
+    HearsAll g.M.Participant.plain (traffic_of l.session.scenario.now l.session.net.now) (packets_in (take l.one-index l.sent))
+    l.fn.self l.self

@@ -38,9 +38,9 @@ returns-in-Err-stream-clause-sink g c =
 pub returns-in-Err-stream-clause-last : goal.returns-in-Err-stream-clause-last
 returns-in-Err-stream-clause-last g c = λ seed h.
     let here = ap (λ at. setting_on at seed) c.in-Ok.ensures.session in
-    let opened = subst (λ x. Shows g.M.Participant.plain c.in-Ok.engine (opening x)) (sym here) (c.in-Ok.ensures.opened seed h) in
+    let opened = subst (λ x. Shows g.M.Participant.plain c.in-Ok.opened (opening x)) (sym here) (c.in-Ok.ensures.opened seed h) in
     let t = halted_front g.S.RowSink.took g.S.RowSink.part g.met.S.RowSink.part_none g.met.S.RowSink.part_more
-    (MayStop most_rows (setting_in c.in-Ok.engine seed)) (setting_in c.in-Ok.engine seed) c.args.sink.now c.in-Err-stream.halt
+    (MayStop most_rows (setting_in c.in-Ok.opened seed)) (setting_in c.in-Ok.opened seed) c.args.sink.now c.in-Err-stream.halt
     c.stream.new.sink
     (c.in-Err-stream.ensures.rows seed opened) in
     (t.0, subst (λ (x : Setting). IsReached x t.0) here t.1, t.2)
@@ -48,27 +48,27 @@ returns-in-Err-stream-clause-last g c = λ seed h.
 pub returns-in-Err-stream-clause-refused : goal.returns-in-Err-stream-clause-refused
 returns-in-Err-stream-clause-refused g c = λ seed h.
     let here = ap (λ at. setting_on at seed) c.in-Ok.ensures.session in
-    let opened = subst (λ x. Shows g.M.Participant.plain c.in-Ok.engine (opening x)) (sym here) (c.in-Ok.ensures.opened seed h) in
+    let opened = subst (λ x. Shows g.M.Participant.plain c.in-Ok.opened (opening x)) (sym here) (c.in-Ok.ensures.opened seed h) in
     rw c.into-in-Err-stream.ensures
     (subst (λ (x : Setting). MeetsRefusal g.S.RowSink.took g.S.RowSink.part x c.args.sink.now
     (stream_fault_of c.in-Err-stream.halt) c.stream.new.sink) here
-    (halts_refuse g.S.RowSink.took g.S.RowSink.part (setting_in c.in-Ok.engine seed) c.args.sink.now
+    (halts_refuse g.S.RowSink.took g.S.RowSink.part (setting_in c.in-Ok.opened seed) c.args.sink.now
     c.in-Err-stream.halt c.stream.new.sink (c.in-Err-stream.ensures.rows seed opened)))
 
 pub returns-in-Err-stream-clause-undone : goal.returns-in-Err-stream-clause-undone
 returns-in-Err-stream-clause-undone g c = λ seed h.
     let here = ap (λ at. setting_on at seed) c.in-Ok.ensures.session in
-    let opened = subst (λ x. Shows g.M.Participant.plain c.in-Ok.engine (opening x)) (sym here) (c.in-Ok.ensures.opened seed h) in
+    let opened = subst (λ x. Shows g.M.Participant.plain c.in-Ok.opened (opening x)) (sym here) (c.in-Ok.ensures.opened seed h) in
     rw c.into-in-Err-stream.ensures
     (subst (λ (x : Setting). UndoneAfter g.S.RowSink.stage g.S.RowSink.took g.S.RowSink.part (MayLackSteps x) x
     c.args.sink.now (stream_fault_of c.in-Err-stream.halt) c.stream.new.sink) here
-    (steps_undone g.S.RowSink.took g.S.RowSink.part g.S.RowSink.stage (Unit {0}) (setting_in c.in-Ok.engine seed)
+    (steps_undone g.S.RowSink.took g.S.RowSink.part g.S.RowSink.stage (Unit {0}) (setting_in c.in-Ok.opened seed)
     c.args.sink.now c.in-Err-stream.halt c.stream.new.sink (c.in-Err-stream.ensures.rows seed opened)
     c.in-Err-stream.ensures.stage))
 
 pub returns-clause-last : goal.returns-clause-last
 returns-clause-last g c = λ seed h.
     let here = ap (λ at. setting_on at seed) c.in-Ok.ensures.session in
-    let opened = subst (λ x. Shows g.M.Participant.plain c.in-Ok.engine (opening x)) (sym here) (c.in-Ok.ensures.opened seed h) in
+    let opened = subst (λ x. Shows g.M.Participant.plain c.in-Ok.opened (opening x)) (sym here) (c.in-Ok.ensures.opened seed h) in
     let t = c.in_default.ensures.rows seed opened in
     (t.0, subst (λ (x : Setting). IsLast x t.0) here t.1, t.2, t.3)
