@@ -4,7 +4,7 @@ use Rattle.std.specs.Prelude.{Result, Ok, Err}
 use Rattle.std.specs.Global.{Vec}
 use Rattle.std.specs.Io.KnownBytes.{Appends, Keeps}
 use Rattle.srm_net.specs.Network.{Network}
-use Rattle.srm_scenario.specs.Plain.{PlainScenario, network_of}
+use Rattle.srm_scenario.specs.Plain.{PlainScenario}
 use Rattle.srm_scenario.specs.Plain as plain
 use Rattle.srm_cell.specs.Setting.{setting_of}
 use Rattle.srm_model.specs.World.{World, IsLast, RunMeetsFull}
@@ -135,6 +135,6 @@ abbrev pub MakesEach :
     (ℕ → Result (Vec ℕ) LabFault → Type 0) → PlainScenario → Network → Show → Type 0
 MakesEach gives p net show = (seed : ℕ) (r : Result (Vec ℕ) LabFault) → gives seed r → MakesLines p net show seed r
 
--- runs of a scenario on this network may be replicated so
-abbrev pub MayReplicate : PlainScenario → Network → Options → Type 0
-MayReplicate p net o = (net ≡ network_of p) × (o.engine ≡ Step) × MayShareBag o.workers
+-- runs may be replicated so
+abbrev pub MayReplicate : Options → Type 0
+MayReplicate o = (o.engine ≡ Step) × MayShareBag o.workers

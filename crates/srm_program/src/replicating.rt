@@ -5,10 +5,8 @@ ghost use Rattle.srm_program.specs.Replications.{GivesLines, MakesLines, MayRepl
 use crate::fault::{Fault, LabFault};
 use crate::members::run_members;
 use crate::options::Options;
-use srm_net::net::Net;
 use srm_report::outlet::WriteOutlet;
 use srm_report::seeds::seeded_lines;
-use srm_scenario::scenario::Scenario;
 use srm_scenario::session::Session;
 use srm_team::work::Work;
 use std::alloc::Global;
@@ -23,9 +21,7 @@ pub(crate) struct Replicating<'a, R> {
     /// The memory that workers take.
     pub alloc: Global,
     /// What is run.
-    pub scenario: &'a Scenario,
-    /// Its network.
-    pub net: &'a Net,
+    pub session: Session<'a>,
     /// What is shown of each run.
     pub options: Options,
 }
@@ -34,19 +30,12 @@ impl<'a, R: Threads + Wait + Sync> Work<u64, Result<Vec<u8>, LabFault>> for Repl
     ghost use Rattle.std.specs.Thread.{IsSync};
     ghost use Rattle.srm_program.specs.Replications.{MakesLines, MayReplicate};
 
-    ghost ready = { λ w _. IsSync R.row × MayReplicate w.scenario.now w.net.now w.options };
+    ghost ready = { λ w _. IsSync R.row × MayReplicate w.options };
 
-    ghost gives = { λ w seed r. MakesLines w.scenario.now w.net.now w.options.show seed r };
+    ghost gives = { λ w seed r. MakesLines w.session.scenario.now w.session.net.now w.options.show seed r };
 
     fn work(&self, seed: u64) -> Result<Vec<u8>, LabFault> {
-        lines_of_seed(
-            &self.rt,
-            self.alloc,
-            self.scenario,
-            self.net,
-            seed,
-            self.options,
-        )
+        lines_of_seed(&self.rt, self.alloc, self.session, seed, self.options)
     }
 }
 
@@ -58,23 +47,22 @@ impl<'a, R: Threads + Wait + Sync> Work<u64, Result<Vec<u8>, LabFault>> for Repl
 fn lines_of_seed<R: Threads + Wait + Sync>(
     rt: &R,
     alloc: Global,
-    scenario: &Scenario,
-    net: &Net,
+    session: Session,
     seed: u64,
     options: Options,
 ) -> Result<Vec<u8>, LabFault>
-    requires { MayReplicate scenario.now net.now options }
-    ensures { MakesLines scenario.now net.now options.show seed result }
+    requires { MayReplicate options }
+    ensures { MakesLines session.entry.scenario.now session.entry.net.now options.show seed result }
 {
-    let Ok(shared) = scenario.share() else {
+    let Ok(shared) = session.scenario.share() else {
         return Err(LabFault::NoMemory);
     };
     let seeded = shared.with_seed(seed);
-    let session = Session {
+    let of_seed = Session {
         scenario: &seeded,
-        net,
+        net: session.net,
     };
-    lines_of_run(rt, alloc, session, seed, options)
+    lines_of_run(rt, alloc, of_seed, seed, options)
 }
 
 /// The run of a session, whose losses have their seed, into memory.
@@ -88,7 +76,7 @@ fn lines_of_run<R: Threads + Wait + Sync>(
     seed: u64,
     options: Options,
 ) -> Result<Vec<u8>, LabFault>
-    requires { MayReplicate session.scenario.now session.net.now options }
+    requires { MayReplicate options }
     ensures { GivesLines session.entry.scenario.now session.entry.net.now options.show seed result }
 {
     let mut outlet = WriteOutlet::new(Vec::new(alloc));

@@ -12,12 +12,11 @@ ghost use Rattle.srm_program.specs.Replications.{series_of, AreReplicated, Makes
 use crate::fault::LabFault;
 use crate::options::{Options, Show};
 use crate::replicating::Replicating;
-use srm_net::net::Net;
 use srm_report::listing::{timers, trace};
 use srm_report::outlet::Outlet;
 use srm_report::writing::{WriteFault, write_out};
 use srm_report::{links, losses, members, operations, scopes};
-use srm_scenario::scenario::Scenario;
+use srm_scenario::session::Session;
 use srm_team::bench::{Bench, serve_all};
 use srm_team::naming::Naming;
 use srm_team::opened::Opened;
@@ -297,19 +296,18 @@ fn by_team<
 pub fn replicate<R: Threads + Wait + Sync, O: Outlet>(
     rt: &R,
     alloc: Global,
-    scenario: &Scenario,
-    net: &Net,
+    session: Session,
     seeds: Seeds,
     options: Options,
     outlet: &mut O,
 ) -> Result<(), LabFault>
-    requires run { MayReplicate scenario.now net.now options }
+    requires run { MayReplicate options }
     requires seeds { seeds.first + seeds.count < 2 ^ 64 }
     requires count { O.failures outlet.old < 2 ^ 64 - 1 }
     ensures failures { O.failures outlet.new ≡ failures_after_run result (O.failures outlet.old) }
     ensures report { TellsReplications (record {
-      scenario = scenario.now;
-      network = net.now;
+      scenario = session.entry.scenario.now;
+      network = session.entry.net.now;
       first = seeds.first;
       count = seeds.count;
       show = options.show;
@@ -318,8 +316,7 @@ pub fn replicate<R: Threads + Wait + Sync, O: Outlet>(
     let work = Replicating {
         rt,
         alloc,
-        scenario,
-        net,
+        session,
         options,
     };
     let span = ShownRuns {

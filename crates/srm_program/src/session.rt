@@ -129,17 +129,15 @@ pub fn simulate_text<R: Threads + Wait + Sync, O: Outlet>(
     let Ok(net) = scenario.net(alloc) else {
         return Err(Fault::NoMemory);
     };
+    let session = Session {
+        scenario: &scenario,
+        net: &net,
+    };
     match options.replications {
-        None => {
-            let session = Session {
-                scenario: &scenario,
-                net: &net,
-            };
-            run_members(rt, alloc, session, seed, options, outlet)
-        }
+        None => run_members(rt, alloc, session, seed, options, outlet),
         Some(count) => {
             let seeds = Seeds { first: seed, count };
-            match replicate(rt, alloc, &scenario, &net, seeds, options, outlet) {
+            match replicate(rt, alloc, session, seeds, options, outlet) {
                 Ok(()) => Ok(()),
                 Err(fault) => Err(Fault::Lab(fault)),
             }
