@@ -6,7 +6,7 @@ ghost use Rattle.srm_program.specs.Askings.{MayTabulate, Reports};
 
 use crate::asked::Asked;
 use crate::fault::LabFault;
-use crate::in_windows::by_rows;
+use crate::in_windows::by_row_crew;
 use crate::task::Task;
 use crate::watched_table::WatchedTable;
 use srm_crew::piece::Piece;
@@ -141,7 +141,7 @@ fn by_team<
             let crew = WatchTeam::new(rt, team, work, ENOUGH);
             lead_beside(rt, alloc, &bench, &task, watch, (crew, members), outlet)
         }
-        Err(_) => by_rows(alloc, task, members, PlainCrew::new(), watch, outlet),
+        Err(_) => by_row_crew(alloc, task, members, PlainCrew::new(), watch, outlet),
     }
 }
 

@@ -95,18 +95,18 @@ fn by_crew<
     ensures { Reports O.Outlet task.entry (map (λ b. plain b) members.items) outlet.old result outlet.new }
 {
     match task.options.crew {
-        CrewKind::Plain => by_rows(alloc, task, members, PlainCrew::new(), watch, outlet),
-        CrewKind::Pool => by_rows(alloc, task, members, PoolCrew::new(rt), watch, outlet),
+        CrewKind::Plain => by_row_crew(alloc, task, members, PlainCrew::new(), watch, outlet),
+        CrewKind::Pool => by_row_crew(alloc, task, members, PoolCrew::new(rt), watch, outlet),
         CrewKind::Bag => {
             let crew = BagCrew::new(rt, OpenGate, task.options.workers);
-            by_rows(alloc, task, members, crew, watch, outlet)
+            by_row_crew(alloc, task, members, crew, watch, outlet)
         }
         CrewKind::Team => by_watch(rt, alloc, task, members, watch, outlet),
     }
 }
 
 /// The table by a crew that keeps rows: the watch sees those of a job once it is done.
-pub(crate) fn by_rows<
+pub(crate) fn by_row_crew<
     M: Participant,
     K: Drop,
     W: WatchedTable<K> + Copy,

@@ -59,7 +59,7 @@ pub none_added : (old : List (Name × SentForName)) → T (is_sorted name_cmp ol
 none_added old rises = record { sorted = rises; sent = λ m. sym (with_none (sending_in old m) m) }
 
 module _ (old more now : List (Name × SentForName)) (rises : T (is_sorted name_cmp more)) (i : ℕ) (d : Name × SentForName)
-  (lt : i < length more)
+    (lt : i < length more)
     (was : HasAdded old (take i more) now) (v : SentForName) where
   abbrev n : Name
   n = (get_or more i d).0

@@ -138,7 +138,7 @@ module _ (rows : List Row) (r : Row) (es : List (Name × SentForName)) (was : Te
 
 -- a request was sent
 pub sent_request : (rows : List Row) (r : Row) (es : List (Name × SentForName)) → TellSent rows es → (n : Name)
-  → r.cause ≡ Ask → r.told ≡ Sent
+    → r.cause ≡ Ask → r.told ≡ Sent
     → r.about ≡ Named n → TellSent (rows ++ r ∷ []) (put name_cmp n (requested r.key.time (sending_in es n)) es)
 sent_request rows r es was n cause sent about =
     sent_one rows r es was n (requested r.key.time (sending_in es n)) true false

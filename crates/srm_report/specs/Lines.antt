@@ -1,5 +1,5 @@
 -- Lines of a CSV text in memory.
-use Rattle.std.specs.Prelude.{ℕ, ◌+◌, ◌-◌, List, drop}
+use Rattle.std.specs.Prelude.{ℕ, ◌+◌, ◌*◌, ◌-◌, List, drop}
 use Rattle.srm_report.specs.declared.listing.line.Line.{Line}
 use Rattle.srm_report.specs.declared.listing.line.TheConstants.{SIZE}
 
@@ -10,6 +10,18 @@ full_room = SIZE - 1
 -- how many bytes fit before that which is written of a line
 abbrev pub line_room : Line → ℕ
 line_room l = l.start
+
+-- the most bytes that a number below 2^64 takes, with the comma before it
+abbrev pub number_room : ℕ
+number_room = 21
+
+-- that two take, as those of a packet
+abbrev pub pair_room : ℕ
+pair_room = 2 * number_room
+
+-- that three take, as those of a name
+abbrev pub name_room : ℕ
+name_room = 3 * number_room
 
 -- what is written of a line: its last fields, each after a comma, and the line feed
 abbrev pub line_written : Line → List ℕ

@@ -1,7 +1,7 @@
 //! Fields of a line. Each is put before the fields that are there, with a comma before it. None calls for quotes.
 ghost use Rattle.std.specs.Prelude.{◌≡◌, ◌+◌, ◌≤◌, ◌∷◌, ◌++◌, codes, decimal};
 ghost use Rattle.csv.specs.Writing.{comma};
-ghost use Rattle.srm_report.specs.Lines.{line_room, line_written};
+ghost use Rattle.srm_report.specs.Lines.{line_room, line_written, name_room, number_room, pair_room};
 ghost use Rattle.srm_report.specs.Rows.{or_dash};
 ghost use Rattle.srm_report.specs.Trace.{name_text, packet_text};
 
@@ -21,8 +21,8 @@ pub(crate) fn put_dash(line: &mut Line)
 // Puts a number in digits.
 #[inline]
 pub(crate) fn put_number(line: &mut Line, number: u64)
-    requires { 21 ≤ line_room line.old }
-    ensures room { line_room line.old ≤ line_room line.new + 21 }
+    requires { number_room ≤ line_room line.old }
+    ensures room { line_room line.old ≤ line_room line.new + number_room }
     ensures written { line_written line.new ≡ comma ∷ (decimal number ++ line_written line.old) }
 {
     line.put_marked(b',', number);
@@ -30,8 +30,8 @@ pub(crate) fn put_number(line: &mut Line, number: u64)
 
 // Puts a time in digits, or `-` where there is none.
 pub(crate) fn put_time(line: &mut Line, time: Option<u64>)
-    requires { 21 ≤ line_room line.old }
-    ensures room { line_room line.old ≤ line_room line.new + 21 }
+    requires { number_room ≤ line_room line.old }
+    ensures room { line_room line.old ≤ line_room line.new + number_room }
     ensures written { line_written line.new ≡ comma ∷ (or_dash decimal time ++ line_written line.old) }
 {
     match time {
@@ -43,8 +43,8 @@ pub(crate) fn put_time(line: &mut Line, time: Option<u64>)
 // Puts a packet as `sender:count`.
 #[inline]
 pub(crate) fn put_packet(line: &mut Line, packet: PacketId)
-    requires { 42 ≤ line_room line.old }
-    ensures room { line_room line.old ≤ line_room line.new + 42 }
+    requires { pair_room ≤ line_room line.old }
+    ensures room { line_room line.old ≤ line_room line.new + pair_room }
     ensures written { line_written line.new ≡ comma ∷ (packet_text packet ++ line_written line.old) }
 {
     line.put_marked(b':', packet.count);
@@ -54,8 +54,8 @@ pub(crate) fn put_packet(line: &mut Line, packet: PacketId)
 // Puts a name as `source/page/number`.
 #[inline]
 pub(crate) fn put_name(line: &mut Line, name: Name)
-    requires { 63 ≤ line_room line.old }
-    ensures room { line_room line.old ≤ line_room line.new + 63 }
+    requires { name_room ≤ line_room line.old }
+    ensures room { line_room line.old ≤ line_room line.new + name_room }
     ensures written { line_written line.new ≡ comma ∷ (name_text name ++ line_written line.old) }
 {
     line.put_marked(b'/', u64::from(name.number));

@@ -21,7 +21,7 @@ pub(crate) struct Line {
 impl Line {
     ghost use Rattle.std.specs.Prelude.{◌≡◌, ◌+◌, ◌-◌, ◌≤◌, [], ◌∷◌, ◌++◌, drop, length, decimal};
     ghost use Rattle.csv.specs.Machine.{line_feed};
-    ghost use Rattle.srm_report.specs.Lines.{full_room, line_room, line_text, line_written};
+    ghost use Rattle.srm_report.specs.Lines.{full_room, line_room, line_text, line_written, number_room};
 
     // A line of no field.
     pub(crate) fn new() -> Line
@@ -104,8 +104,8 @@ impl Line {
     // Writes a mark and a number in digits before the others.
     #[inline(always)]
     pub(crate) fn put_marked(&mut self, mark: u8, number: u64)
-        requires { 21 ≤ line_room self.old }
-        ensures room { line_room self.old ≤ line_room self.new + 21 }
+        requires { number_room ≤ line_room self.old }
+        ensures room { line_room self.old ≤ line_room self.new + number_room }
         ensures written { line_written self.new ≡ mark ∷ (decimal number ++ line_written self.old) }
     {
         // Most numbers of a trace have one digit.

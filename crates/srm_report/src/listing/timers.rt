@@ -3,7 +3,7 @@ ghost use Rattle.std.specs.Prelude.{◌≡◌, ◌≤◌, ◌+◌, [], ◌∷◌
 ghost use Rattle.csv.specs.Machine.{line_feed};
 ghost use Rattle.csv.specs.Writing.{comma, default_writer, row_text};
 ghost use Rattle.srm_report.specs.Listings.{lines_in};
-ghost use Rattle.srm_report.specs.Lines.{full_room, line_room, line_text, line_written};
+ghost use Rattle.srm_report.specs.Lines.{full_room, line_room, line_text, line_written, pair_room};
 ghost use Rattle.srm_report.specs.Rows.{or_dash};
 ghost use Rattle.srm_report.specs.Tables.{lines_of};
 ghost use Rattle.srm_report.specs.Timers.{timers_fields, timers_form, timers_rows, timers_table};
@@ -118,8 +118,8 @@ fn put_row(line: &mut Line, row: &Row, intervals: Intervals)
 
 // Puts the two averages of an interval.
 fn put_averages(line: &mut Line, interval: Interval)
-    requires { 42 ≤ line_room line.old }
-    ensures room { line_room line.old ≤ line_room line.new + 42 }
+    requires { pair_room ≤ line_room line.old }
+    ensures room { line_room line.old ≤ line_room line.new + pair_room }
     ensures written { line_written line.new ≡ comma ∷ (or_dash decimal interval.average_duplicates
         ++ comma ∷ (or_dash decimal interval.average_delay ++ line_written line.old)) }
 {
@@ -129,8 +129,8 @@ fn put_averages(line: &mut Line, interval: Interval)
 
 // Puts the two constants of an interval.
 fn put_constants(line: &mut Line, interval: Interval)
-    requires { 42 ≤ line_room line.old }
-    ensures room { line_room line.old ≤ line_room line.new + 42 }
+    requires { pair_room ≤ line_room line.old }
+    ensures room { line_room line.old ≤ line_room line.new + pair_room }
     ensures written { line_written line.new ≡ comma ∷ (decimal interval.start
         ++ comma ∷ (decimal interval.width ++ line_written line.old)) }
 {

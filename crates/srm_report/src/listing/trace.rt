@@ -3,7 +3,7 @@ ghost use Rattle.std.specs.Prelude.{◌≡◌, ◌+◌, ◌-◌, ◌<◌, ◌≤
 ghost use Rattle.csv.specs.Machine.{line_feed};
 ghost use Rattle.csv.specs.Writing.{comma, default_writer, row_text};
 ghost use Rattle.srm_report.specs.Listings.{lines_in};
-ghost use Rattle.srm_report.specs.Lines.{full_room, line_room, line_text, line_written};
+ghost use Rattle.srm_report.specs.Lines.{full_room, line_room, line_text, line_written, name_room, pair_room};
 ghost use Rattle.srm_report.specs.Rows.{or_dash};
 ghost use Rattle.srm_report.specs.Trace.{cause_word, packet_text, told_word, ref_text, trace_fields, trace_form, trace_of_rows};
 
@@ -112,8 +112,8 @@ fn put_row(line: &mut Line, row: &Row)
 
 // Puts what an event is about.
 pub(crate) fn put_ref(line: &mut Line, about: &About)
-    requires { 63 ≤ line_room line.old }
-    ensures room { line_room line.old ≤ line_room line.new + 63 }
+    requires { name_room ≤ line_room line.old }
+    ensures room { line_room line.old ≤ line_room line.new + name_room }
     ensures written { line_written line.new ≡ comma ∷ (ref_text about.now ++ line_written line.old) }
 {
     match about {
@@ -125,8 +125,8 @@ pub(crate) fn put_ref(line: &mut Line, about: &About)
 
 // Puts the packet that an event sent.
 fn put_sent(line: &mut Line, sent: &Option<Packet>)
-    requires { 42 ≤ line_room line.old }
-    ensures room { line_room line.old ≤ line_room line.new + 42 }
+    requires { pair_room ≤ line_room line.old }
+    ensures room { line_room line.old ≤ line_room line.new + pair_room }
     ensures written { line_written line.new ≡ comma ∷ (or_dash (λ p. packet_text p.id) sent.now ++ line_written line.old) }
 {
     match sent {
