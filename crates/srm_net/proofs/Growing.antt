@@ -144,7 +144,8 @@ all_attached nodes links ss n a g e x h =
     all_below nodes (attached ss) (attached_apart links ss g) (attached_below nodes links ss n a g)
     (let k = attached_length ss in omega arith) x h
 
-pub grown_cut : (links : List LinkSpec) (ss : List Attaching) → Grows links ss → length ss ≡ length links → (l : ℕ) → IsCut links l (beyond ss l)
+pub grown_cut : (links : List LinkSpec) (ss : List Attaching) → Grows links ss → length ss ≡ length links → (l : ℕ)
+    → IsCut links l (beyond ss l)
 grown_cut links ss g e l m k u x i j = beyond_over links ss g l m k u x (all_used links ss g e m (get_below links m k i)) i j
 
 pub grown_cuts : (links : List LinkSpec) (ss : List Attaching) → Grows links ss → length ss ≡ length links → HasCuts links
@@ -167,7 +168,8 @@ root_attached [] = refl
 root_attached (s ∷ ss) = in_tail s.node 0 (attached ss) (root_attached ss)
 
 -- where all nodes are connected a tree grows to any size
-pub grows_in : (w : Network) → 1 ≤ w.nodes → IsConnected w → (n : ℕ) → n < w.nodes → (ss : List Attaching) × Grows w.links ss × (length ss ≡ n)
+pub grows_in : (w : Network) → 1 ≤ w.nodes → IsConnected w → (n : ℕ) → n < w.nodes
+    → (ss : List Attaching) × Grows w.links ss × (length ss ≡ n)
 grows_in w some connected zero h = ([], tt, refl)
 grows_in w some connected (suc n) h =
     let before = grows_in w some connected n (omega arith) in

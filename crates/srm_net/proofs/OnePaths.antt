@@ -94,8 +94,8 @@ ends_within : (w : Network) → HasOnePathEach w → All (IsWithin w.nodes) w.li
 ends_within w h = λ i d lt. let p = h.ends i d lt in (p.0, p.1)
 
 -- a tree that has grown to all nodes has each link
-needed : (w : Network) → HasOnePathEach w → (ss : List Attaching) → Grows w.links ss → length ss + 1 ≡ w.nodes → (l : ℕ) → l < length w.links
-    → is_in (used ss) l ≡ true
+needed : (w : Network) → HasOnePathEach w → (ss : List Attaching) → Grows w.links ss → length ss + 1 ≡ w.nodes → (l : ℕ)
+    → l < length w.links → is_in (used ss) l ≡ true
 needed w h ss g all l lt =
     elim (cases_Bool (is_in (used ss) l)) [
       | inl e ↦ e

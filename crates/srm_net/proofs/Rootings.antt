@@ -54,8 +54,8 @@ placed_before (s ∷ later) ss v i h =
           placed_before later ss v (elim (in_cases s.node v (attached (later ++ ss)) i) [ inl e ↦ absurd (d e) | inr j ↦ j ]) low)
     ]
 
-pub place_apart : (ss : List Attaching) (u v : ℕ) → is_in (attached ss) u ≡ true → is_in (attached ss) v ≡ true → place_in ss u ≡ place_in ss v
-    → u ≡ v
+pub place_apart : (ss : List Attaching) (u v : ℕ) → is_in (attached ss) u ≡ true → is_in (attached ss) v ≡ true
+    → place_in ss u ≡ place_in ss v → u ≡ v
 place_apart [] u v i j e =
     elim (in_cases 0 u [] i) [
       | inl p ↦ elim (in_cases 0 v [] j) [ inl q ↦ sym p ∙ q | inr q ↦ absurd (false≢true q) ]
@@ -240,8 +240,8 @@ module _ (w : Network) (t : IsTree w) (later : List Attaching) (s : Attaching) (
 pub network_of : (w : Network) → IsTree w → All HasDelays w.links → w.hosts ≡ [] → IsNetwork w
 network_of w t d e = grind (arith, distinct_from_apart)
 
-module _ (w : Network) (t : IsTree w) (steps : List Attaching) (g : Grows w.links (reverse steps)) (all : length steps + 1 ≡ w.nodes) (i : ℕ)
-    (lt : i < length steps) where
+module _ (w : Network) (t : IsTree w) (steps : List Attaching) (g : Grows w.links (reverse steps)) (all : length steps + 1 ≡ w.nodes)
+    (i : ℕ) (lt : i < length steps) where
   s : Attaching
   s = get_or steps i no_step
 

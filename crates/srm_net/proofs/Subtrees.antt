@@ -255,8 +255,8 @@ spans links steps ends g o h i lt =
           (subst (λ ts. place_in ts w.0 + 1 ≡ end_at ends s.node) split w.2))
     ]
 
-pub told_ends : (links : List LinkSpec) (steps : List Attaching) (ends : List ℕ) → Grows links (reverse steps) → IsInPreorder (reverse steps)
-    → EndsFrom steps 0 ends → TellsEnds steps ends
+pub told_ends : (links : List LinkSpec) (steps : List Attaching) (ends : List ℕ) → Grows links (reverse steps)
+    → IsInPreorder (reverse steps) → EndsFrom steps 0 ends → TellsEnds steps ends
 told_ends links steps ends g o h = record {
   spans = λ i s e. subst (λ (z : Attaching). IsSpan (reverse steps) z (end_at ends z.node)) (get_index steps i s no_step e)
       (spans links steps ends g o h i (get_below steps i s e));
