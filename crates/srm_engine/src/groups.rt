@@ -71,7 +71,8 @@ impl<M: Participant> Groups<M> {
         Groups { cut, groups, soon }
     }
 
-    /// The groups after every member heard what was sent in some rows, in some order. It is handed over in lists that stand in order.
+    /// The groups after every member heard what was sent in some rows, in some order. It is handed over in lists that
+    /// stand in order.
     pub(crate) fn heard_from<K, W: Watch<K>, C: WatchCrew<M, K, W>>(
         self,
         alloc: Global,

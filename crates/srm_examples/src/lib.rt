@@ -1,5 +1,5 @@
-//! How the crates are called, from a scenario's text to its trace (`trace_of`); and what tests of several crates take: whole scenarios,
-//! members whose reactions and ends are watched, and jobs that have to be under way at once.
+//! How the crates are called, from a scenario's text to its trace (`trace_of`); and what tests of several crates take:
+//! whole scenarios, members whose reactions and ends are watched, and jobs that have to be under way at once.
 #![tactic(auto)]
 
 pub mod meeting;

@@ -170,8 +170,8 @@ impl MemberState {
             .take_in_delay(at.saturating_sub(repair.set), distance);
     }
 
-    // Backs off: the request timer of a missing name is set anew (Floyd et al. 1997). Its span grows up to the tenth backoff, or with
-    // the factor three up to the sixth: where it stops is this project's own.
+    // Backs off: the request timer of a missing name is set anew (Floyd et al. 1997). Its span grows up to the tenth
+    // backoff, or with the factor three up to the sixth: where it stops is this project's own.
     fn back_off(&mut self, at: u64, name: Name, missing: Missing) -> Result<(), AllocError>
         requires { at < end_of_time }
         ensures ok { OnOk result (self.new ≡ back_off at name missing self.old) }

@@ -69,8 +69,8 @@ impl<V: Copy> Rising<V> {
 
     // How many entries stand before the place of a name.
     //
-    // Where the map has one page without a gap, that is the name's number, and with gaps a name behind all is asked for most: it takes
-    // no search, which would read entries that the processor's cache no longer has.
+    // Where the map has one page without a gap, that is the name's number, and with gaps a name behind all is asked for
+    // most: it takes no search, which would read entries that the processor's cache no longer has.
     fn place(&self, name: Name) -> usize
         ensures { IsPlaceOf name_cmp name self.now result }
     {

@@ -33,8 +33,8 @@ pub(crate) const PIECES: usize = 4;
 // About how many events are due at least where the workers are woken.
 const ENOUGH: usize = 400;
 
-// The table of a run led by this crew, of these members. They are taken out of an `Option`, since a closure that calls this cannot give
-// them away.
+// The table of a run led by this crew, of these members. They are taken out of an `Option`, since a closure that calls
+// this cannot give them away.
 fn lead<
     M: Participant,
     K: Drop,

@@ -11,9 +11,9 @@
 //! );
 //! ```
 //!
-//! The leader stands in the **second** closure, which stays in its own thread and runs first where no thread can be made. Then, as
-//! with no threads at all, the leader does all the work. As it is written, the workers end when the team is dropped, whatever the
-//! leader returns.
+//! The leader stands in the **second** closure, which stays in its own thread and runs first where no thread can be
+//! made. Then, as with no threads at all, the leader does all the work. As it is written, the workers end when the team
+//! is dropped, whatever the leader returns.
 #![tactic(auto)]
 
 pub mod answer;

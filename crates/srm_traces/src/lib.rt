@@ -1,5 +1,5 @@
-//! Worked scenarios, whose whole traces and crossings the checker computes from the definitions; of some, what their members end with, or
-//! the constants of their timers at the end.
+//! Worked scenarios, whose whole traces and crossings the checker computes from the definitions; of some, what their
+//! members end with, or the constants of their timers at the end.
 #![tactic(auto)]
 
 ghost use Rattle.std.specs.Prelude.{◌≡◌};
@@ -107,7 +107,8 @@ pub fn loss_learnt_from_a_request()
     ensures whole { IsWhole Scenarios.loss_learnt_from_a_request 0 }
 {}
 
-/// An outage of one tick, in which the first of two packets comes to the second link: only the second packet reaches the last member.
+/// An outage of one tick, in which the first of two packets comes to the second link: only the second packet reaches
+/// the last member.
 pub fn outage_of_one_tick()
     ensures trace { whole_trace Scenarios.outage_of_one_tick 0 ≡ outage_of_one_tick_trace }
     ensures totals { whole_totals Scenarios.outage_of_one_tick 0 ≡ outage_of_one_tick_totals }
