@@ -1,23 +1,24 @@
 -- The nearest members of each node, found from below and then from above.
 use Rattle.std.proofs.lemmas.Grind.{common_steps}
 use Rattle.std.proofs.Common.{◌≡◌, ◌≢◌, ◌⊎◌, ℕ, zero, suc, ◌+◌, ◌-◌, ◌<◌, ◌≤◌, List, [], ◌∷◌, length, Option, Some, None, refl}
-use Rattle.std.proofs.Common.{sym, ap, ◌∙◌, subst, inl, inr, arith, slice_get, slice_index, slice_index_or, slice_set, All}
+use Rattle.std.proofs.Common.{sym, ap, ◌∙◌, subst, inl, inr, arith, slice_get, slice_index, slice_index_or, slice_set}
 use Rattle.std.proofs.Common.{take, drop, ◌++◌}
 use Rattle.std.proofs.lemmas.Bool.{cases_eq}
-use Rattle.std.proofs.lemmas.List.{length-set, get_or-set_same, get_or-set_other, get_or_default, take_all, take-append-le}
+use Rattle.std.proofs.lemmas.List.{get_or-set_same, get_or-set_other, get_or_default, take_all, take-append-le}
 use Rattle.srm_net.specs.declared.near.Near.{Near}
 use Rattle.srm_net.specs.declared.nearest.Nearest.{Nearest}
 use Rattle.srm_net.specs.declared.nearest.Nearest.TheVariants.{Nobody, One, Two}
 use Rattle.srm_net.specs.declared.position.Position.{Position}
 use Rattle.srm_net.specs.Least.{out}
-use Rattle.srm_net.specs.Nearness.{second_ticks, IsOneOf, IsNearestFirst, Covers, Takes, nearest_of, IsByPlace, IsSound, TellsOwn}
-use Rattle.srm_net.specs.Nearness.{TellsBelow, TellsNearest}
+use Rattle.srm_net.specs.Nearness.{second_ticks, IsOneOf, IsNearestFirst, Covers, Takes, nearest_of, IsSound, TellsOwn, TellsBelow}
+use Rattle.srm_net.specs.Nearness.{TellsNearest, IsBelowRoot, TellsUpTo, TellsDownTo}
 use Rattle.srm_net.specs.Network.{Network, IsNetwork}
 use Rattle.srm_net.specs.Paths.{host, distance, delay_of}
-use Rattle.srm_net.specs.Rooting.{takes, at, IsRooted, IsFirstLink, IsHeld, IsChildAbove}
+use Rattle.srm_net.specs.Rooting.{takes, at, IsRooted, IsInOrder, IsFirstLink, IsHeld, IsChildAbove}
+use Rattle.srm_net.proofs.Arrivals.{ordered, same_place}
 use Rattle.srm_net.proofs.Firsts.{first_down, first_up, held_itself, held_later, held_by_parent, parent_held}
 use Rattle.srm_net.proofs.LawProofs.{out_fits, out_of_the_only_one}
-use Rattle.srm_net.proofs.Lists.{get_push_old, get_push_new}
+use Rattle.srm_net.proofs.Lists.{get_below, get_push_old, get_push_new}
 use Rattle.srm_net.proofs.PathLaws.{delay_bounded, distance_apart, host_below}
 use Rattle.srm_net.proofs.Rootings.{takes_nothing, parent_there, parent_back}
 use Rattle.srm_net.proofs.ToldLemmas.{OutsBelow}
@@ -211,67 +212,13 @@ module _ (w : Network) (ps : List Position) (r : IsRooted w ps) where
   pub child_over : (u v : ℕ) → u < w.nodes → v < w.nodes → u ≢ v → IsHeld (at ps u) (at ps v) → (y : ℕ) × IsChildAbove w ps u v y
   child_over u v hu hv d h = child_from u v hu hv (at ps v).place v (omega arith) hv d h (held_itself w ps r v hv)
 
-  pub place_most : (u : ℕ) → u < w.nodes → (at ps u).place < (at ps 0).end
-  place_most u hu = subst (λ p. p < (at ps 0).end) (sym (r.each u hu).place_is) (r.whole u hu)
-
   pub root_holds : (u x : ℕ) → u < w.nodes → x < w.nodes → (at ps u).place ≡ 0 → IsHeld (at ps u) (at ps x)
   root_holds u x hu hx z =
       let root : r.place 0 ≡ 0 = r.root in
       let e = (r.each u hu).place_is in
       let same : u ≡ 0 = r.apart u 0 hu r.tree.some_nodes (sym e ∙ z ∙ sym root) in
-      let most = place_most x hx in
+      let most : (at ps x).place < (at ps 0).end = subst (λ p. p < (at ps 0).end) (sym (r.each x hx).place_is) (r.whole x hx) in
       (omega arith, subst (λ v. (at ps x).place < (at ps v).end) (sym same) most)
-
--- ---- from below
-
--- the nodes from this place on were taken into account at their parents
-pub record UpTo (w : Network) (ps : List Position) (table : List Nearest) (i : ℕ) : Type 0 where
-  pub sound : IsSound w table
-  pub own : TellsOwn w table
-  pub below : (c m : ℕ) → c < w.nodes → m < length w.hosts → i ≤ (at ps c).place → 1 ≤ (at ps c).place
-      → IsHeld (at ps c) (at ps (host w m)) → Covers (nearest_of table (at ps c).parent) m (takes w (at ps c).parent (host w m))
-
--- ---- what is read of positions
-
-pub delay_down : (w : Network) (ps : List Position) (r : IsRooted w ps) (c : ℕ) (hc : c < w.nodes) → 1 ≤ (at ps c).place
-    → (q above : Position) → q ≡ at ps c → above ≡ at ps q.parent
-    → (q.down ≡ above.down + over_down w ps r c) × (q.down - above.down ≡ over_down w ps r c)
-delay_down w ps r c hc one q above e f = grind (arith, down_more)
-
-pub delay_up : (w : Network) (ps : List Position) (r : IsRooted w ps) (c : ℕ) (hc : c < w.nodes) → 1 ≤ (at ps c).place
-    → (q above : Position) → q ≡ at ps c → above ≡ at ps q.parent
-    → (q.up ≡ over_up w ps r c + above.up) × (q.up - above.up ≡ over_up w ps r c)
-delay_up w ps r c hc one q above e f =
-    let k = up_more w ps r c hc one in
-    let a : q.up ≡ (at ps c).up = ap (λ (p : Position). p.up) e in
-    let b : above.up ≡ (at ps (at ps c).parent).up = ap (λ (p : Position). p.up) (f ∙ ap (λ (p : Position). at ps p.parent) e) in
-    let sum : q.up ≡ over_up w ps r c + above.up = a ∙ k ∙ ap (λ d. over_up w ps r c + d) (sym b) in
-    (sum, omega arith)
-
-pub parent_within : (w : Network) (ps : List Position) (r : IsRooted w ps) (c : ℕ) → c < w.nodes → (q : Position) → q ≡ at ps c
-    → q.place ≢ 0 → q.parent < w.nodes
-parent_within w ps r c hc q e d =
-    subst (λ (p : Position). p.parent < w.nodes) (sym e)
-    (parent_there_below w ps r c hc (subst (λ (p : Position). 1 ≤ p.place) e (omega arith)))
-
--- ---- the order of places
-
-pub below_set : (n : ℕ) (xs : List ℕ) (i x : ℕ) → x < n → All (λ u. u < n) xs → All (λ u. u < n) (slice_set xs i x)
-below_set n xs i x h a k d lt = grind (arith, length-set, get_or-set_same, get_or-set_other)
-
-pub placed_more : (w : Network) (ps : List Position) → IsRooted w ps → (xs : List ℕ) (n : ℕ) → length xs ≡ (at ps 0).end → n < w.nodes
-    → ((u : ℕ) → u < n → slice_index xs (at ps u).place ≡ u)
-    → (u : ℕ) → u < n + 1 → slice_index (slice_set xs (at ps n).place n) (at ps u).place ≡ u
-placed_more w ps r xs n long hn old u h =
-    let most = place_most w ps r n hn in
-    elim (cases_eq u n) [
-      | inl e ↦ subst (λ v. slice_index (slice_set xs (at ps n).place n) (at ps v).place ≡ v) (sym e)
-          (get_or-set_same xs (at ps n).place n 0 (omega arith))
-      | inr d ↦ (let hu : u < w.nodes = omega arith in
-          let other : (at ps u).place ≢ (at ps n).place =
-          λ e. d (r.apart u n hu hn (sym (r.each u hu).place_is ∙ e ∙ (r.each n hn).place_is)) in
-          get_or-set_other xs (at ps n).place (at ps u).place n 0 other ∙ old u (omega arith))
-    ]
 
 -- ---- members at their own nodes
 
@@ -295,148 +242,135 @@ pub home_sound : (w : Network) (table : List Nearest) (i : ℕ) → length table
     → IsSound w table
 home_sound w table i long few alone = grind (arith, takes_nothing)
 
-module _ (w : Network) (ps : List Position) (order : List ℕ) (b : IsByPlace w ps order) where
+-- ---- from below, and from above
+
+module _ (w : Network) (ps : List Position) (n : IsNetwork w) (r : IsRooted w ps) (table : List Nearest) where
   -- a node at whose place that has come has all members below it
-  complete : (table : List Nearest) (i : ℕ) → UpTo w ps table i → (u m : ℕ) → u < w.nodes → m < length w.hosts → i ≤ (at ps u).place + 1
+  complete : (i : ℕ) → TellsUpTo w ps i table → (u m : ℕ) → u < w.nodes → m < length w.hosts → i ≤ (at ps u).place + 1
       → IsHeld (at ps u) (at ps (host w m)) → Covers (nearest_of table u) m (takes w u (host w m))
-  complete table i up u m hu hm le held =
+  complete i up u m hu hm le held =
       elim (cases_eq u (host w m)) [
         | inl e ↦ subst (λ t. Covers (nearest_of table u) m t)
             (sym (takes_nothing w u) ∙ ap (takes w u) e)
             (subst (λ v. Covers (nearest_of table v) m 0) (sym e) (up.own m hm))
-        | inr d ↦ (let y = child_over w ps b.rooted u (host w m) hu (host_below w b.network m hm) d held in
+        | inr d ↦ (let y = child_over w ps r u (host w m) hu (host_below w n m hm) d held in
             let lower : (at ps u).place < (at ps y.0).place = y.1.below in
             subst (λ v. Covers (nearest_of table v) m (takes w v (host w m))) y.1.parent
             (up.below y.0 m y.1.node hm (omega arith) (omega arith) y.1.held))
       ]
 
-  pub up_done : (table : List Nearest) → UpTo w ps table 0 → TellsBelow w ps table
-  up_done table up u m hu hm held = complete table 0 up u m hu hm (omega arith) held
+  -- no node has a place after all
+  pub up_none : (order : List ℕ) (i : ℕ) → IsInOrder w ps order → length order ≤ i → IsSound w table → TellsOwn w table
+      → TellsUpTo w ps i table
+  up_none order i o le s own = record {
+    sound = s;
+    own = own;
+    below = λ u m hu hm first one held. let k = get_below order (at ps u).place u (o.each u hu) in absurd (omega arith);
+  }
 
-  module _ (table : List Nearest) (i : ℕ) (lt : i < length order) where
-    u : ℕ
-    u = slice_index order i
+  -- once all nodes told their parents, all is told of the root
+  pub up_done : (i : ℕ) → i ≤ 1 → TellsUpTo w ps i table → TellsDownTo w ps 1 table
+  up_done i le up =
+      let below : TellsBelow w ps table = λ u m hu hm held. complete i up u m hu hm (omega arith) held in
+      record {
+        sound = up.sound;
+        below = below;
+        all = λ u m hu hm first. below u m hu hm (root_holds w ps r u (host w m) hu (host_below w n m hm) (omega arith));
+      }
 
-    pub node_at : slice_index order i < w.nodes
-    node_at = b.below i 0 lt
-
-    pub up_skip : UpTo w ps table (i + 1) → (at ps (slice_index order i)).place ≡ 0 → UpTo w ps table i
-    up_skip up z = record {
-      sound = up.sound;
-      own = up.own;
-      below = λ c m hc hm le one held. elim (cases_eq (at ps c).place i) [
-        | inl e ↦ (let same : slice_index order i ≡ c = ap (slice_index order) (sym e) ∙ b.placed c hc in
-            let none : (at ps c).place ≡ 0 = subst (λ v. (at ps v).place ≡ 0) same z in
-            absurd (omega arith))
-        | inr d ↦ up.below c m hc hm (omega arith) one held
-      ];
-    }
-
-    pub up_sound : IsSound w table → (one : 1 ≤ (at ps (slice_index order i)).place) → (d : ℕ)
-        → d ≡ over_down w ps b.rooted (slice_index order i) → (new : Nearest)
-        → Takes (nearest_of table (at ps (slice_index order i)).parent) (nearest_of table (slice_index order i)) d new
-        → IsSound w (slice_set table (at ps (slice_index order i)).parent new)
-    up_sound s one d is new t =
-        let c = slice_index order i in
-        let p = (at ps c).parent in
-        step_sound w b.network table s c p d new node_at (parent_there_below w ps b.rooted c node_at one) t
-        (λ x hx. subst (λ k. takes w p x ≤ takes w c x + k) (sym is) (parent_near w ps b.rooted c node_at one x hx))
-
-    pub up_step : UpTo w ps table (i + 1) → (one : 1 ≤ (at ps (slice_index order i)).place) → (d : ℕ)
-        → d ≡ over_down w ps b.rooted (slice_index order i) → (new : Nearest)
-        → Takes (nearest_of table (at ps (slice_index order i)).parent) (nearest_of table (slice_index order i)) d new
-        → UpTo w ps (slice_set table (at ps (slice_index order i)).parent new) i
-    up_step up one d is new t =
-        let c = slice_index order i in
-        let p = (at ps c).parent in
-        let hp = parent_there_below w ps b.rooted c node_at one in
-        record {
-          sound = up_sound up.sound one d is new t;
-          own = λ m hm. step_keeps w b.network table up.sound c p d new node_at hp t (host w m) m 0 (host_below w b.network m hm)
-              (up.own m hm);
-          below = λ x m hx hm le first held. elim (cases_eq (at ps x).place i) [
-            | inl e ↦ (let same : c ≡ x = ap (slice_index order) (sym e) ∙ b.placed x hx in
-                let here : IsHeld (at ps c) (at ps (host w m)) = subst (λ v. IsHeld (at ps v) (at ps (host w m))) (sym same) held in
-                let place : (at ps c).place ≡ i = ap (λ v. (at ps v).place) same ∙ e in
-                let all = complete table (i + 1) up c m node_at hm (omega arith) here in
-                let got = step_takes w b.network table up.sound c p d new node_at hp t m (takes w c (host w m)) all in
-                let far : takes w c (host w m) + d ≡ takes w p (host w m) = ap (λ k. takes w c (host w m) + k) is
-                ∙ sym (from_parent w ps b.rooted c node_at one (host w m) (host_below w b.network m hm) here) in
-                subst (λ v. Covers (nearest_of (slice_set table p new) (at ps v).parent) m (takes w (at ps v).parent (host w m))) same
-                (subst (λ k. Covers (nearest_of (slice_set table p new) p) m k) far got))
-            | inr q ↦ step_keeps w b.network table up.sound c p d new node_at hp t (at ps x).parent m (takes w (at ps x).parent (host w m))
-                (parent_there_below w ps b.rooted x hx first) (up.below x m hx hm (omega arith) first held)
-          ];
-        }
-
-  -- ---- and from above
-
-  -- at the nodes before this place all members were taken into account
-  pub record DownTo (table : List Nearest) (i : ℕ) : Type 0 where
-    pub sound : IsSound w table
-    pub below : TellsBelow w ps table
-    pub all : (u m : ℕ) → u < w.nodes → m < length w.hosts → (at ps u).place < i → Covers (nearest_of table u) m (takes w u (host w m))
-
-  pub down_done : (table : List Nearest) (i : ℕ) → length order ≤ i → DownTo table i → TellsNearest w table
-  down_done table i le down u m hu hm =
-      let most : (at ps u).place < (at ps 0).end = place_most w ps b.rooted u hu in
-      let long : length order ≡ (at ps 0).end = b.long in
+  pub down_done : (order : List ℕ) (i : ℕ) → IsInOrder w ps order → length order ≤ i → TellsDownTo w ps i table → TellsNearest w table
+  down_done order i o le down u m hu hm =
+      let k = get_below order (at ps u).place u (o.each u hu) in
       down.all u m hu hm (omega arith)
 
-  module _ (table : List Nearest) (i : ℕ) (lt : i < length order) where
-    here : slice_index order i < w.nodes
-    here = b.below i 0 lt
+-- the node at a place of the order that is not the first
+pub placed : (w : Network) (ps : List Position) → IsNetwork w → IsRooted w ps → (order items : List ℕ) (i : ℕ) → IsInOrder w ps order
+    → items ≡ order → 1 ≤ i → i < length items → IsBelowRoot w ps (slice_index items i) × ((at ps (slice_index items i)).place ≡ i)
+placed w ps n r order items i o e one lt =
+    let k = ordered w ps r o e lt in
+    (record { network = n; rooted = r; node = k.0; place = subst (λ j. 1 ≤ j) (sym k.1) one }, k.1)
 
-    pub down_skip : DownTo table i → (at ps (slice_index order i)).place ≡ 0 → DownTo table (i + 1)
-    down_skip down z = record {
-      sound = down.sound;
-      below = down.below;
-      all = λ v m hv hm le. elim (cases_eq (at ps v).place i) [
-        | inl e ↦ (let same : slice_index order i ≡ v = ap (slice_index order) (sym e) ∙ b.placed v hv in
-            let none : (at ps v).place ≡ 0 = subst (λ x. (at ps x).place ≡ 0) same z in
-            down.below v m hv hm (root_holds w ps b.rooted v (host w m) hv (host_below w b.network m hm) none))
-        | inr d ↦ down.all v m hv hm (omega arith)
-      ];
-    }
+-- a node and its parent, as they are read
+module _ {w : Network} {ps : List Position} {c : ℕ} {here there : Position} (b : IsBelowRoot w ps c) (e : here ≡ at ps c)
+    (f : there ≡ at ps here.parent) where
+  abbrev n : IsNetwork w
+  n = b.network
 
-    pub down_sound : IsSound w table → (one : 1 ≤ (at ps (slice_index order i)).place) → (d : ℕ)
-        → d ≡ over_up w ps b.rooted (slice_index order i) → (new : Nearest)
-        → Takes (nearest_of table (slice_index order i)) (nearest_of table (at ps (slice_index order i)).parent) d new
-        → IsSound w (slice_set table (slice_index order i) new)
-    down_sound s one d is new t =
-        let c = slice_index order i in
-        let p = (at ps c).parent in
-        step_sound w b.network table s p c d new (parent_there_below w ps b.rooted c here one) here t
-        (λ x hx. subst (λ k. takes w c x ≤ takes w p x + k) (sym is) (child_near w ps b.rooted c here one x hx))
+  abbrev r : IsRooted w ps
+  r = b.rooted
 
-    pub down_step : DownTo table i → (one : 1 ≤ (at ps (slice_index order i)).place) → (d : ℕ)
-        → d ≡ over_up w ps b.rooted (slice_index order i) → (new : Nearest)
-        → Takes (nearest_of table (slice_index order i)) (nearest_of table (at ps (slice_index order i)).parent) d new
-        → DownTo (slice_set table (slice_index order i) new) (i + 1)
-    down_step down one d is new t =
-        let c = slice_index order i in
-        let p = (at ps c).parent in
-        let hp = parent_there_below w ps b.rooted c here one in
-        let before : (at ps p).place < (at ps c).place = parent_before w ps b.rooted c here one in
-        record {
-          sound = down_sound down.sound one d is new t;
-          below = λ v m hv hm held. step_keeps w b.network table down.sound p c d new hp here t v m (takes w v (host w m)) hv
-              (down.below v m hv hm held);
-          all = λ v m hv hm le. elim (cases_eq (at ps v).place i) [
-            | inl e ↦ (let same : c ≡ v = ap (slice_index order) (sym e) ∙ b.placed v hv in
-                let place : (at ps c).place ≡ i = ap (λ x. (at ps x).place) same ∙ e in
-                let hx = host_below w b.network m hm in
-                subst (λ x. Covers (nearest_of (slice_set table c new) x) m (takes w x (host w m))) same
-                (elim (held_or_not w ps b.rooted (at ps c) (at ps (host w m))) [
-                  | inl h ↦ step_keeps w b.network table down.sound p c d new hp here t c m (takes w c (host w m)) here
-                      (down.below c m here hm h)
-                  | inr h ↦ (let got = step_takes w b.network table down.sound p c d new hp here t m (takes w p (host w m))
-                      (down.all p m hp hm (omega arith)) in
-                      let far : takes w p (host w m) + d ≡ takes w c (host w m) = ap (λ k. takes w p (host w m) + k) is
-                      ∙ sym (to_parent w ps b.rooted c here one (host w m) hx h) in
-                      subst (λ k. Covers (nearest_of (slice_set table c new) c) m k) far got)
-                ]))
-            | inr q ↦ step_keeps w b.network table down.sound p c d new hp here t v m (takes w v (host w m)) hv
-                (down.all v m hv hm (omega arith))
-          ];
-        }
+  parent_is : here.parent ≡ (at ps c).parent
+  parent_is = ap (λ (p : Position). p.parent) e
+
+  there_is : there ≡ at ps (at ps c).parent
+  there_is = f ∙ ap (at ps) parent_is
+
+  pub parent_node : here.parent < w.nodes
+  parent_node = subst (λ p. p < w.nodes) (sym parent_is) (parent_there_below w ps r c b.node b.place)
+
+  pub down_is : here.down ≡ there.down + over_down w ps r c
+  down_is =
+      ap (λ (p : Position). p.down) e ∙ down_more w ps r c b.node b.place
+      ∙ ap (λ (p : Position). p.down + over_down w ps r c) (sym there_is)
+
+  pub up_is : here.up ≡ over_up w ps r c + there.up
+  up_is =
+      ap (λ (p : Position). p.up) e ∙ up_more w ps r c b.node b.place ∙ ap (λ (p : Position). over_up w ps r c + p.up) (sym there_is)
+
+  down_ticks : here.down - there.down ≡ over_down w ps r c
+  down_ticks = let k = down_is in omega arith
+
+  up_ticks : here.up - there.up ≡ over_up w ps r c
+  up_ticks = let k = up_is in omega arith
+
+  -- the members on or below it are taken into account at its parent
+  pub offered_up : {table : List Nearest} {new : Nearest} → TellsUpTo w ps ((at ps c).place + 1) table
+      → Takes (nearest_of table here.parent) (nearest_of table c) (here.down - there.down) new
+      → TellsUpTo w ps (at ps c).place (slice_set table here.parent new)
+  offered_up {table} {new} up t =
+      let p = here.parent in
+      let d = here.down - there.down in
+      let set = slice_set table p new in
+      let keeps = step_keeps w n table up.sound c p d new b.node parent_node t in
+      record {
+        sound = step_sound w n table up.sound c p d new b.node parent_node t
+            (λ x hx. rw (down_ticks, parent_is) (parent_near w ps r c b.node b.place x hx));
+        own = λ m hm. keeps (host w m) m 0 (host_below w n m hm) (up.own m hm);
+        below = λ u m hu hm le first held. elim (cases_eq (at ps u).place (at ps c).place) [
+          | inl same ↦ (let is : c ≡ u = same_place w ps r c u b.node hu (sym same) in
+              let own : IsHeld (at ps c) (at ps (host w m)) = subst (λ v. IsHeld (at ps v) (at ps (host w m))) (sym is) held in
+              let far : takes w c (host w m) + d ≡ takes w p (host w m) =
+              rw (down_ticks, parent_is) (sym (from_parent w ps r c b.node b.place (host w m) (host_below w n m hm) own)) in
+              subst (λ q. Covers (nearest_of set q) m (takes w q (host w m))) (parent_is ∙ ap (λ v. (at ps v).parent) is)
+              (subst (Covers (nearest_of set p) m) far (step_takes w n table up.sound c p d new b.node parent_node t m
+              (takes w c (host w m)) (complete w ps n r table ((at ps c).place + 1) up c m b.node hm (omega arith) own))))
+          | inr other ↦ keeps (at ps u).parent m (takes w (at ps u).parent (host w m)) (parent_there_below w ps r u hu first)
+              (up.below u m hu hm (omega arith) first held)
+        ];
+      }
+
+  -- the members that its parent knows are taken into account at it
+  pub offered_down : {table : List Nearest} {new : Nearest} → TellsDownTo w ps (at ps c).place table
+      → Takes (nearest_of table c) (nearest_of table here.parent) (here.up - there.up) new
+      → TellsDownTo w ps ((at ps c).place + 1) (slice_set table c new)
+  offered_down {table} {new} down t =
+      let p = here.parent in
+      let d = here.up - there.up in
+      let set = slice_set table c new in
+      let keeps = step_keeps w n table down.sound p c d new parent_node b.node t in
+      record {
+        sound = step_sound w n table down.sound p c d new parent_node b.node t
+            (λ x hx. rw (up_ticks, parent_is) (child_near w ps r c b.node b.place x hx));
+        below = λ u m hu hm held. keeps u m (takes w u (host w m)) hu (down.below u m hu hm held);
+        all = λ u m hu hm le. elim (cases_eq (at ps u).place (at ps c).place) [
+          | inl same ↦ subst (λ x. Covers (nearest_of set x) m (takes w x (host w m))) (same_place w ps r c u b.node hu (sym same))
+              (elim (held_or_not w ps r (at ps c) (at ps (host w m))) [
+                | inl h ↦ keeps c m (takes w c (host w m)) b.node (down.below c m b.node hm h)
+                | inr h ↦ (let far : takes w p (host w m) + d ≡ takes w c (host w m) =
+                    rw (up_ticks, parent_is) (sym (to_parent w ps r c b.node b.place (host w m) (host_below w n m hm) h)) in
+                    subst (Covers (nearest_of set c) m) far (step_takes w n table down.sound p c d new parent_node b.node t m
+                    (takes w p (host w m)) (down.all p m parent_node hm (rw parent_is (parent_before w ps r c b.node b.place)))))
+              ])
+          | inr other ↦ keeps u m (takes w u (host w m)) hu (down.all u m hu hm (omega arith))
+        ];
+      }

@@ -1,7 +1,6 @@
 -- The nearest members of each node.
 use Rattle.std.specs.Prelude.{◌≡◌, ◌≢◌, ◌⊎◌, ℕ, ◌+◌, ◌-◌, ◌^◌, ◌<◌, ◌≤◌}
-use Rattle.std.specs.Prelude.{min, nat_lt, All, List, Option, Some, None, length}
-use Rattle.std.specs.Prelude.{slice_index, slice_index_or, if◌then◌else◌}
+use Rattle.std.specs.Prelude.{min, nat_lt, List, Option, Some, None, length, slice_index_or, if◌then◌else◌}
 use Rattle.srm_net.specs.declared.near.Near.{Near}
 use Rattle.srm_net.specs.declared.nearest.Nearest.{Nearest}
 use Rattle.srm_net.specs.declared.nearest.Nearest.TheVariants.{Nobody, One, Two}
@@ -62,14 +61,6 @@ pub record Takes (old others : Nearest) (delay : ℕ) (new : Nearest) : Type 0 w
 abbrev pub nearest_of : List Nearest → ℕ → Nearest
 nearest_of table u = slice_index_or table u Nobody
 
--- these are the nodes in the order of their places
-pub record IsByPlace (w : Network) (positions : List Position) (order : List ℕ) : Type 0 where
-  pub network : IsNetwork w
-  pub rooted : IsRooted w positions
-  pub long : length order ≡ (at positions 0).end
-  pub below : All (λ u. u < w.nodes) order
-  pub placed : (u : ℕ) → u < w.nodes → slice_index order (at positions u).place ≡ u
-
 -- for each node, ordered members to which a packet from there takes no longer than told
 pub record IsSound (w : Network) (table : List Nearest) : Type 0 where
   pub long : length table ≡ w.nodes
@@ -91,3 +82,27 @@ TellsBelow w positions table =
 abbrev pub TellsNearest : Network → List Nearest → Type 0
 TellsNearest w table =
     (u m : ℕ) → u < w.nodes → m < length w.hosts → Covers (nearest_of table u) m (takes w u (host w m))
+
+-- ---- node after node
+
+-- the positions of a network's nodes are told, and node u is one of them, but not the root
+pub record IsBelowRoot (w : Network) (positions : List Position) (u : ℕ) : Type 0 where
+  pub network : IsNetwork w
+  pub rooted : IsRooted w positions
+  pub node : u < w.nodes
+  pub place : 1 ≤ (at positions u).place
+
+-- each member is taken into account at its own node, and those on or below each node from place i on are at its parent
+pub record TellsUpTo (w : Network) (positions : List Position) (i : ℕ) (table : List Nearest) : Type 0 where
+  pub sound : IsSound w table
+  pub own : TellsOwn w table
+  pub below : (u m : ℕ) → u < w.nodes → m < length w.hosts → i ≤ (at positions u).place → 1 ≤ (at positions u).place
+      → IsHeld (at positions u) (at positions (host w m))
+      → Covers (nearest_of table (at positions u).parent) m (takes w (at positions u).parent (host w m))
+
+-- at each node the members on it or below it are taken into account, and at those before place i all are
+pub record TellsDownTo (w : Network) (positions : List Position) (i : ℕ) (table : List Nearest) : Type 0 where
+  pub sound : IsSound w table
+  pub below : TellsBelow w positions table
+  pub all : (u m : ℕ) → u < w.nodes → m < length w.hosts → (at positions u).place < i
+      → Covers (nearest_of table u) m (takes w u (host w m))

@@ -1,8 +1,8 @@
 //! How far it is from each member to the nearest other.
-ghost use Rattle.std.specs.Prelude.{◌≡◌, ◌<◌, IfOk, length, slice_set};
-ghost use Rattle.srm_net.specs.Nearness.{Takes, nearest_of, IsByPlace, IsSound, TellsOwn, TellsBelow, TellsNearest};
+ghost use Rattle.std.specs.Prelude.{◌≡◌, ◌+◌, ◌<◌, IfOk, length, slice_set};
+ghost use Rattle.srm_net.specs.Nearness.{Takes, nearest_of, IsSound, TellsOwn, TellsNearest, IsBelowRoot, TellsUpTo, TellsDownTo};
 ghost use Rattle.srm_net.specs.Network.{Network, IsNetwork};
-ghost use Rattle.srm_net.specs.Rooting.{IsRooted};
+ghost use Rattle.srm_net.specs.Rooting.{at, TellsTree};
 ghost use Rattle.srm_net.specs.Tables.{TellsOuts};
 ghost use Rattle.srm_net.specs.declared.nearest.Nearest.{Nearest};
 
@@ -19,14 +19,12 @@ pub(crate) fn all_outs(
     rooted: &Rooted,
     hosts: &[u16],
 ) -> Result<Vec<Option<u64>>, AllocError>
-    requires { (w : Network) × IsNetwork w × IsRooted w rooted.now.positions.items × (w.hosts ≡ hosts.now) }
-    ensures { (w : Network) → IsNetwork w → IsRooted w rooted.now.positions.items → w.hosts ≡ hosts.now
+    requires { (w : Network) × IsNetwork w × TellsTree w rooted.now × (w.hosts ≡ hosts.now) }
+    ensures { (w : Network) → IsNetwork w → TellsTree w rooted.now → w.hosts ≡ hosts.now
         → IfOk result (λ outs. TellsOuts w outs.items) }
 {
-    let order = by_place(alloc, rooted)?;
     let mut table = at_home(alloc, rooted, hosts)?;
-    offer_up(rooted, &order, table.as_mut_slice());
-    offer_down(rooted, &order, table.as_mut_slice());
+    offer_all(rooted, table.as_mut_slice());
     let mut outs = Vec::new(alloc);
     for host in hosts {
         outs.push(table[usize::from(*host)].second())?;
@@ -34,27 +32,12 @@ pub(crate) fn all_outs(
     Ok(outs)
 }
 
-// The nodes in the order of their places.
-fn by_place(alloc: Global, rooted: &Rooted) -> Result<Vec<u16>, AllocError>
-    requires { (w : Network) × IsNetwork w × IsRooted w rooted.now.positions.items }
-    ensures { (w : Network) → IsNetwork w → IsRooted w rooted.now.positions.items
-        → IfOk result (λ order. IsByPlace w rooted.now.positions.items order.items) }
-{
-    let size = rooted.position(0).end;
-    let mut order = vec![in alloc; 0u16; usize::from(size)]?;
-    for node in 0..rooted.positions.len() as u16 {
-        let place = rooted.position(node).place;
-        order[usize::from(place)] = node;
-    }
-    Ok(order)
-}
-
 // For each node that hosts a member this one alone.
 fn at_home(alloc: Global, rooted: &Rooted, hosts: &[u16]) -> Result<Vec<Nearest>, AllocError>
-    requires { (w : Network) × IsNetwork w × IsRooted w rooted.now.positions.items × (w.hosts ≡ hosts.now) }
-    ensures sound { (w : Network) → IsNetwork w → IsRooted w rooted.now.positions.items → w.hosts ≡ hosts.now
+    requires { (w : Network) × IsNetwork w × TellsTree w rooted.now × (w.hosts ≡ hosts.now) }
+    ensures sound { (w : Network) → IsNetwork w → TellsTree w rooted.now → w.hosts ≡ hosts.now
         → IfOk result (λ table. IsSound w table.items) }
-    ensures own { (w : Network) → IsNetwork w → IsRooted w rooted.now.positions.items → w.hosts ≡ hosts.now
+    ensures own { (w : Network) → IsNetwork w → TellsTree w rooted.now → w.hosts ≡ hosts.now
         → IfOk result (λ table. TellsOwn w table.items) }
 {
     let mut table = vec![in alloc; Nearest::Nobody; rooted.positions.len()]?;
@@ -68,42 +51,69 @@ fn at_home(alloc: Global, rooted: &Rooted, hosts: &[u16]) -> Result<Vec<Nearest>
     Ok(table)
 }
 
-// Takes into account at each node the members below it.
-fn offer_up(rooted: &Rooted, order: &[u16], table: &mut [Nearest])
-    requires { (w : Network) × IsByPlace w rooted.now.positions.items order.now × IsSound w table.old }
-    ensures sound { (w : Network) → IsByPlace w rooted.now.positions.items order.now → IsSound w table.old → TellsOwn w table.old
+// Takes into account at each node all members, where each is at its own.
+fn offer_all(rooted: &Rooted, table: &mut [Nearest])
+    requires { (w : Network) × IsNetwork w × TellsTree w rooted.now × IsSound w table.old × TellsOwn w table.old }
+    ensures sound { (w : Network) → IsNetwork w → TellsTree w rooted.now → IsSound w table.old → TellsOwn w table.old
         → IsSound w table.new }
-    ensures below { (w : Network) → IsByPlace w rooted.now.positions.items order.now → IsSound w table.old → TellsOwn w table.old
-        → TellsBelow w rooted.now.positions.items table.new }
+    ensures nearest { (w : Network) → IsNetwork w → TellsTree w rooted.now → IsSound w table.old → TellsOwn w table.old
+        → TellsNearest w table.new }
 {
-    for index in (0..order.len()).rev() {
-        let node = order[index];
-        let here = rooted.position(node);
-        if here.place == 0 {
-            continue;
-        }
-        let delay = here.down - rooted.position(here.parent).down;
-        offer(table, node, here.parent, delay);
+    offer_up(rooted, table);
+    offer_down(rooted, table);
+}
+
+// Takes into account at each node the members below it.
+fn offer_up(rooted: &Rooted, table: &mut [Nearest])
+    requires { (w : Network) × IsNetwork w × TellsTree w rooted.now × IsSound w table.old × TellsOwn w table.old }
+    ensures { (w : Network) → IsNetwork w → TellsTree w rooted.now → IsSound w table.old → TellsOwn w table.old
+        → TellsDownTo w rooted.now.positions.items 1 table.new }
+{
+    let order = rooted.order.as_slice();
+    for index in (1..order.len()).rev() {
+        offer_to_parent(rooted, order[index], table);
     }
 }
 
 // Takes into account at each node those that are not below it.
-fn offer_down(rooted: &Rooted, order: &[u16], table: &mut [Nearest])
-    requires { (w : Network) × IsByPlace w rooted.now.positions.items order.now × IsSound w table.old }
-    ensures sound { (w : Network) → IsByPlace w rooted.now.positions.items order.now → IsSound w table.old
-        → TellsBelow w rooted.now.positions.items table.old → IsSound w table.new }
-    ensures nearest { (w : Network) → IsByPlace w rooted.now.positions.items order.now → IsSound w table.old
-        → TellsBelow w rooted.now.positions.items table.old → TellsNearest w table.new }
+fn offer_down(rooted: &Rooted, table: &mut [Nearest])
+    requires { (w : Network) × IsNetwork w × TellsTree w rooted.now
+        × TellsDownTo w rooted.now.positions.items 1 table.old }
+    ensures sound { (w : Network) → IsNetwork w → TellsTree w rooted.now
+        → TellsDownTo w rooted.now.positions.items 1 table.old → IsSound w table.new }
+    ensures nearest { (w : Network) → IsNetwork w → TellsTree w rooted.now
+        → TellsDownTo w rooted.now.positions.items 1 table.old → TellsNearest w table.new }
 {
-    for index in 0..order.len() {
-        let node = order[index];
-        let here = rooted.position(node);
-        if here.place == 0 {
-            continue;
-        }
-        let delay = here.up - rooted.position(here.parent).up;
-        offer(table, here.parent, node, delay);
+    let order = rooted.order.as_slice();
+    for index in 1..order.len() {
+        offer_from_parent(rooted, order[index], table);
     }
+}
+
+// Takes into account at the parent of this node the members on the node or below it.
+fn offer_to_parent(rooted: &Rooted, node: u16, table: &mut [Nearest])
+    requires { (w : Network) × IsBelowRoot w rooted.now.positions.items node
+        × TellsUpTo w rooted.now.positions.items ((at rooted.now.positions.items node).place + 1) table.old }
+    ensures { (w : Network) → IsBelowRoot w rooted.now.positions.items node
+        → TellsUpTo w rooted.now.positions.items ((at rooted.now.positions.items node).place + 1) table.old
+        → TellsUpTo w rooted.now.positions.items (at rooted.now.positions.items node).place table.new }
+{
+    let here = rooted.position(node);
+    let delay = here.down - rooted.position(here.parent).down;
+    offer(table, node, here.parent, delay);
+}
+
+// Takes into account at this node the members that are not below it, as its parent knows them.
+fn offer_from_parent(rooted: &Rooted, node: u16, table: &mut [Nearest])
+    requires { (w : Network) × IsBelowRoot w rooted.now.positions.items node
+        × TellsDownTo w rooted.now.positions.items (at rooted.now.positions.items node).place table.old }
+    ensures { (w : Network) → IsBelowRoot w rooted.now.positions.items node
+        → TellsDownTo w rooted.now.positions.items (at rooted.now.positions.items node).place table.old
+        → TellsDownTo w rooted.now.positions.items ((at rooted.now.positions.items node).place + 1) table.new }
+{
+    let here = rooted.position(node);
+    let delay = here.up - rooted.position(here.parent).up;
+    offer(table, here.parent, node, delay);
 }
 
 // Takes into account at node `to` the members that are at node `from`, to which a packet from there takes so long.

@@ -8,7 +8,7 @@ use Rattle.srm_net.proofs.outs.at_home.Goals as goal
 
 pub overflow_cast-own : goal.overflow_cast-own
 overflow_cast-own c =
-    let (w, n, r, same) = c.requires in
+    let (w, n, tree, same) = c.requires in
     let few : length w.hosts ≤ most_nodes = few_members w n in
     let all : length w.hosts ≡ length c.args.hosts.now = ap length same in
     let lt : c.loop-member.member < length c.args.hosts.now = c.loop-member-test.true in
@@ -16,18 +16,18 @@ overflow_cast-own c =
 
 pub index_mut-requires : goal.index_mut-requires
 index_mut-requires c =
-    let (w, n, r, same) = c.requires in
+    let (w, n, tree, same) = c.requires in
     let hosts = c.args.hosts.now in
     let i = c.loop-member.member in
     let below : slice_index hosts i < w.nodes = subst (λ hs. slice_index hs i < w.nodes) same
     (host_below w n i (subst (λ hs. i < length hs) (sym same) c.loop-member-test.true)) in
     let size : length c.loop-member.table.items ≡ length c.args.rooted.now.positions.items = c.loop-member.invariant.long in
-    let long : length c.args.rooted.now.positions.items ≡ w.nodes = r.long in
+    let long : length c.args.rooted.now.positions.items ≡ w.nodes = tree.rooted.long in
     omega (arith, c.loop-member.table.ok.0)
 
 pub loop-member-preserved : goal.loop-member-preserved
 loop-member-preserved c =
-    let (w, n, r, same) = c.requires in
+    let (w, n, tree, same) = c.requires in
     let hosts = c.args.hosts.now in
     let i = c.loop-member.member in
     let table = c.loop-member.table.items in
@@ -36,7 +36,7 @@ loop-member-preserved c =
     let lt : i < length hosts = c.loop-member-test.true in
     let below : slice_index hosts i < w.nodes = subst (λ hs. slice_index hs i < w.nodes) same (host_below w n i (there i lt)) in
     let size : length table ≡ length c.args.rooted.now.positions.items = inv.long in
-    let long : length c.args.rooted.now.positions.items ≡ w.nodes = r.long in
+    let long : length c.args.rooted.now.positions.items ≡ w.nodes = tree.rooted.long in
     let within : slice_index hosts i < length table = omega arith in
     let apart : (m : ℕ) → m < i → slice_index hosts m ≢ slice_index hosts i =
     λ m h. subst (λ hs. slice_index hs m ≢ slice_index hs i) same
@@ -50,7 +50,7 @@ loop-member-preserved c =
     }
 
 pub returns-clause-sound : goal.returns-clause-sound
-returns-clause-sound c w n r same =
+returns-clause-sound c w n tree same =
     let all : length w.hosts ≡ length c.args.hosts.now = ap length same in
-    home_sound w c.loop-member.table.items c.loop-member.member (c.loop-member.invariant.long ∙ r.long) (omega arith)
+    home_sound w c.loop-member.table.items c.loop-member.member (c.loop-member.invariant.long ∙ tree.rooted.long) (omega arith)
     (subst (λ hs. IsAlone hs c.loop-member.table.items c.loop-member.member) (sym same) c.loop-member.invariant.alone)

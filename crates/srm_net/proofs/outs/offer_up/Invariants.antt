@@ -1,11 +1,9 @@
-use Rattle.srm_net.specs.Nearness.{IsByPlace, IsSound, TellsOwn}
-use Rattle.srm_net.specs.Network.{Network}
-use Rattle.srm_net.proofs.OutLemmas.{UpTo}
+use Rattle.srm_net.specs.Nearness.{IsSound, TellsOwn, TellsUpTo}
+use Rattle.srm_net.specs.Network.{Network, IsNetwork}
+use Rattle.srm_net.specs.Rooting.{TellsTree}
 use Rattle.srm_net.proofs.outs.offer_up.Given as goal
 
 abbrev pub invariant-loop-index : goal.invariant-loop-index
-invariant-loop-index l = record {
-  sound : (w : Network) → IsByPlace w l.rooted.positions.items l.order → IsSound w l.initial.table → IsSound w l.table;
-  told : (w : Network) → IsByPlace w l.rooted.positions.items l.order → IsSound w l.initial.table → TellsOwn w l.initial.table
-      → UpTo w l.rooted.positions.items l.table l.index;
-}
+invariant-loop-index l =
+    (w : Network) → IsNetwork w → TellsTree w l.rooted → IsSound w l.initial.table → TellsOwn w l.initial.table
+    → TellsUpTo w l.rooted.positions.items l.index l.table
