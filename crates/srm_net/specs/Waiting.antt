@@ -1,10 +1,11 @@
 -- Steps that wait while a tree grows.
-use Rattle.std.specs.Prelude.{◌≡◌, ℕ, ◌+◌, ◌≤◌, Bool, true, false, List, [], ◌∷◌, Some, length, map, reverse, slice_get}
+use Rattle.std.specs.Prelude.{◌≡◌, ◌⊎◌, ℕ, ◌+◌, ◌-◌, ◌*◌, ◌<◌, ◌≤◌, Bool, true, false, List, [], ◌∷◌, All, Some, length}
+use Rattle.std.specs.Prelude.{map, reverse, slice_get}
 use Rattle.srm_net.specs.declared.link.LinkSpec.{LinkSpec}
 use Rattle.srm_net.specs.declared.attaching.Attaching.{Attaching}
-use Rattle.srm_net.specs.Network.{Joins}
+use Rattle.srm_net.specs.Network.{Joins, IsWithin}
 use Rattle.srm_net.specs.Paths.{is_in}
-use Rattle.srm_net.specs.Growth.{attached, IsAbove}
+use Rattle.srm_net.specs.Growth.{attached, Grows, IsAbove, IsInPreorder, newest}
 use Rattle.srm_net.specs.Known.{is_known}
 
 -- the nodes to which steps lead
@@ -32,3 +33,21 @@ pub record AddsSteps (links : List LinkSpec) (known : List Bool) (node : ℕ) (o
       → is_in (targets new) x ≡ true
   pub wait : (ss : List Attaching) → is_in (attached ss) node ≡ true → Wait links ss node (reverse old)
       → Wait links ss node (reverse new)
+
+-- a tree grows to its nodes, the steps that attached them standing the newest first: these are known, no step of its
+-- preorder is out of turn, and to each other neighbour of theirs a step waits, the next at the end
+pub record IsGrowing (nodes : ℕ) (links : List LinkSpec) (known : List Bool) (ss pending : List Attaching) : Type 0
+  where
+    pub some : 1 ≤ nodes
+    pub ends : All (IsWithin nodes) links
+    pub long : length known ≡ nodes
+    pub marks : (x : ℕ) → x < nodes → is_known known x ≡ is_in (attached ss) x
+    pub grown : Grows links ss
+    pub ordered : IsInPreorder ss
+    pub waits : Wait links ss (newest ss) (reverse pending)
+    pub covers : (l : ℕ) (k : LinkSpec) (u x : ℕ) → slice_get links l ≡ Some k → Joins k u x
+        → is_in (attached ss) u ≡ true → (is_in (attached ss) x ≡ true) ⊎ (is_in (targets pending) x ≡ true)
+
+-- at most so many steps are yet to be taken: one over each link to each node that is not attached, and those that wait
+abbrev pub steps_left : ℕ → List LinkSpec → List Attaching → List Attaching → ℕ
+steps_left nodes links steps pending = (nodes - length steps) * (length links + 1) + length pending

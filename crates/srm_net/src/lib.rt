@@ -9,6 +9,7 @@ pub mod drops;
 mod earlier;
 pub mod fate;
 pub mod fault;
+mod growing_tree;
 pub mod half_rounds;
 pub mod hops;
 pub mod key;

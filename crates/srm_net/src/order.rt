@@ -7,6 +7,7 @@ use crate::adjacency::Adjacency;
 use crate::attaching::Attaching;
 use crate::checks::are_within;
 use crate::fault::NetFault;
+use crate::growing_tree::GrowingTree;
 use crate::link::LinkSpec;
 use std::alloc::Global;
 
@@ -30,23 +31,12 @@ pub(crate) fn attaching_order(
         return Err(NetFault::NotTree);
     }
     let adjacency = Adjacency::of(alloc, nodes, links)?;
-    let mut known = vec![in alloc; false; usize::from(nodes)]?;
-    known[0] = true;
-    let mut steps: Vec<Attaching> = Vec::new(alloc);
-    let mut pending: Vec<Attaching> = Vec::new(alloc);
-    adjacency.push_steps(links, known.as_slice(), 0, &mut pending)?;
-    while let Some(step) = pending.pop() {
-        if known[usize::from(step.node)] {
-            continue;
-        }
-        known[usize::from(step.node)] = true;
-        let Ok(()) = steps.push(step) else {
-            return Err(NetFault::NoMemory);
-        };
-        adjacency.push_steps(links, known.as_slice(), step.node, &mut pending)?;
+    let mut growing = GrowingTree::at_root(alloc, nodes, links, &adjacency)?;
+    while let Some(step) = growing.pending.pop() {
+        growing.take(links, &adjacency, step)?;
     }
-    if steps.len() + 1 != usize::from(nodes) {
+    if growing.steps.len() + 1 != usize::from(nodes) {
         return Err(NetFault::NotTree);
     }
-    Ok(steps)
+    Ok(growing.steps)
 }
