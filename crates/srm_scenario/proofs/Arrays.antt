@@ -11,7 +11,7 @@ use Rattle.toml.specs.declared.value.Value.{Value}
 use Rattle.std.proofs.Common.{codes}
 use Rattle.srm_scenario.specs.KeyLimits.{last_page}
 use Rattle.srm_scenario.specs.Rules.{count_items, all_whole, is_met, is_whole, pages_rule}
-use Rattle.srm_scenario.specs.Described.{items_list, array_at, whole_number_of, table_of}
+use Rattle.srm_scenario.specs.Described.{items_list, array_at, whole_number_of}
 
 pub items_list-of : (ds : List Data) → items_list (items_of ds) ≡ ds
 items_list-of [] = refl
@@ -28,25 +28,13 @@ count-items (d ∷ ds) = ap suc (count-items ds)
 pub count-view : (vs : List Value) → count_items (items_view vs) ≡ length vs
 count-view vs = count-items (map view vs) ∙ length-map vs view
 
-map-view : {A : Type 0} (f : Data → A) (vs : List Value) → map f (map view vs) ≡ map (λ v. f (view v)) vs
+pub map-view : {A : Type 0} (f : Data → A) (vs : List Value) → map f (map view vs) ≡ map (λ v. f (view v)) vs
 map-view f [] = refl
 map-view f (v ∷ vs) = ap (λ (l : List _). f (view v) ∷ l) (map-view f vs)
 
--- what values are read as is what the elements at their key are read as
-pub elements-read : {A : Type 0} (reading : Members → A) (vs : List Value) (ds : List Data) (xs : List A) → map view vs ≡ ds → xs
-    ≡ map (λ v. reading (table_of (view v))) vs
-    → map (λ d. reading (table_of d)) ds ≡ xs
-elements-read reading vs ds xs same read =
-    ap (map (λ d. reading (table_of d))) (sym same) ∙ map-view (λ d. reading (table_of d)) vs ∙ sym read
-
-flat-view : {A : Type 0} (f : Data → List A) (vs : List Value) → flat_map f (map view vs) ≡ flat_map (λ v. f (view v)) vs
+pub flat-view : {A : Type 0} (f : Data → List A) (vs : List Value) → flat_map f (map view vs) ≡ flat_map (λ v. f (view v)) vs
 flat-view f [] = refl
 flat-view f (v ∷ vs) = ap (λ (l : List _). f (view v) ++ l) (flat-view f vs)
-
--- what values stand for is what the elements at their key stand for
-pub repeated-read : {A : Type 0} (f : Data → List A) (vs : List Value) (ds : List Data) (xs : List A) → map view vs ≡ ds
-    → xs ≡ flat_map (λ v. f (view v)) vs → flat_map f ds ≡ xs
-repeated-read f vs ds xs same read = ap (flat_map f) (sym same) ∙ flat-view f vs ∙ sym read
 
 -- each value is a whole number in a range
 pub all_whole-view : (low high : ℕ) (vs : List Value) → list_all (λ v. is_whole low high (view v)) vs

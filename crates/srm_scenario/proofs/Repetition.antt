@@ -219,13 +219,12 @@ copies_scoped scope every ms k (suc n) =
     λ i. one_scoped scope k every ms i ∷ copies_scoped scope every ms (k + 1) n i
 
 -- members that are read from their own tables, with a scope for those that have none, are the members with this scope
-pub members_scoped : (scope : ℕ) (vs : List Value)
-    → map (or_scope scope) (flat_map (λ v. repeated entry_copy (entry_of 0) (view v)) vs)
-    ≡ flat_map (λ v. repeated entry_copy (entry_of scope) (view v)) vs
+pub members_scoped : (scope : ℕ) (ds : List Data)
+    → map (or_scope scope) (flat_map (repeated entry_copy (entry_of 0)) ds) ≡ flat_map (repeated entry_copy (entry_of scope)) ds
 members_scoped scope [] = refl
-members_scoped scope (v ∷ vs) =
-    map_join (or_scope scope) (repeated entry_copy (entry_of 0) (view v)) (flat_map (λ x. repeated entry_copy (entry_of 0) (view x)) vs)
-    ∙ (λ i. copies_scoped scope (every_of (view v)) (table_of (view v)) 0 (times_repeated (view v)) i ++ members_scoped scope vs i)
+members_scoped scope (d ∷ ds) =
+    map_join (or_scope scope) (repeated entry_copy (entry_of 0) d) (flat_map (repeated entry_copy (entry_of 0)) ds)
+    ∙ (λ i. copies_scoped scope (every_of d) (table_of d) 0 (times_repeated d) i ++ members_scoped scope ds i)
 
 -- whether members are in range does not hang on their scope
 range_copies : (scope every : ℕ) (ms : Members) (k n : ℕ) → list_all entry_in_range (copies (λ j. entry_copy j every (entry_of 0 ms)) k n)

@@ -1,5 +1,5 @@
 -- What the top table of a scenario file holds, where it fits its rules.
-use Rattle.std.specs.Prelude.{◌≡◌, ℕ, ◌≤◌, true, false, List, Option, Some, None, codes, length, sum_by}
+use Rattle.std.specs.Prelude.{◌≡◌, ◌≤◌, true, false, List, Option, Some, None, codes, length, sum_by}
 use Rattle.toml.specs.Data.{Data, Members}
 use Rattle.srm_net.specs.Network.{IsLinkDelay}
 use Rattle.srm_scenario.specs.declared.delays.Delays.{Delays}
@@ -7,8 +7,9 @@ use Rattle.srm_scenario.specs.declared.version.Version.{Version}
 use Rattle.srm_scenario.specs.declared.topology.Topology.{Topology}
 use Rattle.srm_scenario.specs.declared.topology.Topology.TheVariants.{Tree}
 use Rattle.srm_scenario.specs.declared.top.Numbers.{Numbers}
+use Rattle.srm_scenario.specs.declared.top.Shape.{Shape}
 use Rattle.srm_scenario.specs.Accepted.{AreConstants, IsRecovery}
-use Rattle.srm_scenario.specs.Described.{number, array_at, version_of, topology_of, delays_of, constants_of, nodes_in}
+use Rattle.srm_scenario.specs.Described.{number, version_of, topology_of, delays_of, constants_of, nodes_in}
 use Rattle.srm_scenario.specs.Described.{recovery_of, room_of}
 use Rattle.srm_net.specs.Limits.{end_of_time, most_links, most_listed, most_nodes}
 use Rattle.srm_scenario.specs.Rules.{allows_repetition, times_repeated}
@@ -36,30 +37,17 @@ abbrev pub AreDelays : Option Topology → Delays → Type 0
 AreDelays None delays = Unit {0}
 AreDelays (Some t) delays = IsLinkDelay delays.delay × IsLinkDelay delays.back
 
--- the table's topology, nodes, delays of each link, and links
-pub record HasShape (ms : Members) (t : Option Topology) (nodes : ℕ) (delays : Delays) (links : List Data) : Type 0
-  where
-    pub topology_is : topology_of ms ≡ t
-    pub topology_fits : HasDegree t
-    pub nodes_are : nodes_in (topology_of ms) ms ≡ nodes
-    pub some_nodes : 1 ≤ nodes
-    pub few_nodes : nodes ≤ most_nodes
-    pub delays_are : delays_of ms ≡ delays
-    pub delays_fit : AreDelays t delays
-    pub links_are : links ≡ array_at (codes "link") ms
+-- the table's topology, nodes, and delays of each link
+pub record HasShape (ms : Members) (s : Shape) : Type 0 where
+  pub topology_is : topology_of ms ≡ s.topology
+  pub topology_fits : HasDegree s.topology
+  pub nodes_are : nodes_in (topology_of ms) ms ≡ s.nodes
+  pub some_nodes : 1 ≤ s.nodes
+  pub few_nodes : s.nodes ≤ most_nodes
+  pub delays_are : delays_of ms ≡ s.delays
+  pub delays_fit : AreDelays s.topology s.delays
 
 -- these elements stand for at most as many as may be listed, or are as few where each stands for itself alone
 pub record FewElements (version : Version) (ds : List Data) : Type 0 where
   pub stand_for : allows_repetition version ≡ true → sum_by times_repeated ds ≤ most_listed
   pub are : allows_repetition version ≡ false → length ds ≤ most_listed
-
--- the table's other arrays
-pub record HasArrays (ms : Members) (members draws sessions drops outages losses : List Data) : Type 0 where
-  pub members_are : members ≡ array_at (codes "member") ms
-  pub draws_are : draws ≡ array_at (codes "draw") ms
-  pub sessions_are : sessions ≡ array_at (codes "session") ms
-  pub few_draws : FewElements (version_of ms) draws
-  pub few_sessions : FewElements (version_of ms) sessions
-  pub drops_are : drops ≡ array_at (codes "drop") ms
-  pub outages_are : outages ≡ array_at (codes "outage") ms
-  pub losses_are : losses ≡ array_at (codes "loss") ms

@@ -1,18 +1,22 @@
 //! A scenario as its table gives it, before its parts are held against one another.
-ghost use Rattle.std.specs.Prelude.{IfOk, IfErr};
+ghost use Rattle.std.specs.Prelude.{◌≡◌, [], IfOk, IfErr, codes};
 ghost use Rattle.toml.specs.View.{table_view};
-ghost use Rattle.srm_scenario.specs.Faults.{IsFault, key_faults};
+ghost use Rattle.srm_scenario.specs.Described.{array_at, elements_at, link_of, version_of};
+ghost use Rattle.srm_scenario.specs.Faults.{IsFault, faults_of_links, key_faults};
 ghost use Rattle.srm_scenario.specs.Drafts.{IsDraft};
 
 use crate::delays::Delays;
 use crate::element::read_elements;
 use crate::entry::{MemberEntry, read_members};
 use crate::fault::{Part, ScenarioFault};
+use crate::file_key::FileKey;
 use crate::parents::given_links;
 use crate::parts::{Constants, DrawSpec, LocalRecovery, Room, SessionSpec};
-use crate::repeated::read_repeated;
+use crate::repeated::read_array;
+use crate::table::array;
 use crate::top::top_of;
 use crate::topology::Topology;
+use crate::version::Version;
 use srm_net::link::{DropSpec, LinkSpec, LossSpec, OutageSpec};
 use std::alloc::Global;
 use toml::Table;
@@ -66,13 +70,13 @@ impl Draft {
             });
         };
         let version = top.numbers.version;
-        let listed = read_elements(alloc, Part::Link, version, top.shape.links)?;
-        let members = read_members(alloc, version, top.numbers.scope, top.arrays.members)?;
-        let draws = read_repeated(alloc, Part::Draw, version, top.arrays.draws)?;
-        let sessions = read_repeated(alloc, Part::Session, version, top.arrays.sessions)?;
-        let drops = read_repeated(alloc, Part::Drop, version, top.arrays.drops)?;
-        let outages = read_repeated(alloc, Part::Outage, version, top.arrays.outages)?;
-        let losses = read_repeated(alloc, Part::Loss, version, top.arrays.losses)?;
+        let listed = read_links(alloc, version, table)?;
+        let members = read_members(alloc, version, top.numbers.scope, table)?;
+        let draws = read_array(alloc, Part::Draw, version, table, FileKey::Draw)?;
+        let sessions = read_array(alloc, Part::Session, version, table, FileKey::Session)?;
+        let drops = read_array(alloc, Part::Drop, version, table, FileKey::Drop)?;
+        let outages = read_array(alloc, Part::Outage, version, table, FileKey::Outage)?;
+        let losses = read_array(alloc, Part::Loss, version, table, FileKey::Loss)?;
         let links = given_links(alloc, table, listed)?;
         Ok(Draft {
             until: top.numbers.until,
@@ -91,4 +95,20 @@ impl Draft {
             losses,
         })
     }
+}
+
+// The links that a table lists.
+fn read_links(
+    alloc: Global,
+    version: Version,
+    table: &Table,
+) -> Result<Vec<LinkSpec>, ScenarioFault>
+    requires { version_of (table_view table.now) ≡ version }
+    ensures no_fault { let ms = table_view table.now in IfOk result (λ _. faults_of_links (version_of ms)
+        (array_at (codes "link") ms) ≡ []) }
+    ensures read { IfOk result (λ links. links.items ≡ elements_at (codes "link") link_of (table_view table.now)) }
+    ensures fault { let ms = table_view table.now in IfErr result (λ e. IsFault e (faults_of_links (version_of ms)
+        (array_at (codes "link") ms))) }
+{
+    read_elements(alloc, Part::Link, version, array(table, FileKey::Link))
 }

@@ -1,8 +1,8 @@
 //! What the elements of members hold.
-ghost use Rattle.std.specs.Prelude.{◌≡◌, Some, None, [], IfErr, IfOk, flat_map, map, if◌then◌else◌};
-ghost use Rattle.toml.specs.View.{table_view, view};
+ghost use Rattle.std.specs.Prelude.{◌≡◌, Some, None, [], IfErr, IfOk, codes, map, if◌then◌else◌};
+ghost use Rattle.toml.specs.View.{table_view};
 ghost use Rattle.srm_scenario.specs.Rules.{member_rules};
-ghost use Rattle.srm_scenario.specs.Described.{repeated, role_of};
+ghost use Rattle.srm_scenario.specs.Described.{array_at, repeated_at, role_of, version_of};
 ghost use Rattle.srm_scenario.specs.Faults.{accepted, entry_copy, entry_in_range, entry_of, faults_of_members, or_scope, IsFault};
 
 use crate::element::Element;
@@ -11,13 +11,13 @@ use crate::file_key::FileKey;
 use crate::limits::{LAST_NODE, LAST_STREAM};
 use crate::numbers::numbers_of;
 use crate::parts::MemberSpec;
-use crate::repeated::{Repeated, read_repeated, risen, step_of};
+use crate::repeated::{Repeated, read_array, risen, step_of};
 use crate::rules::member_rules;
 use crate::table::{array, fits_rules, has_key, number, optional_number, says};
 use crate::version::Version;
 use srm_net::role::Role;
 use std::alloc::{AllocError, Global};
-use toml::{Table, Value};
+use toml::Table;
 
 /// A member, and which keys its table has.
 #[derive(Debug, Drop)]
@@ -151,20 +151,24 @@ impl Repeated for MemberEntry {
     }
 }
 
-/// Reads the members for which the elements of an array stand, one after the other. Those for which no scope is given have this one.
-/// The first element that does not fit the rules of members, or stands for one whose numbers pass their ranges, is a fault.
+/// Reads the members for which the elements of a table's array stand, one after the other. Those for which no scope is given
+/// have this one. The first element that does not fit the rules of members, or stands for one whose numbers pass their
+/// ranges, is a fault.
 pub(crate) fn read_members(
     alloc: Global,
     version: Version,
     scope: u16,
-    values: &[Value],
+    table: &Table,
 ) -> Result<Vec<MemberEntry>, ScenarioFault>
-    ensures no_fault { IfOk result (λ _. faults_of_members version (map view values.now) ≡ []) }
+    requires { version_of (table_view table.now) ≡ version }
+    ensures no_fault { let ms = table_view table.now in IfOk result (λ _. faults_of_members (version_of ms)
+        (array_at (codes "member") ms) ≡ []) }
     ensures read { IfOk result (λ members. members.items
-        ≡ flat_map (λ v. repeated entry_copy (entry_of scope) (view v)) values.now) }
-    ensures fault { IfErr result (λ e. IsFault e (faults_of_members version (map view values.now))) }
+        ≡ repeated_at (codes "member") entry_copy (entry_of scope) (table_view table.now)) }
+    ensures fault { let ms = table_view table.now in IfErr result (λ e. IsFault e (faults_of_members (version_of ms)
+        (array_at (codes "member") ms))) }
 {
-    let own: Vec<MemberEntry> = read_repeated(alloc, Part::Member, version, values)?;
+    let own: Vec<MemberEntry> = read_array(alloc, Part::Member, version, table, FileKey::Member)?;
     let members = with_scope(alloc, own, scope)?;
     Ok(members)
 }

@@ -1,16 +1,18 @@
 //! Elements that may stand for several.
 ghost use Rattle.std.specs.Prelude.{◌≡◌, ◌++◌, ◌+◌, ◌*◌, ◌-◌, ◌^◌, ◌≤◌, true, false, Some, None, IfOk, IfErr, IsTrue, MatchOption, [], map, flat_map, nat_le, if◌then◌else◌};
 ghost use Rattle.std.specs.List.{list_all};
-ghost use Rattle.toml.specs.View.{view};
-ghost use Rattle.srm_scenario.specs.Described.{copies, every_of, repeated};
+ghost use Rattle.toml.specs.View.{view, table_view};
+ghost use Rattle.srm_scenario.specs.Described.{array_at, copies, every_of, repeated, repeated_at, version_of};
 ghost use Rattle.srm_scenario.specs.Faults.{repeated_faults, IsFault};
+ghost use Rattle.srm_scenario.specs.Keys.{name_of};
 
 use crate::element::{Element, read_element};
 use crate::fault::{Part, ScenarioFault};
-use crate::table::{every_in, times_repeated};
+use crate::file_key::FileKey;
+use crate::table::{array, every_in, times_repeated};
 use crate::version::Version;
 use std::alloc::{AllocError, Global};
-use toml::Value;
+use toml::{Table, Value};
 
 /// An element that may stand for several.
 pub(crate) trait Repeated: Element {
@@ -82,7 +84,7 @@ fn push_copies<E: Repeated>(
 
 /// Reads what the elements of an array stand for, one after the other. The first that does not fit the rules of its part, or stands
 /// for one whose numbers pass their ranges, is a fault.
-pub(crate) fn read_repeated<E: Repeated>(
+fn read_repeated<E: Repeated>(
     alloc: Global,
     part: Part,
     version: Version,
@@ -111,4 +113,23 @@ pub(crate) fn read_repeated<E: Repeated>(
         }
     }
     Ok(elements)
+}
+
+/// Reads what the elements of the array at a key stand for, as the version of the table has them.
+pub(crate) fn read_array<E: Repeated>(
+    alloc: Global,
+    part: Part,
+    version: Version,
+    table: &Table,
+    key: FileKey,
+) -> Result<Vec<E>, ScenarioFault>
+    requires { version_of (table_view table.now) ≡ version }
+    ensures no_fault { let ms = table_view table.now in IfOk result (λ _. repeated_faults part (E.rules (version_of ms))
+        E.reading E.copy E.in_range (array_at (name_of key) ms) ≡ []) }
+    ensures read { IfOk result (λ elements. elements.items
+        ≡ repeated_at (name_of key) E.copy E.reading (table_view table.now)) }
+    ensures fault { let ms = table_view table.now in IfErr result (λ e. IsFault e (repeated_faults part
+        (E.rules (version_of ms)) E.reading E.copy E.in_range (array_at (name_of key) ms))) }
+{
+    read_repeated(alloc, part, version, array(table, key))
 }

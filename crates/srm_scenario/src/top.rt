@@ -1,11 +1,11 @@
 //! What the top table of a scenario file holds.
-ghost use Rattle.std.specs.Prelude.{◌≡◌, ◌≤◌, true, false, codes, length, map, MatchOption};
-ghost use Rattle.toml.specs.View.{view, table_view};
+ghost use Rattle.std.specs.Prelude.{◌≡◌, ◌≤◌, true, false, codes, length, MatchOption};
+ghost use Rattle.toml.specs.View.{table_view};
 ghost use Rattle.srm_net.specs.Limits.{most_links};
 ghost use Rattle.srm_scenario.specs.Rules.{fits_rules};
 ghost use Rattle.srm_scenario.specs.Described.{array_at, constants_of, form_of, given_nodes, least_of, most_of, number, recovery_of, room_of, says, topology_of};
 ghost use Rattle.srm_scenario.specs.Faults.{rules_of_top};
-ghost use Rattle.srm_scenario.specs.LookUps.{HasNumbers, HasShape, HasArrays};
+ghost use Rattle.srm_scenario.specs.LookUps.{HasNumbers, HasShape};
 
 use crate::delays::Delays;
 use crate::file_key::FileKey;
@@ -15,7 +15,7 @@ use crate::rules::top_rules;
 use crate::table::{array, fits_rules, has_key, number, number_or, optional_number, says};
 use crate::topology::Topology;
 use crate::version::Version;
-use toml::{Table, Value};
+use toml::Table;
 
 /// The topology that the table names, if it names one.
 fn topology(table: &Table) -> Option<Topology>
@@ -126,17 +126,15 @@ fn numbers_of(table: &Table) -> Numbers
     }
 }
 
-/// The nodes and links of the top table.
+/// The nodes of the top table, and its links where it names a topology.
 #[derive(Clone, Copy)]
-pub(crate) struct Shape<'a> {
+pub(crate) struct Shape {
     /// The topology that the table names.
     pub(crate) topology: Option<Topology>,
     /// How many nodes there are: 1 to [`MOST_NODES`](srm_net::limits::MOST_NODES).
     pub(crate) nodes: u16,
     /// The delays of each link of the topology, in ticks.
     pub(crate) delays: Delays,
-    /// The links, where they are listed.
-    pub(crate) links: &'a [Value],
 }
 
 /// How many nodes a table has that gives no size: one more than parents where it gives these.
@@ -151,10 +149,10 @@ fn given_nodes(table: &Table) -> u64
     }
 }
 
-/// The nodes and links of a table that fits its rules.
-fn shape_of(table: &Table) -> Shape<'_>
+/// The shape of a table that fits its rules.
+fn shape_of(table: &Table) -> Shape
     requires { fits_rules (rules_of_top (table_view table.now)) (table_view table.now) ≡ true }
-    ensures { HasShape (table_view table.now) result.topology result.nodes result.delays (map view result.links.now) }
+    ensures { HasShape (table_view table.now) result }
 {
     let topology = topology(table);
     let nodes = match topology {
@@ -168,53 +166,16 @@ fn shape_of(table: &Table) -> Shape<'_>
             delay: number(table, FileKey::Delay),
             back: number_or(table, FileKey::Back, FileKey::Delay),
         },
-        links: array(table, FileKey::Link),
     }
 }
 
-/// The other arrays of the top table.
+/// What the top table holds, but for its arrays.
 #[derive(Clone, Copy)]
-pub(crate) struct Arrays<'a> {
-    /// The members.
-    pub(crate) members: &'a [Value],
-    /// The draws.
-    pub(crate) draws: &'a [Value],
-    /// The session messages.
-    pub(crate) sessions: &'a [Value],
-    /// The drops.
-    pub(crate) drops: &'a [Value],
-    /// The outages.
-    pub(crate) outages: &'a [Value],
-    /// The losses.
-    pub(crate) losses: &'a [Value],
-}
-
-/// The other arrays of a table that fits its rules.
-fn arrays_of(table: &Table) -> Arrays<'_>
-    requires { fits_rules (rules_of_top (table_view table.now)) (table_view table.now) ≡ true }
-    ensures { HasArrays (table_view table.now) (map view result.members.now) (map view result.draws.now)
-        (map view result.sessions.now) (map view result.drops.now) (map view result.outages.now)
-        (map view result.losses.now) }
-{
-    Arrays {
-        members: array(table, FileKey::Member),
-        draws: array(table, FileKey::Draw),
-        sessions: array(table, FileKey::Session),
-        drops: array(table, FileKey::Drop),
-        outages: array(table, FileKey::Outage),
-        losses: array(table, FileKey::Loss),
-    }
-}
-
-/// What the top table holds.
-#[derive(Clone, Copy)]
-pub(crate) struct Top<'a> {
+pub(crate) struct Top {
     /// Its numbers.
     pub(crate) numbers: Numbers,
     /// Its nodes and links.
-    pub(crate) shape: Shape<'a>,
-    /// Its other arrays.
-    pub(crate) arrays: Arrays<'a>,
+    pub(crate) shape: Shape,
 }
 
 /// What a table says of its network.
@@ -247,14 +208,9 @@ fn is_top(table: &Table) -> bool
 }
 
 /// What the table holds, if it is as a top table must be.
-pub(crate) fn top_of(table: &Table) -> Option<Top<'_>>
+pub(crate) fn top_of(table: &Table) -> Option<Top>
     ensures { let ms = table_view table.now in MatchOption result (fits_rules (rules_of_top ms) ms ≡ false)
-        (λ t. (fits_rules (rules_of_top ms) ms ≡ true)
-        × HasNumbers ms t.numbers
-        × HasShape ms t.shape.topology t.shape.nodes t.shape.delays (map view t.shape.links.now)
-        × HasArrays ms (map view t.arrays.members.now) (map view t.arrays.draws.now)
-        (map view t.arrays.sessions.now) (map view t.arrays.drops.now) (map view t.arrays.outages.now)
-        (map view t.arrays.losses.now)) }
+        (λ t. (fits_rules (rules_of_top ms) ms ≡ true) × HasNumbers ms t.numbers × HasShape ms t.shape) }
 {
     if !is_top(table) {
         return None;
@@ -262,6 +218,5 @@ pub(crate) fn top_of(table: &Table) -> Option<Top<'_>>
     Some(Top {
         numbers: numbers_of(table),
         shape: shape_of(table),
-        arrays: arrays_of(table),
     })
 }

@@ -50,5 +50,4 @@ returns c =
       delays_are = delays;
       delays_fit = subst (λ (o : Option Topology). AreDelays o (record { delay = c.number.result; back = c.number_or.result })) named
           (subst (λ (d : Delays). AreDelays (topology_of ms) d) delays (delays_fit ms c.requires));
-      links_are = c.array.ensures;
     }
