@@ -2,6 +2,7 @@
 use Rattle.std.proofs.Common.{arith}
 use Rattle.std.proofs.Common.{◌≡◌, ◌<◌, ◌≤◌, cond, ℕ, List, [], ◌∷◌, Option, Some, None, option_map}
 use Rattle.std.proofs.Common.{slice_get, refl, sym, ap, ◌∙◌, subst, le-ltb, lt-ltb, Ordering, Less, Equal, Greater}
+use Rattle.std.proofs.lemmas.Option.{same_Some}
 use Rattle.std.specs.Ordering.{is_gt, min_by_ordering}
 use Rattle.srm_net.specs.Keys.{key_cmp}
 use Rattle.srm_net.specs.declared.key.Key.{Key}
@@ -10,7 +11,7 @@ use Rattle.srm_net.specs.declared.rank.Rank.TheVariants.{Arrival}
 use Rattle.srm_scenario.specs.declared.mark.Mark.{Mark}
 use Rattle.srm_member.specs.declared.due.Due.{Due}
 use Rattle.srm_cell.specs.declared.flight.Flight.{Flight}
-use Rattle.srm_cell.specs.Cells.{PlainCell, Event, first_arrival, first_mark, next_timer, next_event, earlier, before}
+use Rattle.srm_cell.specs.Cells.{PlainCell, Event, first_arrival, first_mark, next_timer, next_event, earlier, before, time_of}
 use Rattle.srm_cell.specs.Cells.{step_at, own_step, handle, Idle}
 use Rattle.srm_cell.specs.declared.pending_event.Next.{Next}
 use Rattle.srm_cell.specs.declared.pending_event.PendingEvent.{PendingEvent}
@@ -47,8 +48,8 @@ timer_known m p o d h = (_, ap (next_timer m p) (sym h), refl, ap (next_timer m 
 
 -- ---- the sooner of two
 
-sooner_by : (m : ℕ) (c : PlainCell) (p q : PendingEvent) (x y : Option Event) (r : Ordering) → key_cmp p.key q.key ≡ r → Stands m c (Some p) x
-    → Stands m c (Some q) y
+sooner_by : (m : ℕ) (c : PlainCell) (p q : PendingEvent) (x y : Option Event) (r : Ordering) → key_cmp p.key q.key ≡ r
+    → Stands m c (Some p) x → Stands m c (Some q) y
     → Stands m c (cond (is_gt r) (Some q) (Some p)) (earlier x y)
 sooner_by m c p q x y r h7 h g = grind arith
 
@@ -126,13 +127,21 @@ module _ (m : ℕ) (c : PlainCell) where
 
 -- ---- the own step
 
+-- what is not before the end is not due
+pub none_due : (till : ℕ) (o : Option Event) → ((u : ℕ) → time_of o ≡ Some u → till ≤ u) → before till o ≡ None
+none_due till None h = refl
+none_due till (Some e) h = ap (λ b. cond b (Some e) None) (le-ltb e.key.time till (h e.key.time refl))
+
 module _ (till m : ℕ) (p : PlainCell) where
-  -- where the next event is not before the end there is none
-  pub none_before : (n : Next) (o : Option Event) → next_event m p ≡ o → IsNext m p n o → till ≤ n.time → own_step till m p ≡ Idle
+  -- where nothing is due there is no step
+  pub idle_step : before till (next_event m p) ≡ None → own_step till m p ≡ Idle
   unfolding own_step
-  none_before n None q h le = ap (λ o. step_at (before till o)) q
-  none_before n (Some e) q h le =
-      ap (λ o. step_at (before till o)) q ∙ ap (λ b. step_at (cond b (Some e) None)) (le-ltb e.key.time till (omega (arith, h.0)))
+  idle_step h = ap step_at h
+
+  -- so it is where the next event is not before the end
+  pub none_before : (n : Next) (o : Option Event) → next_event m p ≡ o → IsNext m p n o → till ≤ n.time → own_step till m p ≡ Idle
+  none_before n None q h le = idle_step (ap (before till) q)
+  none_before n (Some e) q h le = idle_step (ap (before till) q ∙ none_due till (Some e) (λ u f. omega (arith, h.0, same_Some _ u f)))
 
   -- and where it is before the end there is one
   pub some_before : (n : Next) (o : Option Event) → IsNext m p n o → n.time < till → till ≤ never → (e : Event) × (o ≡ Some e)

@@ -19,13 +19,14 @@ use Rattle.srm_cell.specs.declared.cell.Cell.{Cell}
 use Rattle.srm_cell.specs.declared.sent.Sent.{Sent}
 use Rattle.srm_cell.specs.declared.fault.CellFault.{CellFault}
 use Rattle.srm_cell.specs.declared.fault.CellFault.TheVariants as fault
-use Rattle.srm_cell.specs.Cells.{PlainCell, before, next_event, own_step, step_at, Idle}
+use Rattle.srm_cell.specs.Cells.{before}
 use Rattle.srm_cell.specs.Crossings.{crossings, joined, packets_of}
 use Rattle.srm_cell.specs.Hearing.{IsSent, packets_in}
 use Rattle.srm_cell.specs.Jobs.{Advances, AreMembers, AreSound, MayAdvance, RanAlone, RanEach, Runs, TellsFault, TellsRun, own_cells}
 use Rattle.srm_cell.specs.Setting.{traffic_of}
 use Rattle.srm_cell.specs.Totalled.{IsSentBelow, numbers_of}
 use Rattle.srm_cell.specs.Views.{IsSoundCell, event_of, plain_cell}
+use Rattle.srm_cell.proofs.Nexts.{idle_step}
 use Rattle.srm_cell.proofs.OwnRunLemmas.{after_none, end_now, rows_none}
 use Rattle.srm_cell.proofs.RowPackets.{joined-append, numbers_are}
 use Rattle.srm_cell.proofs.SentRows.{rows_below, rows_few}
@@ -60,10 +61,6 @@ module _ {M : Type 0} (f : M → Record) (members : ℕ) where
 none_of : {A : Type 0} (o : Option A) → is_some o ≡ false → o ≡ None
 none_of None h = refl
 none_of (Some x) h = absurd (true≢false h)
-
-idle_step : (till m : ℕ) (p : PlainCell) → before till (next_event m p) ≡ None → own_step till m p ≡ Idle
-unfolding own_step
-idle_step till m p h = ap step_at h
 
 pub runs_idle : {M : Type 0} (f : M → Record) (till : ℕ) (c : Cell M)
     → (IsSoundCell f c → is_some (before till (event_of f c)) ≡ false) → Runs f till c (Ok []) c

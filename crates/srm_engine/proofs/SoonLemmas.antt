@@ -1,6 +1,6 @@
 -- How soon something is due in groups of cells.
 use Rattle.std.proofs.Common.{◌≡◌, ℕ, suc, ◌+◌, ◌≤◌, ◌<◌, min, List, [], ◌∷◌, ◌++◌, Option, Some, None, unwrap_or}
-use Rattle.std.proofs.Common.{refl, sym, ap, ◌∙◌, arith, add-one, take, get_or, slice_get, length, take_all, cond, le-ltb}
+use Rattle.std.proofs.Common.{refl, sym, ap, ◌∙◌, arith, add-one, take, get_or, slice_get, length, take_all}
 use Rattle.std.proofs.lemmas.List.{length-map, map-append, take_more}
 use Rattle.std.proofs.lemmas.Option.{slice_get_within, slice_get-get_or, same_Some}
 use Rattle.std.specs.Global.{Vec}
@@ -8,9 +8,10 @@ use Rattle.srm_member.specs.Record.{Record}
 use Rattle.srm_member.specs.declared.row.Row.{Row}
 use Rattle.srm_cell.specs.declared.cell.Cell.{Cell}
 use Rattle.srm_cell.specs.Setting.{Setting}
-use Rattle.srm_cell.specs.Cells.{OwnCell, PlainCell, Event, earlier, next_event, time_of, before, own_step, step_at, Idle}
+use Rattle.srm_cell.specs.Cells.{OwnCell, PlainCell, Event, earlier, next_event, time_of}
 use Rattle.srm_cell.specs.Jobs.{RanAlone, RanEach, own_cells}
 use Rattle.srm_cell.specs.Views.{IsNextTime, event_of, own_cell, plain_cell}
+use Rattle.srm_cell.proofs.Nexts.{idle_step, none_due}
 use Rattle.srm_cell.proofs.OwnRunLemmas.{after_idle}
 use Rattle.srm_model.specs.World.{World, least_event}
 use Rattle.srm_model.specs.Windows.{least_promise, least_with, promise_by, promise_end, promise_of, way_of}
@@ -139,14 +140,6 @@ module _ {M : Type 0} (f : M → Record) (s : Setting) where
       is ∙ ap (soonest_of s) (take_all k (own_cells f cs) (omega arith))
 
 -- ---- groups in which nothing was due
-
-none_due : (till : ℕ) (o : Option Event) → ((u : ℕ) → time_of o ≡ Some u → till ≤ u) → before till o ≡ None
-none_due till None h = refl
-none_due till (Some e) h = ap (λ b. cond b (Some e) None) (le-ltb e.key.time till (h e.key.time refl))
-
-idle_step : (till m : ℕ) (p : PlainCell) → before till (next_event m p) ≡ None → own_step till m p ≡ Idle
-unfolding own_step
-idle_step till m p h = ap step_at h
 
 module _ {M : Type 0} (f : M → Record) (till n : ℕ) where
   -- a cell in which nothing is due before the end is as it was
