@@ -6,7 +6,7 @@ ghost use Rattle.srm_crew.specs.Passes.{PassView, fresh_pass, with_put, with_tak
 
 use crate::bag_fault::{BagFault, EmptyFault, PutFault, SplitFault};
 use crate::pass::{Pass, WHOLE};
-use crate::rule::{Both, Fits, Halves, Hold, Puts, Spot, StandOnce, Takes};
+use crate::rule::{Both, Fits, Halves, Hold, Puts, Spot, StandOnce, TakesSpot};
 use crate::taken::Taken;
 use crossbeam_queue::RuledArrayQueue;
 use srm_net::sequence::Sequence;
@@ -93,7 +93,7 @@ impl<T> Bag<T> {
         ensures bag { pass.new.bag ≡ pass.old.bag }
         ensures taken { TellsTake pass.old result pass.new }
     {
-        let Spot { index, item } = self.queue.pop_as::<Takes, R>(rt, &mut pass.hold)?;
+        let Spot { index, item } = self.queue.pop_as::<TakesSpot, R>(rt, &mut pass.hold)?;
         pass.taken.push_reserved(index);
         Some(item)
     }
@@ -201,7 +201,7 @@ impl<T> Bag<T> {
             puts: _,
             taken,
         } = pass;
-        self.queue.learn_as::<Takes>(&mut mine);
+        self.queue.learn_as::<TakesSpot>(&mut mine);
         Ok(Taken {
             indices: Sequence::from_vec(taken),
         })

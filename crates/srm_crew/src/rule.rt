@@ -49,15 +49,15 @@ impl<T> Lesson<Spot<T>, Hold<T>> for Puts {
 }
 
 // A pop, by `take`.
-pub(crate) struct Takes;
+pub(crate) struct TakesSpot;
 
-impl<T> Outcome<Spot<T>, Hold<T>> for Takes {
+impl<T> Outcome<Spot<T>, Hold<T>> for TakesSpot {
     ghost use Rattle.srm_crew.specs.Indices.{takes_spot};
 
     ghost then = { takes_spot };
 }
 
-impl<T> Lesson<Spot<T>, Hold<T>> for Takes {
+impl<T> Lesson<Spot<T>, Hold<T>> for TakesSpot {
     ghost use Rattle.srm_crew.specs.Indices.{rests};
 
     ghost fact = { rests };
