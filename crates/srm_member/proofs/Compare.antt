@@ -20,12 +20,8 @@ use Rattle.srm_member.specs.Record.{due_cmp}
 use Rattle.srm_net.specs.contracts.packet.NameOrd.TheImpl as name_order
 use Rattle.srm_member.specs.contracts.due.DueOrd.TheImpl as due_order
 
-then_equal : (o : Ordering) → ordering_then o Equal ≡ o
-then_equal o = grind arith
-
 pub names_compared : name_order.cmp-value.it ≡ name_cmp
-names_compared i a b = ap (λ o. ordering_then (nat_cmp a.source b.source) (ordering_then (nat_cmp a.page b.page) o))
-    (sym (then_equal (nat_cmp a.number b.number))) i
+names_compared = refl
 
 pub dues_compared : due_order.cmp-value.it ≡ due_cmp
 dues_compared i a b =

@@ -1,5 +1,5 @@
 -- Names of drawing operations, the pages that they stand on, packet identities, and their orders.
-use Rattle.std.specs.Prelude.{ℕ, [], ◌∷◌}
+use Rattle.std.specs.Prelude.{ℕ, List, [], ◌∷◌}
 use Rattle.std.specs.declared.cmp.Ordering.{Ordering}
 use Rattle.std.specs.Ordering.{nat_cmp}
 use Rattle.std.specs.Cmp.Lexicographic.{slice_cmp}
@@ -16,9 +16,13 @@ page_of n = record { source = n.source; page = n.page }
 abbrev pub name_in : PageId → ℕ → Name
 name_in p k = record { source = p.source; page = p.page; number = k }
 
+-- a name as its numbers
+abbrev pub numbers_of_name : Name → List ℕ
+numbers_of_name n = n.source ∷ n.page ∷ n.number ∷ []
+
 -- names are compared by source, page and number
 abbrev pub name_cmp : Name → Name → Ordering
-name_cmp n o = slice_cmp nat_cmp (n.source ∷ n.page ∷ n.number ∷ []) (o.source ∷ o.page ∷ o.number ∷ [])
+name_cmp n o = slice_cmp nat_cmp (numbers_of_name n) (numbers_of_name o)
 
 -- pages are compared by source and page
 abbrev pub page_cmp : PageId → PageId → Ordering

@@ -1,8 +1,13 @@
 //! Names of drawing operations, and packets.
-ghost use Rattle.std.specs.Prelude.{◌≡◌};
+ghost use Rattle.std.specs.Prelude.{◌≡◌, ◌+◌, ◌*◌, ◌<◌, ◌^◌, refl};
+ghost use Rattle.std.specs.Cmp.{on_total, eq_by_cmp_equiv, partial_equiv_from_equiv, partial_order_from_total};
+ghost use Rattle.std.specs.Cmp.Lexicographic.{nat_list_cmp_total};
+ghost use Rattle.std.specs.Ordering.{eq_by_cmp, as_partial_cmp};
+ghost use Rattle.srm_net.specs.Names.{numbers_of_name, name_cmp};
 
 use crate::sequence::Sequence;
 use std::alloc::AllocError;
+use std::cmp::Ordering;
 
 /// A packet's identity: its sender, and how many packets that member sent before it (this project's own).
 #[derive(Clone, Copy, Debug, PartialEq, Eq, PartialOrd, Ord, Hash)]
@@ -14,14 +19,69 @@ pub struct PacketId {
 }
 
 /// The name of a drawing operation (Floyd et al. 1997): who drew it, on which page, and its number there.
-#[derive(Clone, Copy, Debug, PartialEq, Eq, PartialOrd, Ord)]
+///
+/// Names are compared by source, page and number, as one number, which the fields in this order are in memory.
+#[derive(Clone, Copy, Debug)]
 pub struct Name {
-    /// The member that drew.
-    pub source: u16,
-    /// The page of that source.
-    pub page: u16,
     /// The operation's number on that page, from 0.
     pub number: u32,
+    /// The page of that source.
+    pub page: u16,
+    /// The member that drew.
+    pub source: u16,
+}
+
+impl Name {
+    // Source, page and number as one number.
+    #[inline(always)]
+    fn as_number(self) -> u64
+        ensures value { result ≡ (self.source * 2 ^ 16 + self.page) * 2 ^ 32 + self.number }
+        ensures parts { (self.page < 2 ^ 16) × (self.number < 2 ^ 32) }
+    {
+        (u64::from(self.source) * 65_536 + u64::from(self.page)) * 4_294_967_296
+            + u64::from(self.number)
+    }
+}
+
+impl PartialEq for Name {
+    ghost eq = { eq_by_cmp name_cmp };
+
+    ghost laws = { partial_equiv_from_equiv (eq_by_cmp_equiv (on_total numbers_of_name nat_list_cmp_total)) };
+
+    #[inline(always)]
+    fn eq(&self, other: &Name) -> bool {
+        self.cmp(other).is_eq()
+    }
+}
+
+impl Eq for Name {
+    ghost laws = { eq_by_cmp_equiv (on_total numbers_of_name nat_list_cmp_total) };
+}
+
+impl PartialOrd for Name {
+    ghost partial_cmp = { as_partial_cmp name_cmp };
+
+    ghost laws = { partial_order_from_total (on_total numbers_of_name nat_list_cmp_total) };
+
+    #[inline(always)]
+    fn partial_cmp(&self, other: &Name) -> Option<Ordering> {
+        Some(self.cmp(other))
+    }
+}
+
+impl Ord for Name {
+    ghost cmp = { name_cmp };
+
+    ghost total = { on_total numbers_of_name nat_list_cmp_total };
+
+    ghost matches_partial_cmp = { λ m n. refl };
+
+    ghost matches_eq = { λ m n. refl };
+
+    #[inline(always)]
+    fn cmp(&self, other: &Name) -> Ordering {
+        self.as_number().cmp(&other.as_number())
+    }
 }
 
 /// A page of one source (Floyd et al. 1997), on which drawing operations are numbered from 0. The default is page 0 of member 0.
