@@ -1,6 +1,5 @@
 //! What is told of a member's intervals.
 ghost use Rattle.std.specs.Prelude.{◌≡◌, ◌≢◌, ◌↔◌, None, IsTrue, MatchResult};
-ghost use Rattle.srm_member.specs.React.{adapted_since};
 
 use crate::intervals::Intervals;
 use std::alloc::{AllocError, Global};
@@ -26,6 +25,7 @@ impl Model for Adapted {
 
 impl Adapted {
     /// Nothing is told of intervals. It does not allocate.
+    #[inline(always)]
     pub fn nothing() -> Self
         ensures { result ≡ None }
     {
@@ -48,26 +48,8 @@ impl Adapted {
         })
     }
 
-    // What an event tells of intervals, before which they were others: them, where one of the four constants is another. Where all
-    // are the same, as most are, it does not allocate.
-    #[inline]
-    pub(crate) fn since(
-        alloc: Global,
-        before: Intervals,
-        after: Intervals,
-    ) -> Result<Self, AllocError>
-        ensures { MatchResult result (λ a. a ≡ adapted_since before after) (λ _. adapted_since before after ≢ None) }
-    {
-        let same = after.request.has_constants_of(before.request)
-            && after.repair.has_constants_of(before.repair);
-        if same {
-            return Ok(Adapted::nothing());
-        }
-        Adapted::of(alloc, Some(after))
-    }
-
     // Whether nothing is told of intervals.
-    #[inline]
+    #[inline(always)]
     pub(crate) fn is_nothing(&self) -> bool
         ensures { IsTrue result ↔ (self.now ≡ None) }
     {

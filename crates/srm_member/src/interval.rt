@@ -93,7 +93,7 @@ impl Interval {
     }
 
     // Whether start and width are those of another.
-    #[inline]
+    #[inline(always)]
     pub(crate) fn has_constants_of(self, other: Interval) -> bool
         ensures { result ≡ has_constants_of other self }
     {

@@ -1,9 +1,9 @@
 //! What an active member knows, and how it answers.
-ghost use Rattle.std.specs.Prelude.{◌≡◌, ◌⊎◌, ◌+◌, ◌-◌, ◌<◌, ◌≤◌, ◌^◌, [], ◌++◌, IfOk, OnOk, Some, None};
+ghost use Rattle.std.specs.Prelude.{◌≡◌, ◌⊎◌, ◌+◌, ◌-◌, ◌<◌, ◌≤◌, ◌^◌, [], ◌++◌, ◌&&◌, IfOk, OnOk, Some, None};
 ghost use Rattle.srm_net.specs.Limits.{end_of_time, greatest_distance};
 ghost use Rattle.srm_net.specs.Names;
 ghost use Rattle.srm_member.specs.Backoff.{span_by};
-ghost use Rattle.srm_member.specs.Intervals.{greatest_adapted};
+ghost use Rattle.srm_member.specs.Intervals.{greatest_adapted, has_constants_of};
 ghost use Rattle.srm_member.specs.Record.{opening_state, exit_of, earliest, timers_of};
 ghost use Rattle.srm_net.specs.Paths.{is_in};
 ghost use Rattle.srm_member.specs.React.{distance_to, length_in, with_next_word, request_length, repair_length, with_request_delay, back_off, begins_at, meet, with_progress, lose_one, lose_from, with_losses_begun, lose_below, names_from, lost_below, hear_data, base, after_repair_delay, with_repairs_begun, with_repair_timer, hear_request_of_missing, hear_request_of_held, hear_request, after_entry, lost_by_entry, hear_session, hear_body, with_request_first, expire_request, with_repair_first, expire_repair, own_progress, draw_operation, session_of, send_body, intervals_of, adapted_since};
@@ -636,6 +636,7 @@ impl MemberState {
     }
 
     /// Both intervals.
+    #[inline(always)]
     pub fn intervals(&self) -> Intervals
         ensures { result ≡ intervals_of self.now }
     {
@@ -645,12 +646,34 @@ impl MemberState {
         }
     }
 
+    // Whether the four constants are those of these intervals.
+    #[inline(always)]
+    fn has_constants_of(&self, before: Intervals) -> bool
+        ensures { result ≡ (has_constants_of before.request self.now.request_interval
+            && has_constants_of before.repair self.now.repair_interval) }
+    {
+        self.request_interval.has_constants_of(before.request)
+            && self.repair_interval.has_constants_of(before.repair)
+    }
+
     /// The answer to an event that is no join, with what it tells of the intervals, which were these before the event.
-    #[inline]
+    #[inline(always)]
     pub fn tell(&self, alloc: Global, before: Intervals, react: React) -> Result<React, AllocError>
         ensures { IfOk result (λ r. r ≡ record react { adapted = adapted_since before (intervals_of self.now) }) }
     {
-        let adapted = Adapted::since(alloc, before, self.intervals())?;
+        if self.has_constants_of(before) {
+            // most events adapt none, and of most there is no more to tell
+            return react.telling(alloc, Adapted::nothing());
+        }
+        self.tell_intervals(alloc, react)
+    }
+
+    /// The answer, which tells the intervals besides.
+    #[inline(never)]
+    pub fn tell_intervals(&self, alloc: Global, react: React) -> Result<React, AllocError>
+        ensures { IfOk result (λ r. r ≡ record react { adapted = Some (intervals_of self.now) }) }
+    {
+        let adapted = Adapted::of(alloc, Some(self.intervals()))?;
         react.telling(alloc, adapted)
     }
 

@@ -33,7 +33,7 @@ impl Model for React {
 
 impl React {
     /// The answer that tells no more than what came of the cause. It does not allocate.
-    #[inline]
+    #[inline(always)]
     pub fn quiet(told: Told) -> Self
         ensures { result ≡ record { told = told; lost = []; body = None; adapted = None } }
     {
@@ -79,7 +79,7 @@ impl React {
     ///
     /// # Errors
     /// [`AllocError`].
-    #[inline]
+    #[inline(always)]
     pub fn telling(self, alloc: Global, adapted: Adapted) -> Result<Self, AllocError>
         ensures { IfOk result (λ r. r ≡ record self { adapted = adapted }) }
     {

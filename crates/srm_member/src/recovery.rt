@@ -7,7 +7,6 @@ ghost use Rattle.srm_member.specs.Record.{fixed_part, due_of, opening_record};
 ghost use Rattle.srm_member.specs.Reacts.{Reacts, Finishes};
 ghost use Rattle.srm_member.specs.Fit.{IsBounded};
 
-use crate::adapted::Adapted;
 use crate::cause::Cause;
 use crate::due::Due;
 use crate::exit::Exit;
@@ -83,8 +82,9 @@ impl Recovery {
         ensures { (at : ℕ) → Reacts self.old at Join result self.new }
     {
         begin(&mut self.gone)?;
-        let adapted = Adapted::of(alloc, Some(self.state.intervals()))?;
-        let react = React::quiet(Told::Entered).telling(alloc, adapted)?;
+        let react = self
+            .state
+            .tell_intervals(alloc, React::quiet(Told::Entered))?;
         self.gone = false;
         Ok(react)
     }
