@@ -1,6 +1,6 @@
 -- Names and timers are compared by their numbers.
 use Rattle.std.proofs.Common.{arith, length, ◌<◌, ◌↔◌, IsSome, IfSome, IsTrue, Bor, Some, [], ◌∷◌, ◌≡◌, Bool, false, cond, List, Option}
-use Rattle.std.proofs.Common.{None, refl, sym, ap, subst, ◌∙◌}
+use Rattle.std.proofs.Common.{None, refl, subst}
 use Rattle.std.specs.Ordering.{nat_cmp, ordering_then, eq_by_cmp, is_gt}
 use Rattle.std.specs.List.{list_any}
 use Rattle.std.specs.FinMap.Entries.{put, find}
@@ -10,8 +10,6 @@ use Rattle.std.specs.BTreeMap.{insert_entry, is_at}
 use Rattle.srm_member.specs.React.{without}
 use Rattle.srm_member.specs.Pending.{has, IsFirst}
 use Rattle.srm_member.proofs.Maps as maps
-use Rattle.std.specs.declared.cmp.Ordering.{Ordering}
-use Rattle.std.specs.declared.cmp.Ordering.TheVariants.{Equal}
 use Rattle.srm_net.specs.declared.packet.Name.{Name}
 use Rattle.srm_net.specs.Names.{name_cmp}
 use Rattle.srm_net.proofs.TotalOrders.{ranks_compared}
@@ -25,18 +23,18 @@ names_compared = refl
 
 pub dues_compared : due_order.cmp-value.it ≡ due_cmp
 dues_compared i a b =
-    ordering_then (nat_cmp a.time b.time) (ordering_then (ranks_compared a.rank b.rank i) (names_compared i a.name b.name))
+    ordering_then (nat_cmp a.time b.time) (ordering_then (ranks_compared a.rank b.rank i) (name_cmp a.name b.name))
 
 pub name_find : {V : Type 0} (n : Name) (es : List (Name × V)) → find name_cmp n es ≡ lookup (is_at (name_order.cmp-value.it n)) es
-name_find n es = ap (λ R. find R n es) (sym names_compared) ∙ maps.find-lookup name_order.cmp-value.it n es
+name_find n es = maps.find-lookup name_cmp n es
 
 pub name_put : {V : Type 0} (n : Name) (v : V) (es : List (Name × V)) → put name_cmp n v es ≡ insert_entry name_order.cmp-value.it es n v
-name_put n v es = ap (λ R. put R n v es) (sym names_compared) ∙ maps.put-insert_entry name_order.cmp-value.it n v es
+name_put n v es = maps.put-insert_entry name_cmp n v es
 
 pub name_without : {V : Type 0} (n : Name) (es : List (Name × V)) → lookup
     (is_at (name_order.cmp-value.it n)) (remove_entry (is_at (name_order.cmp-value.it n)) es) ≡ None
     → remove_entry (is_at (name_order.cmp-value.it n)) es ≡ without n es
-name_without n es h = maps.without-remove_entry name_order.cmp-value.it n es h ∙ ap (λ R. maps.without R n es) names_compared
+name_without n es h = maps.without-remove_entry name_cmp n es h
 
 -- an update of a set of timers, in the words of specs/
 pub due_update : (e : Due) (b : Bool) (index index2 : List Due)
