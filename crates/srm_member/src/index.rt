@@ -1,5 +1,5 @@
 //! An index of timers by time.
-ghost use Rattle.std.specs.Prelude.{◌≡◌, [], OnErr, OnOk, false, true, cond};
+ghost use Rattle.std.specs.Prelude.{◌≡◌, [], OnErr, OnOk, IsTrue, false, true, cond};
 ghost use Rattle.std.specs.Ordering.{eq_by_cmp};
 ghost use Rattle.srm_member.specs.declared.due.Due.{Due as D};
 ghost use Rattle.srm_member.specs.Record.{due_cmp};
@@ -39,11 +39,14 @@ impl Index {
     pub fn first(&self) -> Option<Due>
         ensures { IsFirst self.now result }
     {
-        // an emptied set still has a node, elsewhere in memory
-        if self.set.is_empty() {
-            return None;
-        }
         self.set.first().copied()
+    }
+
+    /// Whether there is no timer.
+    pub fn is_empty(&self) -> bool
+        ensures { IsTrue result → self.now ≡ [] }
+    {
+        self.set.is_empty()
     }
 
     /// Puts a timer in. After an error the index is as it was.
