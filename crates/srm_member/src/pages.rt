@@ -66,12 +66,12 @@ impl Pages {
     }
 
     /// How far the member follows a page, if it does.
-    #[inline]
+    #[inline(always)]
     pub fn get(&self, page: PageId) -> Option<Progress>
         ensures value { result ≡ find page_cmp page self.now }
         ensures kept { IfSome result (λ s. put page_cmp page s self.now ≡ self.now) }
     {
-        // the first page is mostly the one, and takes no search
+        // the first page is mostly the one, and takes no search, nor a call
         if self.is_at(0, page) {
             return Some(self.entries[0].1);
         }
@@ -79,6 +79,7 @@ impl Pages {
     }
 
     // The same by a search, whichever page it is.
+    #[inline(never)]
     fn get_by_place(&self, page: PageId) -> Option<Progress>
         ensures value { result ≡ find page_cmp page self.now }
         ensures kept { IfSome result (λ s. put page_cmp page s self.now ≡ self.now) }
@@ -92,7 +93,7 @@ impl Pages {
     }
 
     /// Follows a page this far. After an error all is as it was.
-    #[inline]
+    #[inline(always)]
     pub fn put(&mut self, page: PageId, progress: Progress) -> Result<(), AllocError>
         ensures ok { OnOk result (self.new ≡ put page_cmp page progress self.old) }
         ensures err { OnErr result (self.new ≡ self.old) }
@@ -105,6 +106,7 @@ impl Pages {
     }
 
     // The same by a search, whichever page it is.
+    #[inline(never)]
     fn put_by_place(&mut self, page: PageId, progress: Progress) -> Result<(), AllocError>
         ensures ok { OnOk result (self.new ≡ put page_cmp page progress self.old) }
         ensures err { OnErr result (self.new ≡ self.old) }

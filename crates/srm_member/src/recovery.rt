@@ -181,6 +181,8 @@ impl Recovery {
     ///
     /// # Errors
     /// As of [`Member::react`](crate::member::Member::react): `Spent` and `NoMemory`.
+    // in each role's own `react`: an answer is copied once less
+    #[inline(always)]
     pub fn react(&mut self, alloc: Global, at: u64, cause: &Cause) -> Result<React, MemberFault>
         requires { at < end_of_time }
         ensures { Reacts self.old at cause.now result self.new }
