@@ -1,17 +1,18 @@
 -- Where a cell has its next event.
 use Rattle.std.proofs.Common.{arith}
-use Rattle.std.proofs.Common.{◌≡◌, ◌<◌, ◌≤◌, cond, ℕ, List, [], ◌∷◌, Option, Some, None, option_map}
+use Rattle.std.proofs.Common.{◌≡◌, ◌<◌, ◌≤◌, ◌⊎◌, cond, ℕ, List, [], ◌∷◌, Option, Some, None, IfSome, option_map}
 use Rattle.std.proofs.Common.{slice_get, refl, sym, ap, ◌∙◌, subst, le-ltb, lt-ltb, Ordering, Less, Equal, Greater}
 use Rattle.std.proofs.lemmas.Option.{same_Some}
 use Rattle.std.specs.Ordering.{is_gt, min_by_ordering}
-use Rattle.srm_net.specs.Keys.{key_cmp}
+use Rattle.srm_net.specs.Keys.{key_cmp, rank_number}
 use Rattle.srm_net.specs.declared.key.Key.{Key}
 use Rattle.srm_net.specs.declared.packet.PacketId.{PacketId}
-use Rattle.srm_net.specs.declared.rank.Rank.TheVariants.{Arrival}
+use Rattle.srm_net.specs.declared.rank.Rank.TheVariants.{Arrival, Request, Repair}
 use Rattle.srm_scenario.specs.declared.mark.Mark.{Mark}
 use Rattle.srm_member.specs.declared.due.Due.{Due}
 use Rattle.srm_cell.specs.declared.flight.Flight.{Flight}
-use Rattle.srm_cell.specs.Cells.{PlainCell, Event, first_arrival, first_mark, next_timer, next_event, earlier, before, time_of}
+use Rattle.srm_cell.specs.Cells.{PlainCell, Event, first_arrival, first_mark, next_timer, next_event, earlier, before, due_in}
+use Rattle.srm_cell.specs.Cells.{time_of}
 use Rattle.srm_cell.specs.Cells.{step_at, own_step, handle, Idle}
 use Rattle.srm_cell.specs.declared.pending_event.Next.{Next}
 use Rattle.srm_cell.specs.declared.pending_event.PendingEvent.{PendingEvent}
@@ -81,6 +82,30 @@ second_sooner None y lt le = refl
 second_sooner (Some d) None lt le = absurd (omega arith)
 second_sooner (Some d) (Some e) lt le = ap (λ r. Some (min_by_ordering r d e)) (later_key d.key e.key lt)
 
+level_key : (k l : Key) → k.time ≡ l.time → k.member ≡ l.member → k.rank ≡ Arrival → (l.rank ≡ Request) ⊎ (l.rank ≡ Repair)
+    → key_cmp k l ≡ Less
+unfolding rank_number
+level_key k l h g a r = grind arith
+
+-- of one tick and member, a packet's arrival goes before a timer of a request or of a repair
+level_sooner : (m : ℕ) (x y : Option Event) → tick_of x < never → tick_of x ≡ tick_of y
+    → IfSome x (λ d. (d.key.member ≡ m) × (d.key.rank ≡ Arrival))
+    → IfSome y (λ e. (e.key.member ≡ m) × ((e.key.rank ≡ Request) ⊎ (e.key.rank ≡ Repair))) → earlier x y ≡ x
+level_sooner m None y lt h a b = absurd (omega arith)
+level_sooner m (Some d) None lt h a b = refl
+level_sooner m (Some d) (Some e) lt h a b =
+    ap (λ r. Some (min_by_ordering r d e)) (level_key d.key e.key h (a.0 ∙ sym b.0) a.1 b.1)
+
+arrival_ranked : (m : ℕ) (c : PlainCell) (fs : List Flight)
+    → IfSome (first_arrival m c fs) (λ d. (d.key.member ≡ m) × (d.key.rank ≡ Arrival))
+arrival_ranked m c [] = tt
+arrival_ranked m c (f ∷ fs) = (refl, refl)
+
+timer_ranked : (m : ℕ) (c : PlainCell) (o : Option Due) → IfSome o (λ d. (d.rank ≡ Request) ⊎ (d.rank ≡ Repair))
+    → IfSome (next_timer m c o) (λ e. (e.key.member ≡ m) × ((e.key.rank ≡ Request) ⊎ (e.key.rank ≡ Repair)))
+timer_ranked m c None h = tt
+timer_ranked m c (Some d) h = (refl, h)
+
 -- the earlier of two is one of them
 one_of_two : (P : Option Event → Type 0) (x y : Option Event) → P x → P y → P (earlier x y)
 one_of_two P None y a b = b
@@ -110,6 +135,15 @@ module _ (m : ℕ) (c : PlainCell) where
   arrival_next lk lt nk nt = soonest Inbox _ (first_sooner (first Inbox) (earlier (first Script) (first Timer))
       (one_of_two (λ o. tick_of (first Inbox) < tick_of o) (first Script) (first Timer) lk lt)
       (one_of_two (λ o. tick_of o ≤ never) (first Script) (first Timer) nk nt)) lk nk
+
+  pub level_next : tick_of (first Inbox) < tick_of (first Script) → tick_of (first Inbox) ≡ tick_of (first Timer)
+      → tick_of (first Script) ≤ never → IfSome (due_in c.holds) (λ d. (d.rank ≡ Request) ⊎ (d.rank ≡ Repair))
+      → IsNext m c (record { time = tick_of (first Inbox); source = Inbox }) (next_event m c)
+  unfolding next_event
+  level_next lk same nk r = soonest Inbox _
+      (ap (earlier (first Inbox)) (second_sooner (first Script) (first Timer) (omega (arith, lk, same)) nk)
+      ∙ level_sooner m (first Inbox) (first Timer) (omega (arith, lk, nk)) same (arrival_ranked m c c.inbox)
+      (timer_ranked m c (due_in c.holds) r)) lk nk
 
   pub mark_next : tick_of (first Script) < tick_of (first Inbox) → tick_of (first Script) < tick_of (first Timer)
       → tick_of (first Inbox) ≤ never → tick_of (first Timer) ≤ never

@@ -16,7 +16,9 @@ use crate::arrival::arrival;
 use crate::boxes::{finish, react};
 use crate::fault::CellFault;
 use crate::inbox::Inbox;
-use crate::pending_event::{Next, PendingEvent, Source, arrival_time, mark_time, timer_time};
+use crate::pending_event::{
+    Next, PendingEvent, Source, arrival_time, is_expiry, mark_time, timer_time,
+};
 use crate::rows::{about, cause_at, expiry, packet, word};
 use crate::script::Script;
 use crate::sent::Sent;
@@ -348,15 +350,23 @@ impl<M: Participant> Cell<M> {
         }
     }
 
-    // The least event of the cell, looked for among all that it has. Where one is sooner than both others no key is made.
+    // The least event of the cell, looked for among all that it has. Where one is sooner than both others, or a packet arrives as a
+    // timer expires, no key is made.
     #[inline(always)]
     fn least(&self) -> Next
         ensures { IsNextOf M.plain self.now result }
     {
         let arrival = arrival_time(&self.inbox);
         let mark = mark_time(&self.script);
-        let timer = timer_time(self.due());
+        let due = self.due();
+        let timer = timer_time(due);
         if arrival < mark && arrival < timer {
+            return Next {
+                time: arrival,
+                source: Source::Inbox,
+            };
+        }
+        if arrival < mark && arrival == timer && is_expiry(due) {
             return Next {
                 time: arrival,
                 source: Source::Inbox,

@@ -1,6 +1,7 @@
 //! Which of a cell's events is next.
-ghost use Rattle.std.specs.Prelude.{◌≡◌, ◌↔◌, ℕ, IsTrue, Some};
+ghost use Rattle.std.specs.Prelude.{◌≡◌, ◌↔◌, ◌⊎◌, ℕ, IsTrue, IfSome, Some};
 ghost use Rattle.std.specs.Ordering.{is_gt};
+ghost use Rattle.srm_net.specs.declared.rank.Rank.TheVariants as ranks;
 ghost use Rattle.srm_net.specs.Keys.{key_cmp};
 ghost use Rattle.srm_cell.specs.Cells.{PlainCell, first_arrival, first_mark, next_timer};
 ghost use Rattle.srm_cell.specs.Pending as pending;
@@ -190,5 +191,16 @@ pub(crate) fn timer_time(due: Option<Due>) -> u64
     match due {
         None => NEVER,
         Some(due) => due.time,
+    }
+}
+
+/// Whether there is a timer of a request or of a repair: of one tick, packets go before it.
+#[inline(always)]
+pub(crate) fn is_expiry(due: Option<Due>) -> bool
+    ensures { IsTrue result → IfSome due (λ d. (d.rank ≡ ranks.Request) ⊎ (d.rank ≡ ranks.Repair)) }
+{
+    match due {
+        None => false,
+        Some(due) => matches!(due.rank, Rank::Request | Rank::Repair),
     }
 }

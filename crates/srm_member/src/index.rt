@@ -42,8 +42,8 @@ impl Index {
         self.set.first().copied()
     }
 
-    /// Whether there is no timer.
-    pub fn is_empty(&self) -> bool
+    // Whether there is no timer.
+    pub(crate) fn is_empty(&self) -> bool
         ensures { IsTrue result → self.now ≡ [] }
     {
         self.set.is_empty()

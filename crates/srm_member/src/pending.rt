@@ -78,8 +78,8 @@ impl Pending {
         self.index.first()
     }
 
-    /// Whether no timer is pending.
-    pub fn is_idle(&self) -> bool
+    // Whether no timer is pending.
+    pub(crate) fn is_idle(&self) -> bool
         ensures { IsTrue result → earliest (pending_timers self.now.0 self.now.1) ≡ None }
     {
         self.index.is_empty()

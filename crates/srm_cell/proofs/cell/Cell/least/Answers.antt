@@ -1,9 +1,10 @@
-use Rattle.std.proofs.Common.{◌≡◌, ◌∙◌, sym, ap, subst, arith}
+use Rattle.std.proofs.Common.{◌≡◌, ◌⊎◌, ◌∙◌, IfSome, sym, ap, subst, arith}
+use Rattle.srm_net.specs.declared.rank.Rank.TheVariants.{Request, Repair}
 use Rattle.srm_cell.specs.Cells.{next_event, next_timer}
 use Rattle.srm_cell.specs.declared.pending_event.Source.TheVariants.{Inbox, Script, Timer}
 use Rattle.srm_cell.specs.Pending.{IsNext, first_of, tick_of}
 use Rattle.srm_cell.specs.Views.{plain_cell}
-use Rattle.srm_cell.proofs.Nexts.{arrival_next, mark_next, timer_next}
+use Rattle.srm_cell.proofs.Nexts.{arrival_next, level_next, mark_next, timer_next}
 use Rattle.srm_cell.proofs.cell.Cell.least.Goals as goal
 
 pub returns-then-arrival-timer : goal.returns-then-arrival-timer
@@ -13,9 +14,22 @@ returns-then-arrival-timer g c =
     let a : c.arrival_time-arrival.result ≡ tick_of (first_of Inbox m p) = c.arrival_time-arrival.ensures m p in
     let k : c.mark_time-mark.result ≡ tick_of (first_of Script m p) = c.mark_time-mark.ensures m p in
     let t : c.timer_time-timer.result ≡ tick_of (first_of Timer m p) =
-    c.timer_time-timer.ensures m p ∙ ap (λ d. tick_of (next_timer m p d)) c.due.ensures in
+    c.timer_time-timer.ensures m p ∙ ap (λ d. tick_of (next_timer m p d)) c.due-due.ensures in
     subst (λ n. IsNext m p (record { time = n; source = Inbox }) (next_event m p)) (sym a)
     (arrival_next m p (omega (arith, a, k)) (omega (arith, a, t)) (omega (arith, k)) (omega (arith, t)))
+
+pub returns-then-is_expiry : goal.returns-then-is_expiry
+returns-then-is_expiry g c =
+    let m = c.args.self.now.number in
+    let p = plain_cell g.M.Participant.plain c.args.self.now in
+    let a : c.arrival_time-arrival.result ≡ tick_of (first_of Inbox m p) = c.arrival_time-arrival.ensures m p in
+    let k : c.mark_time-mark.result ≡ tick_of (first_of Script m p) = c.mark_time-mark.ensures m p in
+    let t : c.timer_time-timer.result ≡ tick_of (first_of Timer m p) =
+    c.timer_time-timer.ensures m p ∙ ap (λ d. tick_of (next_timer m p d)) c.due-due.ensures in
+    let ranked = subst (λ o. IfSome o (λ d. (d.rank ≡ Request) ⊎ (d.rank ≡ Repair))) c.due-due.ensures
+    (c.is_expiry.ensures c.if-is_expiry.true) in
+    subst (λ n. IsNext m p (record { time = n; source = Inbox }) (next_event m p)) (sym a)
+    (level_next m p (omega (arith, a, k)) (omega (arith, a, t)) (omega (arith, k)) ranked)
 
 pub returns-then-timer-mark : goal.returns-then-timer-mark
 returns-then-timer-mark g c =
@@ -24,7 +38,7 @@ returns-then-timer-mark g c =
     let a : c.arrival_time-arrival.result ≡ tick_of (first_of Inbox m p) = c.arrival_time-arrival.ensures m p in
     let k : c.mark_time-mark.result ≡ tick_of (first_of Script m p) = c.mark_time-mark.ensures m p in
     let t : c.timer_time-timer.result ≡ tick_of (first_of Timer m p) =
-    c.timer_time-timer.ensures m p ∙ ap (λ d. tick_of (next_timer m p d)) c.due.ensures in
+    c.timer_time-timer.ensures m p ∙ ap (λ d. tick_of (next_timer m p d)) c.due-due.ensures in
     subst (λ n. IsNext m p (record { time = n; source = Timer }) (next_event m p)) (sym t)
     (timer_next m p (omega (arith, a, t)) (omega (arith, k, t)) (omega (arith, a)) (omega (arith, k)))
 
@@ -35,6 +49,6 @@ returns-then-mark-timer g c =
     let a : c.arrival_time-arrival.result ≡ tick_of (first_of Inbox m p) = c.arrival_time-arrival.ensures m p in
     let k : c.mark_time-mark.result ≡ tick_of (first_of Script m p) = c.mark_time-mark.ensures m p in
     let t : c.timer_time-timer.result ≡ tick_of (first_of Timer m p) =
-    c.timer_time-timer.ensures m p ∙ ap (λ d. tick_of (next_timer m p d)) c.due.ensures in
+    c.timer_time-timer.ensures m p ∙ ap (λ d. tick_of (next_timer m p d)) c.due-due.ensures in
     subst (λ n. IsNext m p (record { time = n; source = Script }) (next_event m p)) (sym k)
     (mark_next m p (omega (arith, a, k)) (omega (arith, k, t)) (omega (arith, a)) (omega (arith, t)))
