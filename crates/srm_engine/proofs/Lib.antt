@@ -13,6 +13,7 @@ pub mod PutLemmas
 pub mod CellLists
 pub mod JobLemmas
 pub mod Ways
+pub mod Everywhere
 pub mod SoonLemmas
 pub mod SoonGroups
 pub mod WindowLemmas

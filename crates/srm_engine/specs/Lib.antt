@@ -3,6 +3,7 @@ pub mod Seen
 pub mod Faults
 pub mod Openings
 pub mod Starts
+pub mod Distances
 pub mod Engines
 pub mod Outcomes
 pub mod Soonest

@@ -30,6 +30,7 @@ mod merged_rows;
 pub mod next_times;
 pub mod outcome;
 mod sent;
+mod session_distances;
 mod simulation;
 mod soonest;
 pub mod start;

@@ -16,8 +16,8 @@ use crate::cells::{Cells, open_cells};
 use crate::fault::RunFault;
 use crate::halt::Halt;
 use crate::handing::hand_none;
+use crate::session_distances::{SessionDistances, arrival_by};
 use crate::stream_fault::StreamFault;
-use srm_cell::arrival::arrival;
 use srm_cell::tally::Tally;
 use srm_interfaces::sink::RowSink;
 use srm_member::participant::Participant;
@@ -36,7 +36,7 @@ const MOST_PIECES: u64 = 144_115_188_075_855_872;
 /// A run of a scenario: the cells of all members, and the totals so far.
 #[derive(Drop)]
 pub(crate) struct Simulation<'a, M> {
-    pub(crate) session: Session<'a>,
+    pub(crate) session: SessionDistances<'a>,
     pub(crate) cells: Cells<M>,
     pub(crate) tally: Tally,
 }
@@ -54,6 +54,7 @@ impl<'a, M: Participant> Simulation<'a, M> {
     {
         let tally = Tally::new(alloc, session.net.links().len() as u16)?;
         let cells = Cells::of(alloc, open_cells(alloc, session.scenario, members)?)?;
+        let session = SessionDistances::new(alloc, session);
         Ok(Simulation {
             session,
             cells,
@@ -148,7 +149,7 @@ impl<'a, M: Participant> Simulation<'a, M> {
         ensures session { self.new.session ≡ self.old.session }
         ensures step { PutsStep (λ r. StepsOn M.plain self.old r self.new) rows.old.items result rows.new.items }
     {
-        let until = self.session.scenario.until();
+        let until = self.session.until();
         let Some((time, member)) = self.cells.times.least() else {
             return Ok(false);
         };
@@ -174,20 +175,21 @@ impl<'a, M: Participant> Simulation<'a, M> {
         let Some(packet) = &row.sent else {
             return Ok(());
         };
-        let spread = self.session.net.spread(
+        let Session { scenario, net, .. } = self.session.as_session();
+        let spread = net.spread(
             alloc,
-            self.session.scenario.drops(),
+            scenario.drops(),
             packet.id,
             packet.sent,
             packet.body.scope(),
         )?;
-        self.tally.count(self.session.net, &spread, packet);
-        self.deliver(packet, &spread)?;
+        self.tally.count(net, &spread, packet);
+        self.deliver(alloc, packet, &spread)?;
         Ok(())
     }
 
     // Every member to which a packet, of which this is the spread, has a flight is handed it.
-    fn deliver(&mut self, packet: &Packet, spread: &Spread) -> Result<(), AllocError>
+    fn deliver(&mut self, alloc: Global, packet: &Packet, spread: &Spread) -> Result<(), AllocError>
         requires spread { IsSpread self.old.session.net.now self.old.session.scenario.now.drops packet.now.id packet.now.sent
             (scope_of packet.now.body) spread.now }
         requires may { MayDeliver M.plain packet.now self.old }
@@ -195,9 +197,13 @@ impl<'a, M: Participant> Simulation<'a, M> {
         ensures tally { self.new.tally ≡ self.old.tally }
         ensures heard { IfOk result (λ _. Delivers M.plain packet.now self.old self.new) }
     {
-        for member in 0..self.session.scenario.members() {
-            if let Some(at) = arrival(self.session, packet, spread, member) {
-                self.cells.hand(member, packet, at)?;
+        self.session.note(alloc, packet.id.sender)?;
+        let session = self.session.as_session();
+        let distances = self.session.distances_for(spread);
+        let cells = &mut self.cells;
+        for member in 0..session.scenario.members() {
+            if let Some(at) = arrival_by(session, packet, spread, distances, member) {
+                cells.hand(member, packet, at)?;
             }
         }
         Ok(())

@@ -38,7 +38,7 @@ pub fn step_rows<M: Participant, S: RowSink>(
     match Simulation::run(alloc, session, members, sink) {
         Ok(ran) => {
             let Simulation { session, tally, .. } = ran;
-            Ok(tally.into_totals(session.net))
+            Ok(tally.into_totals(session.as_session().net))
         }
         Err(fault) => Err(fault),
     }

@@ -56,7 +56,7 @@ pub fn step_stream<S: RowSink>(
         tally,
     } = ran;
     match finish_cells(alloc, cells.cells) {
-        Ok(exits) => Ok((exits, tally.into_totals(session.net))),
+        Ok(exits) => Ok((exits, tally.into_totals(session.as_session().net))),
         Err(error) => Err(error.into()),
     }
 }

@@ -1,6 +1,8 @@
-use Rattle.std.proofs.Common.{refl}
+use Rattle.std.proofs.Common.{◌∙◌, refl, sym, ap, subst}
+use Rattle.srm_scenario.specs.declared.session.Session.{Session}
 use Rattle.srm_cell.specs.Crossings.{packets_of}
 use Rattle.srm_cell.specs.Setting.{setting_of}
+use Rattle.srm_cell.specs.Tallies.{Tallies, tallied}
 use Rattle.srm_engine.proofs.ExitsKept.{all_end}
 use Rattle.srm_engine.proofs.PhaseLemmas.{exits_are}
 use Rattle.srm_engine.proofs.StreamLemmas.{front_taken, run_totals}
@@ -16,7 +18,12 @@ finish_cells-requires g c =
 pub into_totals-requires : goal.into_totals-requires
 into_totals-requires g c =
     let t = c.in-Ok.ensures.last c.requires.boxes.0 c.requires.boxes.1 in
-    (c.in-Ok.ran.session.scenario.now, packets_of t.0.trace, t.3.counted)
+    let ran = c.in-Ok.ran in (
+      ran.session.scenario.now,
+      packets_of t.0.trace,
+      subst (λ (at : Session). Tallies ran.session.scenario.now at.net.now (packets_of t.0.trace) ran.tally)
+          (sym c.as_session.ensures) t.3.counted,
+    )
 
 pub returns-clause-stream : goal.returns-clause-stream
 returns-clause-stream g c = λ seed h.
@@ -37,7 +44,8 @@ returns-in-Ok-finish_cells-clause-stream g c = λ seed h.
         trace_is = refl;
         exits_are = exits_are _ _ t.0 c.in-Ok-finish_cells.exits.items (t.3.seen.0.order, t.3.seen.1) c.in-Ok-finish_cells.ensures;
         totals_are = run_totals c.in-Ok.ran _ seed t.0 c.into_totals.result c.in-Ok.ensures.session
-            t.3.counted c.into_totals.ensures;
+            t.3.counted (c.into_totals.ensures
+            ∙ ap (λ (at : Session). tallied at.net.now c.in-Ok.ran.tally) c.as_session.ensures);
       },
       t.2,
     )

@@ -1,8 +1,9 @@
-use Rattle.std.proofs.Common.{◌∙◌, ◌+◌, List, sym, subst, ap}
+use Rattle.std.proofs.Common.{◌∙◌, ◌+◌, List, map, sym, subst, ap}
 use Rattle.srm_member.specs.declared.row.Row.{Row}
 use Rattle.srm_cell.specs.Setting.{Setting}
 use Rattle.srm_model.specs.World.{opening, IsReached, IsLast}
 use Rattle.srm_engine.specs.Engines.{Shows, setting_in}
+use Rattle.srm_engine.specs.Openings.{seed_in}
 use Rattle.srm_engine.specs.Starts.{setting_on}
 use Rattle.srm_engine.specs.RowRuns.{UndoneAfter}
 use Rattle.srm_interfaces.specs.Sinks.{most_rows}
@@ -24,6 +25,14 @@ pub returns-in-Err-clause-undone : goal.returns-in-Err-clause-undone
 returns-in-Err-clause-undone g c = λ seed h.
     let s = setting_on c.args.session seed in
     uncalled g.S.RowSink.took g.S.RowSink.part g.S.RowSink.stage (MayLackSteps s) s c.args.sink.now _
+
+pub stream-requires-clause-opened : goal.stream-requires-clause-opened
+stream-requires-clause-opened g c =
+    let seed = seed_in (map g.M.Participant.plain c.args.members.items) in
+    let here = ap (λ at. setting_on at seed) c.in-Ok.ensures.session in (
+      seed,
+      subst (λ x. Shows g.M.Participant.plain c.in-Ok.opened (opening x)) (sym here) (c.in-Ok.ensures.opened seed c.requires.boxes),
+    )
 
 pub returns-in-Err-stream-clause-sink : goal.returns-in-Err-stream-clause-sink
 returns-in-Err-stream-clause-sink g c =
