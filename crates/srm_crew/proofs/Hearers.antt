@@ -29,7 +29,7 @@ use Rattle.srm_net.proofs.Basics.{zip_append}
 use Rattle.srm_interfaces.proofs.InPieces.{all_in}
 use Rattle.srm_crew.proofs.JobPieces.{all_in_more}
 
-module _ {M K : Type 0} (f : M → Record) (keeps : K → List Row → Type 0) (k : PlainScenario) (net : Network) where
+module _ {M K : Type 0} (f : M → Record) (takes : List K → List (List Row) → List K → Type 0) (k : PlainScenario) (net : Network) where
   -- ---- jobs
 
   pub jobs_may : (pieces : List (Vec (WatchedJob M K))) (given : List (Piece M K)) → AllZip (λ js p. IsJobsOf js p) pieces given
@@ -44,26 +44,26 @@ module _ {M K : Type 0} (f : M → Record) (keeps : K → List Row → Type 0) (
       (All-head (λ (js : Vec (WatchedJob M K)). MayWatch f net js.items) js pieces h))
       (jobs_may pieces ps z.1 (All-tail (λ (js : Vec (WatchedJob M K)). MayWatch f net js.items) js pieces h))
 
-  advanced_is : (js : Vec (WatchedJob M K)) (w : Worked M K) → ComesOfPiece f keeps k net (Jobs js) w → IsAdvanced w
+  advanced_is : (js : Vec (WatchedJob M K)) (w : Worked M K) → ComesOfPiece f takes k net (Jobs js) w → IsAdvanced w
   advanced_is js (Advanced r) g = tt
   advanced_is js (Heard r) g = absurd g
 
   pub jobs_advanced : (pieces : List (Vec (WatchedJob M K))) (given : List (Piece M K)) (all : List (Worked M K))
-      → AllZip (λ js p. IsJobsOf js p) pieces given → AllZip (λ p w. ComesOfPiece f keeps k net p w) given all → All (λ w. IsAdvanced w) all
+      → AllZip (λ js p. IsJobsOf js p) pieces given → AllZip (λ p w. ComesOfPiece f takes k net p w) given all → All (λ w. IsAdvanced w) all
   jobs_advanced [] [] [] z g = All-nil (λ w. IsAdvanced w)
   jobs_advanced [] [] (w ∷ ws) z g = absurd g
   jobs_advanced [] (p ∷ ps) all z g = absurd z
   jobs_advanced (js ∷ pieces) [] all z g = absurd z
   jobs_advanced (js ∷ pieces) (p ∷ ps) [] z g = absurd g
   jobs_advanced (js ∷ pieces) (p ∷ ps) (w ∷ ws) z g =
-      All-cons (λ w. IsAdvanced w) w ws (advanced_is js w (subst (λ q. ComesOfPiece f keeps k net q w) z.0 g.0))
+      All-cons (λ w. IsAdvanced w) w ws (advanced_is js w (subst (λ q. ComesOfPiece f takes k net q w) z.0 g.0))
       (jobs_advanced pieces ps ws z.1 g.1)
 
   pub jobs_gave : (pieces : List (Vec (WatchedJob M K))) (given : List (Piece M K)) (all : List (Worked M K))
       (rs : List (Result (Vec (WatchedDone M K)) CellFault))
-      → AllZip (λ js p. IsJobsOf js p) pieces given → AllZip (λ p w. ComesOfPiece f keeps k net p w) given all
+      → AllZip (λ js p. IsJobsOf js p) pieces given → AllZip (λ p w. ComesOfPiece f takes k net p w) given all
       → AllZip (λ w r. IsAdvancedAs r w) all rs
-      → AllZip (λ (js : Vec (WatchedJob M K)) r. AdvanceWatched f keeps k net js.items r) pieces rs
+      → AllZip (λ (js : Vec (WatchedJob M K)) r. AdvanceWatched f takes k net js.items r) pieces rs
   jobs_gave [] [] [] [] z g r = tt
   jobs_gave [] [] [] (x ∷ rs) z g r = absurd r
   jobs_gave [] [] (w ∷ ws) rs z g r = absurd g
@@ -72,7 +72,7 @@ module _ {M K : Type 0} (f : M → Record) (keeps : K → List Row → Type 0) (
   jobs_gave (js ∷ pieces) (p ∷ ps) [] rs z g r = absurd g
   jobs_gave (js ∷ pieces) (p ∷ ps) (w ∷ ws) [] z g r = absurd r
   jobs_gave (js ∷ pieces) (p ∷ ps) (w ∷ ws) (x ∷ rs) z g r = (
-    subst (λ v. ComesOfPiece f keeps k net (Jobs js) v) r.0 (subst (λ q. ComesOfPiece f keeps k net q w) z.0 g.0),
+    subst (λ v. ComesOfPiece f takes k net (Jobs js) v) r.0 (subst (λ q. ComesOfPiece f takes k net q w) z.0 g.0),
     jobs_gave pieces ps ws rs z.1 g.1 r.1,
   )
 
@@ -100,12 +100,12 @@ module _ {M K : Type 0} (f : M → Record) (keeps : K → List Row → Type 0) (
         All-cons (λ p. MayWork f k net p) p ps (may_hear gs p z.0 s (All-head (λ gs. MayEach gs) gs pieces h))
         (hearers_may pieces ps z.1 s (All-tail (λ gs. MayEach gs) gs pieces h))
 
-    heard_is : (gs : Vec (Vec (Cell M))) (p : Piece M K) (w : Worked M K) → AreHearersOf xs gs p → ComesOfPiece f keeps k net p w
+    heard_is : (gs : Vec (Vec (Cell M))) (p : Piece M K) (w : Worked M K) → AreHearersOf xs gs p → ComesOfPiece f takes k net p w
         → IsHeard w
     heard_is gs p w is g = grind arith
 
     pub hearers_heard : (pieces : List (Vec (Vec (Cell M)))) (given : List (Piece M K)) (all : List (Worked M K))
-        → AllZip (λ gs p. AreHearersOf xs gs p) pieces given → AllZip (λ p w. ComesOfPiece f keeps k net p w) given all
+        → AllZip (λ gs p. AreHearersOf xs gs p) pieces given → AllZip (λ p w. ComesOfPiece f takes k net p w) given all
         → All (λ w. IsHeard w) all
     hearers_heard [] [] [] z g = All-nil (λ w. IsHeard w)
     hearers_heard [] [] (w ∷ ws) z g = absurd g
@@ -115,13 +115,13 @@ module _ {M K : Type 0} (f : M → Record) (keeps : K → List Row → Type 0) (
     hearers_heard (gs ∷ pieces) (p ∷ ps) (w ∷ ws) z g =
         All-cons (λ w. IsHeard w) w ws (heard_is gs p w z.0 g.0) (hearers_heard pieces ps ws z.1 g.1)
 
-    one_heard : (gs v : Vec (Vec (Cell M))) (p : Piece M K) → AreHearersOf xs gs p → ComesOfPiece f keeps k net p (Heard (Ok v))
+    one_heard : (gs v : Vec (Vec (Cell M))) (p : Piece M K) → AreHearersOf xs gs p → ComesOfPiece f takes k net p (Heard (Ok v))
         → GroupsHear f (traffic_of k net) (packets_in xs) gs.items v.items
     one_heard gs v p is g = grind arith
 
     all_heard : (pieces : List (Vec (Vec (Cell M)))) (given : List (Piece M K)) (own : List (Vec (Vec (Cell M))))
         → AllZip (λ gs p. AreHearersOf xs gs p) pieces given
-        → AllZip (λ p w. ComesOfPiece f keeps k net p w) given (map (λ v. Heard (Ok v)) own)
+        → AllZip (λ p w. ComesOfPiece f takes k net p w) given (map (λ v. Heard (Ok v)) own)
         → GroupsHear f (traffic_of k net) (packets_in xs) (all_in pieces) (all_in own)
     all_heard [] [] [] z g = tt
     all_heard [] [] (v ∷ own) z g = absurd g
@@ -135,7 +135,7 @@ module _ {M K : Type 0} (f : M → Record) (keeps : K → List Row → Type 0) (
     -- groups whose pieces heard, and then were put together, heard
     pub hearers_gave : (pieces : List (Vec (Vec (Cell M)))) (given : List (Piece M K)) (all : List (Worked M K))
         (heard : List (Vec (Cell M)))
-        → AllZip (λ gs p. AreHearersOf xs gs p) pieces given → AllZip (λ p w. ComesOfPiece f keeps k net p w) given all
+        → AllZip (λ gs p. AreHearersOf xs gs p) pieces given → AllZip (λ p w. ComesOfPiece f takes k net p w) given all
         → HeardTogether all heard
         → GroupsHear f (traffic_of k net) (packets_in xs) (all_in pieces) heard
     hearers_gave pieces given all heard z g h = grind (arith, all_heard)

@@ -33,7 +33,7 @@ use Rattle.srm_cell.proofs.SentRows.{rows_below, rows_few}
 use Rattle.srm_cell.proofs.SoFar.{fault_after, ran_more}
 use Rattle.srm_interfaces.specs.declared.watched.WatchedJob.{WatchedJob}
 use Rattle.srm_interfaces.specs.declared.watched.WatchedDone.{WatchedDone}
-use Rattle.srm_interfaces.specs.Watches.{KeepEach, job_in}
+use Rattle.srm_interfaces.specs.Watches.{IsClosed, KeepClosed, KeepEach, job_in}
 use Rattle.srm_interfaces.proofs.WatchLemmas.{keep_one_more}
 use Rattle.srm_crew.specs.Watched.{AdvanceOne, IsOfMember}
 
@@ -116,13 +116,14 @@ module _ {M K : Type 0} (f : M → Record) (keeps : K → List Row → Type 0) (
   stops cells left old new sent c after e s run = subst (λ cs. TellsFault j.till (own_cells f cs) e) s.is
       (fault_after f j.till s.first s.rows cells c after left e s.runs run)
 
-  pub cells_fault : (cells left : List (Cell M)) (old new : List K) (sent : List Sent) (c after : Cell M) (e : CellFault)
+  pub cells_fault : (takes : List K → List (List Row) → List K → Type 0) (cells left : List (Cell M))
+      (old new : List K) (sent : List Sent) (c after : Cell M) (e : CellFault)
       → CellsSoFar cells (c ∷ left) old new sent → (e ≢ fault.NoMemory → TellsRun f j.till c (Err e) after)
-      → AdvanceOne f keeps k net j (Err e)
-  cells_fault cells left old new sent c after fault.NoMemory s run = tt
-  cells_fault cells left old new sent c after fault.Spent s run =
+      → AdvanceOne f takes k net j (Err e)
+  cells_fault takes cells left old new sent c after fault.NoMemory s run = tt
+  cells_fault takes cells left old new sent c after fault.Spent s run =
       stops cells left old new sent c after fault.Spent s (run (λ e. cc))
-  cells_fault cells left old new sent c after fault.CountFull s run =
+  cells_fault takes cells left old new sent c after fault.CountFull s run =
       stops cells left old new sent c after fault.CountFull s (run (λ e. cc))
 
   -- ---- what is so after all
@@ -155,10 +156,11 @@ module _ {M K : Type 0} (f : M → Record) (keeps : K → List Row → Type 0) (
       omega (arith, few, same, most)
 
   -- the rows are gone; that they were is enough
-  pub cells_all : (e : WatchedDone M K) → e.place ≡ j.place → CellsSoFar e.cells.items [] j.kept.items e.kept.items e.sent.items
+  pub cells_all : (closes : List K → List K → Type 0) (full : List K) (e : WatchedDone M K) → e.place ≡ j.place
+      → CellsSoFar e.cells.items [] j.kept.items full e.sent.items → IsClosed closes full e.kept.items
       → All (λ x. IsSent k net x) e.sent.items → e.crossings ≡ numbers_of (traffic_of k net) (packets_in e.sent.items)
-      → AdvanceOne f keeps k net j (Ok e)
-  cells_all e place s sent counted =
+      → AdvanceOne f (KeepClosed keeps closes) k net j (Ok e)
+  cells_all closes full e place s closed sent counted =
       let t = traffic_of k net in
       let none : Vec (List Row) = in_vec (λ (c : Cell M). []) e.cells in
       let were : Vec (List Row) = with_items none s.rows in
@@ -167,14 +169,18 @@ module _ {M K : Type 0} (f : M → Record) (keeps : K → List Row → Type 0) (
         record {
           place = refl;
           runs = subst (λ rs. RanEach f j.till j.cells.items rs e.cells.items) are
-              (ran_all e.cells.items j.kept.items e.kept.items e.sent.items s);
+              (ran_all e.cells.items j.kept.items full e.sent.items s);
           crossings_are = counted ∙ ap (numbers_of t) s.packets ∙ numbers_are t (joined s.rows)
               ∙ ap (λ rs. crossings t (joined rs)) are;
         },
         record {
           place = place;
           cells = refl;
-          kept = subst (λ rs. KeepEach keeps j.kept.items rs e.kept.items) are s.kept;
+          kept = record {
+            full = full;
+            kept = subst (λ rs. KeepEach keeps j.kept.items rs full) are s.kept;
+            closed = closed;
+          };
           packets = s.packets ∙ ap (λ rs. packets_of (joined rs)) are;
           sent = sent;
           crossings = refl;

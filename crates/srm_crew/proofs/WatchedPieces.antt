@@ -76,10 +76,10 @@ module _ {M K : Type 0} (f : M → Record) (k : PlainScenario) (net : Network) w
 
   -- ---- what is left of them
 
-  module _ (keeps : K → List Row → Type 0) where
+  module _ (takes : List K → List (List Row) → List K → Type 0) where
     watch_append : (xs : List (WatchedJob M K)) (ds : List (job.Done M)) (es : List (WatchedDone M K)) (ys : List (WatchedJob M K))
-        (dt : List (job.Done M)) (et : List (WatchedDone M K)) → WatchEach keeps k net xs ds es → WatchEach keeps k net ys dt et
-        → WatchEach keeps k net (xs ++ ys) (ds ++ dt) (es ++ et)
+        (dt : List (job.Done M)) (et : List (WatchedDone M K)) → WatchEach takes k net xs ds es → WatchEach takes k net ys dt et
+        → WatchEach takes k net (xs ++ ys) (ds ++ dt) (es ++ et)
     watch_append [] [] [] ys dt et h g = g
     watch_append [] [] (e ∷ es) ys dt et h g = absurd h
     watch_append [] (d ∷ ds) es ys dt et h g = absurd h
@@ -89,7 +89,7 @@ module _ {M K : Type 0} (f : M → Record) (k : PlainScenario) (net : Network) w
 
     -- what each piece gave
     abbrev pub GaveWatched : List (Vec (WatchedJob M K)) → List (Result (Vec (WatchedDone M K)) CellFault) → Type 0
-    GaveWatched pieces rs = AllZip (λ (js : Vec (WatchedJob M K)) r. AdvanceWatched f keeps k net js.items r) pieces rs
+    GaveWatched pieces rs = AllZip (λ (js : Vec (WatchedJob M K)) r. AdvanceWatched f takes k net js.items r) pieces rs
 
     in_both : (xs ys : List (WatchedJob M K)) → plain_jobs f (jobs_in xs) ++ plain_jobs f (jobs_in ys) ≡ plain_jobs f (jobs_in (xs ++ ys))
     in_both xs ys = sym (map-append (plain_job f) (jobs_in xs) (jobs_in ys)) ∙ ap (plain_jobs f) (sym (map-append job_in xs ys))
@@ -101,7 +101,7 @@ module _ {M K : Type 0} (f : M → Record) (k : PlainScenario) (net : Network) w
 
     all_left : (pieces : List (Vec (WatchedJob M K))) (es : List (Vec (WatchedDone M K))) → GaveWatched pieces (map Ok es)
         → (ds : List (job.Done M)) × AreDone f k net (jobs_in (all_in pieces)) ds
-        × WatchEach keeps k net (all_in pieces) ds (all_in es)
+        × WatchEach takes k net (all_in pieces) ds (all_in es)
     all_left [] [] z = ([], tt, tt)
     all_left [] (e ∷ es) z = absurd z
     all_left (j ∷ js) [] z = absurd z
@@ -113,7 +113,7 @@ module _ {M K : Type 0} (f : M → Record) (k : PlainScenario) (net : Network) w
         )
 
     any_refused : (o : StepOutcome Stepped) (e : CellFault)
-        → ((js : List (WatchedJob M K)) → AdvanceWatched f keeps k net js (Err e) → AnyEnds o (plain_jobs f (jobs_in js)))
+        → ((js : List (WatchedJob M K)) → AdvanceWatched f takes k net js (Err e) → AnyEnds o (plain_jobs f (jobs_in js)))
         → (pieces : List (Vec (WatchedJob M K))) (rs : List (Result (Vec (WatchedDone M K)) CellFault))
         → GaveWatched pieces rs → (i : ℕ) → i < length rs
         → get_or rs i (Err e) ≡ Err e → AnyEnds o (plain_jobs f (jobs_in (all_in pieces)))
@@ -122,7 +122,7 @@ module _ {M K : Type 0} (f : M → Record) (k : PlainScenario) (net : Network) w
     any_refused o e tells (j ∷ js) (r ∷ rs) z zero lt at =
         subst (AnyEnds o) (in_both j.items (all_in js))
         (any_first o (plain_jobs f (jobs_in j.items)) (plain_jobs f (jobs_in (all_in js)))
-        (tells j.items (subst (AdvanceWatched f keeps k net j.items) at z.0)))
+        (tells j.items (subst (AdvanceWatched f takes k net j.items) at z.0)))
     any_refused o e tells (j ∷ js) (r ∷ rs) z (suc i) lt at =
         subst (AnyEnds o) (in_both j.items (all_in js))
         (any_last o (plain_jobs f (jobs_in j.items)) (plain_jobs f (jobs_in (all_in js)))
@@ -131,17 +131,17 @@ module _ {M K : Type 0} (f : M → Record) (k : PlainScenario) (net : Network) w
     -- watched jobs whose pieces were advanced, and then put together, were advanced
     pub pieces_watched : (pieces : List (Vec (WatchedJob M K))) (rs : List (Result (Vec (WatchedDone M K)) CellFault))
         (r : Result (Vec (WatchedDone M K)) CellFault)
-        → GaveWatched pieces rs → PutTogether rs r → AdvanceWatched f keeps k net (all_in pieces) r
+        → GaveWatched pieces rs → PutTogether rs r → AdvanceWatched f takes k net (all_in pieces) r
     pieces_watched pieces rs (Ok v) z p =
         subst (λ l. (ds : List (job.Done M)) × AreDone f k net (jobs_in (all_in pieces)) ds
-        × WatchEach keeps k net (all_in pieces) ds l) (sym p.2) (all_left pieces p.0 (subst (GaveWatched pieces) p.1 z))
+        × WatchEach takes k net (all_in pieces) ds l) (sym p.2) (all_left pieces p.0 (subst (GaveWatched pieces) p.1 z))
     pieces_watched pieces rs (Err cell.NoMemory) z p = tt
     pieces_watched pieces rs (Err cell.Spent) z p = any_refused Spent cell.Spent (λ js a. a) pieces rs z p.0 p.1 p.2
     pieces_watched pieces rs (Err cell.CountFull) z p = any_refused Full cell.CountFull (λ js a. a) pieces rs z p.0 p.1 p.2
 
     -- ---- their crossings
 
-    left_sum : (w : ℕ) (js : List (WatchedJob M K)) (ds : List (job.Done M)) (es : List (WatchedDone M K)) → WatchEach keeps k net js ds es
+    left_sum : (w : ℕ) (js : List (WatchedJob M K)) (ds : List (job.Done M)) (es : List (WatchedDone M K)) → WatchEach takes k net js ds es
         → sum_of (λ (e : WatchedDone M K). e.crossings) w es ≡ sum_at w ds
     left_sum w [] [] [] h = refl
     left_sum w [] [] (e ∷ es) h = absurd h
@@ -152,7 +152,7 @@ module _ {M K : Type 0} (f : M → Record) (k : PlainScenario) (net : Network) w
         let one : counted_in e.crossings w ≡ counted_in d.crossings w = ap (λ ns. counted_in ns w) h.0.crossings in
         let more = left_sum w js ds es h.1 in omega (arith, one, more)
 
-    left_long : (n : ℕ) (js : List (WatchedJob M K)) (ds : List (job.Done M)) (es : List (WatchedDone M K)) → WatchEach keeps k net js ds es
+    left_long : (n : ℕ) (js : List (WatchedJob M K)) (ds : List (job.Done M)) (es : List (WatchedDone M K)) → WatchEach takes k net js ds es
         → All (λ (d : job.Done M). length d.crossings ≡ 5 * n) ds → All (λ (e : WatchedDone M K). length e.crossings ≡ 5 * n) es
     left_long n [] [] [] h a = All-nil (λ (e : WatchedDone M K). length e.crossings ≡ 5 * n)
     left_long n [] [] (e ∷ es) h a = absurd h
@@ -166,7 +166,7 @@ module _ {M K : Type 0} (f : M → Record) (k : PlainScenario) (net : Network) w
 
     -- all that is left has five numbers for each link
     pub settled_long : (js : List (WatchedJob M K)) (links : ℕ) (r : Result (Vec (WatchedDone M K)) CellFault)
-        → length net.links ≡ links → AdvanceWatched f keeps k net js r
+        → length net.links ≡ links → AdvanceWatched f takes k net js r
         → IfOk r (λ all. All (λ (e : WatchedDone M K). length e.crossings ≡ 5 * links) all.items)
     settled_long js links (Err e) is a = tt
     settled_long js links (Ok v) is a = left_long links js a.0 v.items a.2 (all_long f k net links (jobs_in js) a.0 is a.1)
@@ -176,8 +176,8 @@ module _ {M K : Type 0} (f : M → Record) (k : PlainScenario) (net : Network) w
     -- adding the crossings of all that is left makes of it what a crew tells
     pub maps_settled : (seat : SeatView) (js : List (WatchedJob M K)) (adv : Result (Vec (WatchedDone M K)) CellFault)
         (r : Result (Vec (WatchedDone M K) × SeatView) CrewFault)
-        → AdvanceWatched f keeps k net js adv → Settles (λ (e : WatchedDone M K). e.crossings) seat adv r
-        → MapsWatched f keeps k net seat js r
+        → AdvanceWatched f takes k net js adv → Settles (λ (e : WatchedDone M K). e.crossings) seat adv r
+        → MapsWatched f takes k net seat js r
     maps_settled seat js (Ok all) (Ok r) a t =
         let same = λ (w : ℕ). left_sum w js a.0 all.items a.2 ∙ sum_is f k net (jobs_in js) a.0 a.1 w in (
           a.0,
@@ -188,7 +188,7 @@ module _ {M K : Type 0} (f : M → Record) (k : PlainScenario) (net : Network) w
             shares = λ w. t.1.shares w ∙ ap (λ n. slice_index seat.shares w + n) (same w);
             seen = t.1.seen;
           },
-          subst (λ (u : Vec (WatchedDone M K)). WatchEach keeps k net js a.0 u.items) (sym t.0) a.2,
+          subst (λ (u : Vec (WatchedDone M K)). WatchEach takes k net js a.0 u.items) (sym t.0) a.2,
         )
     maps_settled seat js (Ok all) (Err crew.ShareFull) a t = (
       rows_of a.0,
@@ -208,8 +208,8 @@ module _ {M K : Type 0} (f : M → Record) (k : PlainScenario) (net : Network) w
 
 -- what is told of one scenario and network is told of the same under other names
 module _ {M K : Type 0} (f : M → Record) where
-  pub watched_as : (keeps : K → List Row → Type 0) (own given : PlainScenario) (own_net net : Network) (js : List (WatchedJob M K))
-      (r : Result (Vec (WatchedDone M K)) CellFault) → own ≡ given → own_net ≡ net
-      → AdvanceWatched f keeps own own_net js r → AdvanceWatched f keeps given net js r
-  watched_as keeps own given own_net net js r p q a =
-      subst (λ k. AdvanceWatched f keeps k net js r) p (subst (λ n. AdvanceWatched f keeps own n js r) q a)
+  pub watched_as : (takes : List K → List (List Row) → List K → Type 0) (own given : PlainScenario) (own_net net : Network)
+      (js : List (WatchedJob M K)) (r : Result (Vec (WatchedDone M K)) CellFault) → own ≡ given → own_net ≡ net
+      → AdvanceWatched f takes own own_net js r → AdvanceWatched f takes given net js r
+  watched_as takes own given own_net net js r p q a =
+      subst (λ k. AdvanceWatched f takes k net js r) p (subst (λ n. AdvanceWatched f takes own n js r) q a)

@@ -16,10 +16,10 @@ use Rattle.srm_interfaces.specs.Watches.{WatchEach, Watches, job_in, jobs_in}
 use Rattle.srm_crew.specs.Watched.{AdvanceOne}
 use Rattle.srm_crew.proofs.JobsSoFar.{refused_left}
 
-module _ {M K : Type 0} (f : M → Record) (keeps : K → List Row → Type 0) (k : PlainScenario) (net : Network) where
+module _ {M K : Type 0} (f : M → Record) (takes : List K → List (List Row) → List K → Type 0) (k : PlainScenario) (net : Network) where
   watch_more : (js : List (WatchedJob M K)) (ds : List (job.Done M)) (es : List (WatchedDone M K)) (j : WatchedJob M K) (d : job.Done M)
-      (e : WatchedDone M K) → WatchEach keeps k net js ds es → Watches keeps k net j.kept.items d e
-      → WatchEach keeps k net (js ++ j ∷ []) (ds ++ d ∷ []) (es ++ e ∷ [])
+      (e : WatchedDone M K) → WatchEach takes k net js ds es → Watches takes k net j.kept.items d e
+      → WatchEach takes k net (js ++ j ∷ []) (ds ++ d ∷ []) (es ++ e ∷ [])
   watch_more [] [] [] j d e h g = (g, tt)
   watch_more [] [] (y ∷ es) j d e h g = absurd h
   watch_more [] (x ∷ ds) es j d e h g = absurd h
@@ -40,13 +40,13 @@ module _ {M K : Type 0} (f : M → Record) (keeps : K → List Row → Type 0) (
     pub is : front ++ left ≡ js
     pub done : List (job.Done M)
     pub are : AreDone f k net (jobs_in front) done
-    pub leaves : WatchEach keeps k net front done all
+    pub leaves : WatchEach takes k net front done all
 
   pub watched_none : (js : List (WatchedJob M K)) → WatchedSoFar js [] js
   watched_none js = record { front = []; is = refl; done = []; are = tt; leaves = tt }
 
   pub watched_more : (js : List (WatchedJob M K)) (all : List (WatchedDone M K)) (j : WatchedJob M K) (left : List (WatchedJob M K))
-      (e : WatchedDone M K) → WatchedSoFar js all (j ∷ left) → AdvanceOne f keeps k net j (Ok e)
+      (e : WatchedDone M K) → WatchedSoFar js all (j ∷ left) → AdvanceOne f takes k net j (Ok e)
       → WatchedSoFar js (all ++ e ∷ []) left
   watched_more js all j left e s one = record {
     front = s.front ++ j ∷ [];
@@ -57,16 +57,16 @@ module _ {M K : Type 0} (f : M → Record) (keeps : K → List Row → Type 0) (
   }
 
   pub watched_all : (js : List (WatchedJob M K)) (all : List (WatchedDone M K)) (left : List (WatchedJob M K)) → WatchedSoFar js all left
-      → left ≡ [] → (ds : List (job.Done M)) × AreDone f k net (jobs_in js) ds × WatchEach keeps k net js ds all
+      → left ≡ [] → (ds : List (job.Done M)) × AreDone f k net (jobs_in js) ds × WatchEach takes k net js ds all
   watched_all js all left s none =
       let whole : s.front ≡ js = sym (append-nil s.front) ∙ ap (λ l. s.front ++ l) (sym none) ∙ s.is in (
         s.done,
         subst (λ l. AreDone f k net (jobs_in l) s.done) whole s.are,
-        subst (λ l. WatchEach keeps k net l s.done all) whole s.leaves,
+        subst (λ l. WatchEach takes k net l s.done all) whole s.leaves,
       )
 
   pub watched_fault : (js : List (WatchedJob M K)) (all : List (WatchedDone M K)) (j : WatchedJob M K) (left : List (WatchedJob M K))
-      (e : CellFault) → WatchedSoFar js all (j ∷ left) → AdvanceOne f keeps k net j (Err e) → AdvanceEach f k net (jobs_in js) (Err e)
+      (e : CellFault) → WatchedSoFar js all (j ∷ left) → AdvanceOne f takes k net j (Err e) → AdvanceEach f k net (jobs_in js) (Err e)
   watched_fault js all j left fault.NoMemory s one = tt
   watched_fault js all j left fault.Spent s one = refused_left f k net (jobs_in s.front) (jobs_in left) (jobs_in js) (job_in j) fault.Spent
       (sym (map-append job_in s.front (j ∷ left)) ∙ ap jobs_in s.is) one

@@ -43,12 +43,12 @@ module _ {M K : Type 0} where
   AreHearersOf xs gs (Hearers sent own) = ((arc_value sent).items ≡ xs) × (own ≡ gs)
 
   -- this comes of the piece: of jobs what may come of them, and of hearers what comes of hearers
-  abbrev pub ComesOfPiece : (M → Record) → (K → List Row → Type 0) → PlainScenario → Network → Piece M K → Worked M K
-      → Type 0
-  ComesOfPiece f keeps k net (Jobs js) (Advanced r) = AdvanceWatched f keeps k net js.items r
-  ComesOfPiece f keeps k net (Hearers sent gs) (Heard r) =
+  abbrev pub ComesOfPiece : (M → Record) → (List K → List (List Row) → List K → Type 0) → PlainScenario → Network
+      → Piece M K → Worked M K → Type 0
+  ComesOfPiece f takes k net (Jobs js) (Advanced r) = AdvanceWatched f takes k net js.items r
+  ComesOfPiece f takes k net (Hearers sent gs) (Heard r) =
       TellsHeard f (traffic_of k net) (packets_in (arc_value sent).items) gs.items r
-  ComesOfPiece f keeps k net _ _ = ⊥
+  ComesOfPiece f takes k net _ _ = ⊥
 
   -- it is what came of jobs
   abbrev pub IsAdvanced : Worked M K → Type 0

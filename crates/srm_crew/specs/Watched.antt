@@ -26,12 +26,12 @@ IsOfMember f members c = IsSoundCell f c × (c.number < members)
 module _ {M K : Type 0} where
   -- what advancing one watched job tells: what is left of what is done of it; or why not, as without a watch, but
   -- that memory may run out for the watch too
-  abbrev pub AdvanceOne : (M → Record) → (K → List Row → Type 0) → PlainScenario → Network → WatchedJob M K
-      → Result (WatchedDone M K) CellFault → Type 0
-  AdvanceOne f keeps k net j (Ok e) =
-      (d : job.Done M) × Advances f k net (job_in j) (Ok d) × Watches keeps k net j.kept.items d e
-  AdvanceOne f keeps k net j (Err fault.NoMemory) = Unit {0}
-  AdvanceOne f keeps k net j (Err e) = Advances f k net (job_in j) (Err e)
+  abbrev pub AdvanceOne : (M → Record) → (List K → List (List Row) → List K → Type 0) → PlainScenario → Network
+      → WatchedJob M K → Result (WatchedDone M K) CellFault → Type 0
+  AdvanceOne f takes k net j (Ok e) =
+      (d : job.Done M) × Advances f k net (job_in j) (Ok d) × Watches takes k net j.kept.items d e
+  AdvanceOne f takes k net j (Err fault.NoMemory) = Unit {0}
+  AdvanceOne f takes k net j (Err e) = Advances f k net (job_in j) (Err e)
 
   -- the jobs may be advanced, and something is kept of each of their cells
   abbrev pub MayWatch : (M → Record) → Network → List (WatchedJob M K) → Type 0

@@ -4,7 +4,7 @@ ghost use Rattle.std.specs.List.{AllZip};
 ghost use Rattle.srm_cell.specs.Setting.{traffic_of};
 ghost use Rattle.srm_cell.specs.Hearing.{IsSent, packets_in};
 ghost use Rattle.srm_interfaces.specs.Hearers.{GroupsMayHear, TellsHeard};
-ghost use Rattle.srm_interfaces.specs.Watches.{AdvanceWatched, MayMap, MapsWatched};
+ghost use Rattle.srm_interfaces.specs.Watches.{AdvanceWatched, KeepClosed, MayMap, MapsWatched};
 ghost use Rattle.srm_crew.specs.Watched.{IsWatchOn, MayWatch};
 
 use crate::add::settle;
@@ -86,8 +86,8 @@ fn advance_in_team<'a, R: Wait, M: Participant, K: Drop, W: Watch<K> + Copy, J: 
     jobs: Vec<WatchedJob<M, K>>,
 ) -> Result<Vec<WatchedDone<M, K>>, CellFault>
     requires { MayWatch M.plain work.session.net.now jobs.items }
-    ensures advanced { AdvanceWatched M.plain (W.keeps work.entry.watch) work.entry.session.scenario.now
-        work.entry.session.net.now jobs.items result }
+    ensures advanced { AdvanceWatched M.plain (KeepClosed (W.keeps work.entry.watch) (W.closes work.entry.watch))
+        work.entry.session.scenario.now work.entry.session.net.now jobs.items result }
     ensures room { team.new.room ≡ team.old.room }
 {
     let alloc = work.alloc;
@@ -206,8 +206,8 @@ impl<'a, R: Wait, M: Participant, K: Drop, W: Watch<K> + Copy, J: Naming> WatchC
         requires may { MayMap M.plain session.net.now ledger.now seat jobs.items }
         ensures ready { Unit {0} }
         ensures serves { IsWatchOn self.new.work session.entry.scenario.now session.entry.net.now }
-        ensures done { MapsWatched M.plain (W.keeps watch) session.entry.scenario.now session.entry.net.now seat
-            jobs.items result }
+        ensures done { MapsWatched M.plain (KeepClosed (W.keeps watch) (W.closes watch)) session.entry.scenario.now
+            session.entry.net.now seat jobs.items result }
         ensures handed { IfOk result (λ _. (self.new.work ≡ self.old.work) × (self.new.team.room ≡ self.old.team.room)
             × (self.new.few ≡ self.old.few)) }
         ensures same { (self.new.work ≡ self.old.work) × (self.new.team.room ≡ self.old.team.room)

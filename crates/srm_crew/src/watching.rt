@@ -5,7 +5,7 @@ ghost use Rattle.srm_member.specs.declared.row.Row.{Row as OneRow};
 ghost use Rattle.srm_cell.specs.Crossings.{packets_of};
 ghost use Rattle.srm_cell.specs.Hearing.{IsSent, packets_in};
 ghost use Rattle.srm_cell.specs.Jobs.{MayAdvance, Runs};
-ghost use Rattle.srm_interfaces.specs.Watches.{job_in, AdvanceWatched, HaveKept};
+ghost use Rattle.srm_interfaces.specs.Watches.{job_in, AdvanceWatched, HaveKept, KeepClosed};
 ghost use Rattle.srm_crew.specs.Watched.{AdvanceOne, IsOfMember, MayWatch};
 
 use crate::piece::Piece;
@@ -42,8 +42,8 @@ pub(crate) fn advance_watched<M: Participant, K: Drop, W: Watch<K>>(
     jobs: Vec<WatchedJob<M, K>>,
 ) -> Result<Vec<WatchedDone<M, K>>, CellFault>
     requires { MayWatch M.plain work.now.session.net.now jobs.items }
-    ensures { AdvanceWatched M.plain (W.keeps work.now.watch) work.now.session.scenario.now work.now.session.net.now jobs.items
-        result }
+    ensures { AdvanceWatched M.plain (KeepClosed (W.keeps work.now.watch) (W.closes work.now.watch))
+        work.now.session.scenario.now work.now.session.net.now jobs.items result }
 {
     let mut all = Vec::new(work.alloc);
     for job in jobs {
@@ -58,14 +58,16 @@ pub(crate) fn advance_watched<M: Participant, K: Drop, W: Watch<K>>(
     Ok(all)
 }
 
-// Advances a job cell by cell, and keeps of the rows what the watch keeps. Only the rows of one cell are there at a time.
+// Advances a job cell by cell, and keeps of the rows what the watch keeps. Only the rows of one cell are there at a time. What is
+// kept is closed at the end.
 fn advance_one<M: Participant, K: Drop, W: Watch<K>>(
     work: &Watching<W>,
     job: WatchedJob<M, K>,
 ) -> Result<WatchedDone<M, K>, CellFault>
     requires job { MayAdvance M.plain (length work.now.session.net.now.hosts) (job_in job) }
     requires kept { HaveKept job }
-    ensures { AdvanceOne M.plain (W.keeps work.now.watch) work.now.session.scenario.now work.now.session.net.now job result }
+    ensures { AdvanceOne M.plain (KeepClosed (W.keeps work.now.watch) (W.closes work.now.watch))
+        work.now.session.scenario.now work.now.session.net.now job result }
 {
     let WatchedJob {
         place,
@@ -83,6 +85,9 @@ fn advance_one<M: Participant, K: Drop, W: Watch<K>>(
             Err(fault) => return Err(fault),
         }
         index += 1;
+    }
+    if work.watch.close(kept.as_mut_slice()).is_err() {
+        return Err(CellFault::NoMemory);
     }
     let Ok(crossings) = Crossings::of(work.alloc, work.session, sent.as_slice()) else {
         return Err(CellFault::NoMemory);
@@ -133,11 +138,13 @@ fn run_watched<M: Participant, K, W: Watch<K>>(
 impl<'a, M: Participant, K: Drop, W: Watch<K> + Copy> Work<Piece<M, K>, Worked<M, K>>
     for Watching<'a, W> {
     ghost use Rattle.std.specs.Prelude.{All, length};
+    ghost use Rattle.srm_interfaces.specs.Watches.{KeepClosed};
     ghost use Rattle.srm_crew.specs.Pieces.{MayWork, ComesOfPiece};
 
     ghost ready = { λ w p. MayWork M.plain w.session.scenario.now w.session.net.now p };
 
-    ghost gives = { λ w p r. ComesOfPiece M.plain (W.keeps w.watch) w.session.scenario.now w.session.net.now p r };
+    ghost gives = { λ w p r. ComesOfPiece M.plain (KeepClosed (W.keeps w.watch) (W.closes w.watch)) w.session.scenario.now
+        w.session.net.now p r };
 
     fn work(&self, piece: Piece<M, K>) -> Worked<M, K> {
         match piece {

@@ -1,5 +1,5 @@
 -- What is kept of a window's rows may be handed on, and what it tells.
-use Rattle.std.proofs.Common.{◌≡◌, ◌∙◌, ℕ, suc, ◌<◌, ◌≤◌, ◌^◌, List, [], ◌∷◌, ◌++◌, All, length, sym, subst, arith}
+use Rattle.std.proofs.Common.{◌≡◌, ◌∙◌, ℕ, ◌<◌, ◌≤◌, ◌^◌, List, [], ◌∷◌, ◌++◌, All, length, sym, subst, arith}
 use Rattle.std.proofs.lemmas.List.Elements.{All-nil, All-cons}
 use Rattle.srm_net.specs.declared.key.Key.{Key}
 use Rattle.srm_net.specs.Orders.{Ascends}
@@ -9,10 +9,12 @@ use Rattle.srm_member.specs.Record.{Record}
 use Rattle.srm_member.proofs.AllIn.{AllIn, AllIn-second}
 use Rattle.srm_cell.specs.Setting.{Setting, IsFit}
 use Rattle.srm_cell.specs.Cells.{PlainCell}
+use Rattle.srm_cell.specs.Crossings.{joined}
 use Rattle.srm_cell.proofs.CellSteps.{before_some}
 use Rattle.srm_interfaces.specs.declared.sink.SinkFault.{SinkFault}
 use Rattle.srm_interfaces.specs.Watches.{KeepMembers}
-use Rattle.srm_interfaces.specs.InTurn.{HasTurn, KeepInTurn}
+use Rattle.srm_interfaces.specs.InTurn.{HasTurn, KeepInGroups, WereClosed}
+use Rattle.srm_interfaces.proofs.GroupedLemmas.{closed_long}
 use Rattle.srm_model.specs.World.{World, IsReached, least_event, opening, row_cmp}
 use Rattle.srm_model.proofs.OneWindow.{part_rows}
 use Rattle.srm_model.proofs.RunLemmas.{Seq, rest, next}
@@ -22,7 +24,7 @@ use Rattle.srm_engine.specs.declared.halt.Halt.TheVariants as halt
 use Rattle.srm_engine.specs.declared.fault.RunFault.{RunFault}
 use Rattle.srm_engine.specs.declared.watch_engine.WatchEngine.{WatchEngine}
 use Rattle.srm_engine.specs.Streams.{TellsHalt}
-use Rattle.srm_engine.specs.WatchEngines.{IsWatching, KeepsRows, kept_by}
+use Rattle.srm_engine.specs.WatchEngines.{IsWatching}
 use Rattle.srm_engine.specs.WindowEngines.{ComesTo, setting_by}
 use Rattle.srm_engine.proofs.Stepping.{opening_reached, opening_trace}
 use Rattle.srm_engine.proofs.CellLists.{all_long}
@@ -64,34 +66,34 @@ module _ (s : Setting) (fit : IsFit s) where
 
 -- ---- what is kept of a window
 
--- what one watch keeps of each member's rows, those keep who keep what it keeps
-pub keep_as : {K : Type 0} (P Q : K → List Row → Type 0) → ((k : K) (rows : List Row) → P k rows → Q k rows)
-    → (m : ℕ) (ks : List K) (rows : List Row) → KeepMembers P m ks rows → KeepMembers Q m ks rows
-keep_as P Q f m [] rows h = tt
-keep_as P Q f m (k ∷ ks) rows h = (f k _ h.0, keep_as P Q f (suc m) ks rows h.1)
-
 ascends_second : (xs ys : List Row) → Ascends row_cmp (xs ++ ys) → Ascends row_cmp ys
 ascends_second [] ys h = h
 ascends_second (x ∷ xs) ys h = ascends_second xs ys h.1
 
--- what is kept of the rows of a window is so in turn
-pub kept_in_turn : {M K : Type 0} (f : M → Record) (keeps : K → List Row → Type 0) (e : WatchEngine M K) (is : IsWatching f e)
-    (seed : ℕ) (begins : List World) (w : World) → ComesTo f seed e.engine begins w → (front rows : List Row) → w.trace ≡ front ++ rows
-    → KeepsRows keeps e rows → KeepInTurn keeps (kept_by e) rows
-kept_in_turn f keeps e is seed begins w comes front rows grown kept =
+-- what was kept of the rows of a window, and closed, was so in turn
+pub kept_in_turn : {M K : Type 0} (f : M → Record) (keeps : K → List Row → Type 0) (closes : List K → List K → Type 0)
+    (e : WatchEngine M K) (is : IsWatching f e) (seed : ℕ) (begins : List World) (w : World) → ComesTo f seed e.engine begins w
+    → (front rows : List Row) → w.trace ≡ front ++ rows → WereClosed closes (λ kept. KeepMembers keeps 0 kept rows) e.kept.items
+    → KeepInGroups keeps closes e.kept.items rows
+kept_in_turn f keeps closes e is seed begins w comes front rows grown kept =
     let s = setting_by e.engine seed in
     let p = e.engine.session.scenario.now in
-    let all : length (kept_by e) ≡ s.traffic.members =
-    all_long e.kept.items e.engine.groups.groups.items is.each ∙ members_are f e.engine is.under_way seed begins w comes in
+    let all : length (joined kept.full) ≡ s.traffic.members =
+    closed_long closes kept.full e.kept.items kept.closed ∙ all_long e.kept.items e.engine.groups.groups.items is.each
+    ∙ members_are f e.engine is.under_way seed begins w comes in
     let most = few_members p is.under_way.accepted in
     let few = is.under_way.accepted.few_ticks in record {
-      few = omega (arith, all, most);
-      turns = subst (λ n. All (HasTurn n) rows) (sym all)
-          (turns_after s (fit f e.engine is.under_way seed begins w comes) (omega (arith, few)) w
-          (reached f e.engine is.under_way seed begins w comes) front rows grown);
-      rise = ascends_second front rows (subst (Ascends row_cmp) grown
-          (keys_rise s w (fit f e.engine is.under_way seed begins w comes) (reached f e.engine is.under_way seed begins w comes)));
-      are = kept;
+      full = kept.full;
+      closed = kept.closed;
+      so = record {
+        few = omega (arith, all, most);
+        turns = subst (λ n. All (HasTurn n) rows) (sym all)
+            (turns_after s (fit f e.engine is.under_way seed begins w comes) (omega (arith, few)) w
+            (reached f e.engine is.under_way seed begins w comes) front rows grown);
+        rise = ascends_second front rows (subst (Ascends row_cmp) grown
+            (keys_rise s w (fit f e.engine is.under_way seed begins w comes) (reached f e.engine is.under_way seed begins w comes)));
+        are = kept.so;
+      };
     }
 
 -- where a sink stops as it is handed what is kept of a window, it took no more than a front of the trace

@@ -29,9 +29,9 @@ module _ {M K : Type 0} (f : M → Record) (k : PlainScenario) (net : Network) w
     may_leave js ds (All-tail (λ j. MayAdvance f (length k.members) j) (job_in j) (jobs_in js) a) (All-tail HaveKept j js h) z.1,
   )
 
-module _ {M K : Type 0} (keeps : K → List Row → Type 0) (k : PlainScenario) (net : Network) where
+module _ {M K : Type 0} (takes : List K → List (List Row) → List K → Type 0) (k : PlainScenario) (net : Network) where
   pub left_of_jobs : (js : List (WatchedJob M K)) (ds : List (job.Done M)) (es : List (WatchedDone M K))
-      → LeftEach keeps k net (kept_in js) ds es → WatchEach keeps k net js ds es
+      → LeftEach takes k net (kept_in js) ds es → WatchEach takes k net js ds es
   left_of_jobs [] [] [] h = tt
   left_of_jobs [] [] (e ∷ es) h = absurd h
   left_of_jobs [] (d ∷ ds) es h = absurd h
@@ -43,7 +43,7 @@ module _ {M K : Type 0} (keeps : K → List Row → Type 0) (k : PlainScenario) 
   pub record LeftSoFar (olds : List (List K)) (ds : List (job.Done M)) (es : List (WatchedDone M K)) (others : List (List K))
       (rest : List (job.Done M)) : Type 0 where
     pub may : MayLeave k others rest
-    pub left : (more : List (WatchedDone M K)) → LeftEach keeps k net others rest more → LeftEach keeps k net olds ds (es ++ more)
+    pub left : (more : List (WatchedDone M K)) → LeftEach takes k net others rest more → LeftEach takes k net olds ds (es ++ more)
 
   pub left_none : (olds : List (List K)) (ds : List (job.Done M)) → MayLeave k olds ds → LeftSoFar olds ds [] olds ds
   left_none olds ds h = record { may = h; left = λ more l. l }
@@ -55,17 +55,17 @@ module _ {M K : Type 0} (keeps : K → List Row → Type 0) (k : PlainScenario) 
 
   pub left_more : (olds : List (List K)) (ds : List (job.Done M)) (es : List (WatchedDone M K)) (os : List (List K))
       (rs : List (job.Done M)) (old : List K) (others : List (List K)) (d : job.Done M) (rest : List (job.Done M)) (e : WatchedDone M K)
-      → os ≡ old ∷ others → rs ≡ d ∷ rest → LeftSoFar olds ds es os rs → Watches keeps k net old d e
+      → os ≡ old ∷ others → rs ≡ d ∷ rest → LeftSoFar olds ds es os rs → Watches takes k net old d e
       → LeftSoFar olds ds (es ++ e ∷ []) others rest
   left_more olds ds es os rs old others d rest e is are so w =
       let s = subst (λ l. LeftSoFar olds ds es l (d ∷ rest)) is (subst (λ l. LeftSoFar olds ds es os l) are so) in
       record {
         may = s.may.2;
-        left = λ more l. subst (λ xs. LeftEach keeps k net olds ds xs) (sym (append_assoc es (e ∷ []) more)) (s.left (e ∷ more) (w, l));
+        left = λ more l. subst (λ xs. LeftEach takes k net olds ds xs) (sym (append_assoc es (e ∷ []) more)) (s.left (e ∷ more) (w, l));
       }
 
   over : (others : List (List K)) (rest : List (job.Done M)) → MayLeave k others rest → (others ≡ []) ⊎ (rest ≡ [])
-      → LeftEach keeps k net others rest []
+      → LeftEach takes k net others rest []
   over [] [] h e = tt
   over [] (d ∷ rest) h e = absurd h
   over (old ∷ others) [] h e = absurd h
@@ -73,6 +73,6 @@ module _ {M K : Type 0} (keeps : K → List Row → Type 0) (k : PlainScenario) 
   over (old ∷ others) (d ∷ rest) h (inr e) = cc
 
   pub left_all : (olds : List (List K)) (ds : List (job.Done M)) (es : List (WatchedDone M K)) (others : List (List K))
-      (rest : List (job.Done M)) → LeftSoFar olds ds es others rest → (others ≡ []) ⊎ (rest ≡ []) → LeftEach keeps k net olds ds es
+      (rest : List (job.Done M)) → LeftSoFar olds ds es others rest → (others ≡ []) ⊎ (rest ≡ []) → LeftEach takes k net olds ds es
   left_all olds ds es others rest s none =
-      subst (λ xs. LeftEach keeps k net olds ds xs) (append-nil es) (s.left [] (over others rest s.may none))
+      subst (λ xs. LeftEach takes k net olds ds xs) (append-nil es) (s.left [] (over others rest s.may none))

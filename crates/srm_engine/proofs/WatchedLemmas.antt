@@ -2,7 +2,7 @@
 use Rattle.std.proofs.Common.{◌≡◌, ◌∙◌, ◌++◌, ℕ, suc, List, [], ◌∷◌, All, length, map, refl, sym, ap, append_assoc}
 use Rattle.std.proofs.Common.{length-append, add-one, ◌+◌, ◌<◌, get_or, set, take, subst}
 use Rattle.std.proofs.lemmas.List.{map-append, map-set, get_or-map, set-get_or, take_more_set}
-use Rattle.std.proofs.lemmas.List.Elements.{All-nil, All-cons, All-head, All-tail, All-append, filter_map-append}
+use Rattle.std.proofs.lemmas.List.Elements.{All-nil, All-cons, All-append, filter_map-append}
 use Rattle.std.specs.Global.{Vec}
 use Rattle.srm_net.specs.Network.{Network}
 use Rattle.srm_scenario.specs.Plain.{PlainScenario}
@@ -16,7 +16,8 @@ use Rattle.srm_cell.specs.Hearing.{IsSent, packets_in}
 use Rattle.srm_cell.proofs.RowPackets.{joined-append}
 use Rattle.srm_interfaces.specs.declared.watched.WatchedJob.{WatchedJob}
 use Rattle.srm_interfaces.specs.declared.watched.WatchedDone.{WatchedDone}
-use Rattle.srm_interfaces.specs.Watches.{HaveKept, KeepEach, WatchEach, jobs_in, KeepMembers}
+use Rattle.srm_interfaces.specs.Watches.{HaveKept, KeepClosed, KeepEach, WatchEach, jobs_in}
+use Rattle.srm_interfaces.specs.InTurn.{WereClosed}
 use Rattle.srm_interfaces.proofs.GroupedLemmas.{all_in_push}
 use Rattle.srm_engine.specs.Groups.{all_in, sizes, jobs_with, groups_of, lists_of}
 use Rattle.srm_engine.specs.WatchedGroups.{watched_with, groups_in, kept_of, sent_of}
@@ -102,10 +103,6 @@ group_done {K} P gs i v lt long before own = (
 )
 
 module _ {K : Type 0} (keeps : K → List Row → Type 0) where
-  pub none_kept : (m : ℕ) (ks : List K) → All (λ k. keeps k []) ks → KeepMembers keeps m ks []
-  none_kept m [] h = tt
-  none_kept m (k ∷ ks) h = (All-head (λ k. keeps k []) k ks h, none_kept (suc m) ks (All-tail (λ k. keeps k []) k ks h))
-
   keep_append : (old more : List K) (ls ms : List (List Row)) (new later : List K) → KeepEach keeps old ls new
       → KeepEach keeps more ms later → KeepEach keeps (old ++ more) (ls ++ ms) (new ++ later)
   keep_append [] more [] ms [] later h g = g
@@ -125,9 +122,9 @@ module _ {K : Type 0} (keeps : K → List Row → Type 0) where
 
 -- ---- what is done
 
-module _ {M K : Type 0} (keeps : K → List Row → Type 0) (k : PlainScenario) (net : Network) where
+module _ {M K : Type 0} (takes : List K → List (List Row) → List K → Type 0) (k : PlainScenario) (net : Network) where
   pub groups_left : (js : List (WatchedJob M K)) (ds : List (job.Done M)) (es : List (WatchedDone M K))
-      → WatchEach keeps k net js ds es → groups_in es ≡ groups_of ds
+      → WatchEach takes k net js ds es → groups_in es ≡ groups_of ds
   groups_left [] [] [] h = refl
   groups_left [] [] (e ∷ es) h = absurd h
   groups_left [] (d ∷ ds) es h = absurd h
@@ -136,32 +133,8 @@ module _ {M K : Type 0} (keeps : K → List Row → Type 0) (k : PlainScenario) 
   groups_left (j ∷ js) (d ∷ ds) (e ∷ es) h = ap (λ c. c ∷ groups_in es) h.0.cells
       ∙ ap (λ l. d.cells ∷ l) (groups_left js ds es h.1)
 
-  -- of all cells this is kept, and the rows of each
-  pub all_kept : (js : List (WatchedJob M K)) (ds : List (job.Done M)) (es : List (WatchedDone M K))
-      → WatchEach keeps k net js ds es
-      → KeepEach keeps (all_in (map (λ (j : WatchedJob M K). j.kept) js)) (lists_of ds) (all_in (kept_of es))
-  all_kept [] [] [] h = tt
-  all_kept [] [] (e ∷ es) h = absurd h
-  all_kept [] (d ∷ ds) es h = absurd h
-  all_kept (j ∷ js) [] es h = absurd h
-  all_kept (j ∷ js) (d ∷ ds) [] h = absurd h
-  all_kept (j ∷ js) (d ∷ ds) (e ∷ es) h =
-      keep_append keeps j.kept.items (all_in (map (λ (j : WatchedJob M K). j.kept) js)) d.rows.items (lists_of ds) e.kept.items
-      (all_in (kept_of es)) h.0.kept (all_kept js ds es h.1)
-
-  pub as_many_left : (js : List (WatchedJob M K)) (ds : List (job.Done M)) (es : List (WatchedDone M K))
-      → WatchEach keeps k net js ds es → sizes (kept_of es) ≡ sizes (map (λ (j : WatchedJob M K). j.kept) js)
-  as_many_left [] [] [] h = refl
-  as_many_left [] [] (e ∷ es) h = absurd h
-  as_many_left [] (d ∷ ds) es h = absurd h
-  as_many_left (j ∷ js) [] es h = absurd h
-  as_many_left (j ∷ js) (d ∷ ds) [] h = absurd h
-  as_many_left (j ∷ js) (d ∷ ds) (e ∷ es) h =
-      ap (λ n. n ∷ sizes (kept_of es)) (keep_long keeps j.kept.items d.rows.items e.kept.items h.0.kept)
-      ∙ ap (λ l. length j.kept.items ∷ l) (as_many_left js ds es h.1)
-
   pub all_sent : (js : List (WatchedJob M K)) (ds : List (job.Done M)) (es : List (WatchedDone M K))
-      → WatchEach keeps k net js ds es → All (λ x. IsSent k net x) (all_in (sent_of es))
+      → WatchEach takes k net js ds es → All (λ x. IsSent k net x) (all_in (sent_of es))
   all_sent [] [] [] h = All-nil (λ x. IsSent k net x)
   all_sent [] [] (e ∷ es) h = absurd h
   all_sent [] (d ∷ ds) es h = absurd h
@@ -172,7 +145,7 @@ module _ {M K : Type 0} (keeps : K → List Row → Type 0) (k : PlainScenario) 
 
   -- what was sent are the packets of all rows
   pub all_packets : (js : List (WatchedJob M K)) (ds : List (job.Done M)) (es : List (WatchedDone M K))
-      → WatchEach keeps k net js ds es → packets_of (joined (lists_of ds)) ≡ packets_in (all_in (sent_of es))
+      → WatchEach takes k net js ds es → packets_of (joined (lists_of ds)) ≡ packets_in (all_in (sent_of es))
   all_packets [] [] [] h = refl
   all_packets [] [] (e ∷ es) h = absurd h
   all_packets [] (d ∷ ds) es h = absurd h
@@ -184,3 +157,35 @@ module _ {M K : Type 0} (keeps : K → List Row → Type 0) (k : PlainScenario) 
       ∙ ap (λ l. l ++ packets_of (joined (lists_of ds))) (sym h.0.packets)
       ∙ ap (λ l. packets_in e.sent.items ++ l) (all_packets js ds es h.1)
       ∙ sym (map-append (λ (x : Sent). x.packet) e.sent.items (all_in (sent_of es)))
+
+module _ {M K : Type 0} (keeps : K → List Row → Type 0) (closes : List K → List K → Type 0) (k : PlainScenario) (net : Network) where
+  -- of all cells was kept what was before, and the rows of each, and that was closed
+  pub all_kept : (js : List (WatchedJob M K)) (ds : List (job.Done M)) (es : List (WatchedDone M K))
+      → WatchEach (KeepClosed keeps closes) k net js ds es
+      → WereClosed closes (KeepEach keeps (all_in (map (λ (j : WatchedJob M K). j.kept) js)) (lists_of ds)) (kept_of es)
+  all_kept [] [] [] h = record { full = []; closed = tt; so = tt }
+  all_kept [] [] (e ∷ es) h = absurd h
+  all_kept [] (d ∷ ds) es h = absurd h
+  all_kept (j ∷ js) [] es h = absurd h
+  all_kept (j ∷ js) (d ∷ ds) [] h = absurd h
+  all_kept (j ∷ js) (d ∷ ds) (e ∷ es) h =
+      let own = h.0.kept in
+      let more = all_kept js ds es h.1 in record {
+        full = own.full ∷ more.full;
+        closed = (own.closed, more.closed);
+        so = keep_append keeps j.kept.items (all_in (map (λ (j : WatchedJob M K). j.kept) js)) d.rows.items (lists_of ds) own.full
+            (joined more.full) own.kept more.so;
+      }
+
+  pub as_many_left : (js : List (WatchedJob M K)) (ds : List (job.Done M)) (es : List (WatchedDone M K))
+      → WatchEach (KeepClosed keeps closes) k net js ds es
+      → sizes (kept_of es) ≡ sizes (map (λ (j : WatchedJob M K). j.kept) js)
+  as_many_left [] [] [] h = refl
+  as_many_left [] [] (e ∷ es) h = absurd h
+  as_many_left [] (d ∷ ds) es h = absurd h
+  as_many_left (j ∷ js) [] es h = absurd h
+  as_many_left (j ∷ js) (d ∷ ds) [] h = absurd h
+  as_many_left (j ∷ js) (d ∷ ds) (e ∷ es) h =
+      let own = h.0.kept in
+      ap (λ n. n ∷ sizes (kept_of es)) (own.closed.0 ∙ keep_long keeps j.kept.items d.rows.items own.full own.kept)
+      ∙ ap (λ l. length j.kept.items ∷ l) (as_many_left js ds es h.1)

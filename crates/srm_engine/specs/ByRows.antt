@@ -24,9 +24,8 @@ MayLeave k (old ∷ olds) (d ∷ ds) =
 MayLeave k olds ds = ⊥
 
 -- this is left of what is done of each job, where this was kept before
-abbrev pub LeftEach : {M K : Type 0} → (K → List Row → Type 0) → PlainScenario → Network → List (List K)
-    → List (job.Done M)
-    → List (WatchedDone M K) → Type 0
-LeftEach keeps k net [] [] [] = Unit {0}
-LeftEach keeps k net (old ∷ olds) (d ∷ ds) (e ∷ es) = Watches keeps k net old d e × LeftEach keeps k net olds ds es
-LeftEach keeps k net olds ds es = ⊥
+abbrev pub LeftEach : {M K : Type 0} → (List K → List (List Row) → List K → Type 0) → PlainScenario → Network
+    → List (List K) → List (job.Done M) → List (WatchedDone M K) → Type 0
+LeftEach takes k net [] [] [] = Unit {0}
+LeftEach takes k net (old ∷ olds) (d ∷ ds) (e ∷ es) = Watches takes k net old d e × LeftEach takes k net olds ds es
+LeftEach takes k net olds ds es = ⊥

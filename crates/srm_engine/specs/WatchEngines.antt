@@ -10,6 +10,7 @@ use Rattle.srm_engine.specs.declared.fault.RunFault.{RunFault}
 use Rattle.srm_engine.specs.declared.watch_engine.WatchEngine.{WatchEngine}
 use Rattle.srm_engine.specs.Groups.{all_in, sizes}
 use Rattle.srm_interfaces.specs.Watches.{KeepMembers}
+use Rattle.srm_interfaces.specs.InTurn.{WereClosed}
 use Rattle.srm_engine.specs.WindowEngines.{ComesTo, IsUnderWay, OpensAt, setting_by, rule_by}
 use Rattle.srm_engine.specs.Windowed.{MayCome, MayRefuseWindow}
 
@@ -30,13 +31,15 @@ module _ {M K : Type 0} where
   module _ {C : Type 0} (handed : C → List (List cell.PlainJob) → C → Type 0) (f : M → Record)
       (keeps : K → List Row → Type 0) where
     -- what one window tells: one window more, for which the crew was handed its jobs, and whose rows, in order of their
-    -- keys, are kept with those before, of whichever rows; or why it is refused
-    abbrev pub TellsWatched : WatchEngine M K → C → Result (WatchEngine M K) RunFault → C → Type 0
-    TellsWatched e old r new =
+    -- keys, were kept with those before, of whichever rows, until that was closed; or why it is refused
+    abbrev pub TellsWatched : (List K → List K → Type 0) → WatchEngine M K → C → Result (WatchEngine M K) RunFault → C
+        → Type 0
+    TellsWatched closes e old r new =
         (seed : ℕ) (begins : List World) (w : World) → ComesTo f seed e.engine begins w
         → MatchResult r (λ v. ((u : World) × ComesTo f seed v.engine (begins ++ w ∷ []) u
         × ((rows : List Row) × (u.trace ≡ w.trace ++ rows) × IsSorted row_cmp rows
-        × ((before : List Row) → KeepsRows keeps e before → KeepsRows keeps v (before ++ rows))))
+        × ((before : List Row) → KeepsRows keeps e before
+        → WereClosed closes (λ kept. KeepMembers keeps 0 kept (before ++ rows)) v.kept.items)))
         × handed old (jobs_of e.engine.groups.cut (rule_by e.engine seed w) w ∷ []) new)
         (MayRefuseWindow (setting_by e.engine seed) (rule_by e.engine seed w) e.engine.groups.cut w)
 

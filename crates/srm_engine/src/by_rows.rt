@@ -4,7 +4,7 @@ ghost use Rattle.srm_cell.specs.Setting.{traffic_of};
 ghost use Rattle.srm_cell.specs.Hearing.{IsSent, packets_in};
 ghost use Rattle.srm_interfaces.specs.Crews.{plain_jobs};
 ghost use Rattle.srm_interfaces.specs.Hearers.{GroupsMayHear, TellsHeard};
-ghost use Rattle.srm_interfaces.specs.Watches.{jobs_in, MayMap, MapsWatched};
+ghost use Rattle.srm_interfaces.specs.Watches.{jobs_in, KeepClosed, MayMap, MapsWatched};
 ghost use Rattle.srm_engine.specs.ByRows.{kept_in, LeftEach, MayLeave};
 
 use srm_cell::cell::Cell;
@@ -59,8 +59,8 @@ fn leave<M: Participant, K: Drop, W: Watch<K>>(
     all: Vec<Done<M>>,
 ) -> Result<Vec<WatchedDone<M, K>>, AllocError>
     requires may { MayLeave session.scenario.now (map (λ v. v.items) kept.items) all.items }
-    ensures { IfOk result (λ es. LeftEach (W.keeps watch.now) session.entry.scenario.now session.entry.net.now
-        (map (λ v. v.items) kept.items) all.items es.items) }
+    ensures { IfOk result (λ es. LeftEach (KeepClosed (W.keeps watch.now) (W.closes watch.now)) session.entry.scenario.now
+        session.entry.net.now (map (λ v. v.items) kept.items) all.items es.items) }
 {
     let mut left = Vec::new(alloc);
     for (own, done) in kept.into_iter().zip(all) {
@@ -106,8 +106,8 @@ impl<'a, M: Participant, K: Drop, W: Watch<K> + Drop, C: Crew<M>> WatchCrew<M, K
         ensures ready { C.ready self.new.crew.now }
         ensures serves { Unit {0} }
         ensures same { self.new.crew.ghost_name ≡ self.old.crew.ghost_name }
-        ensures done { MapsWatched M.plain (W.keeps watch) session.entry.scenario.now session.entry.net.now seat
-            jobs.items result }
+        ensures done { MapsWatched M.plain (KeepClosed (W.keeps watch) (W.closes watch)) session.entry.scenario.now
+            session.entry.net.now seat jobs.items result }
         ensures handed { IfOk result (λ _.
             C.handed self.old.crew.now (plain_jobs M.plain (jobs_in jobs.items) ∷ []) self.new.crew.now) }
     {

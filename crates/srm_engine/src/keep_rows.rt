@@ -18,6 +18,8 @@ impl Watch<Vec<Row>> for KeepRows {
 
     ghost keeps = { λ _ k rows. k.items ≡ rows };
 
+    ghost closes = { λ _ old new. new ≡ old };
+
     fn none(&self) -> Vec<Row> {
         Vec::new(self.alloc)
     }
@@ -30,6 +32,10 @@ impl Watch<Vec<Row>> for KeepRows {
         for row in rows {
             kept.push(copied(self.alloc, row)?)?;
         }
+        Ok(())
+    }
+
+    fn close(&self, _kept: &mut [Vec<Row>]) -> Result<(), AllocError> {
         Ok(())
     }
 }

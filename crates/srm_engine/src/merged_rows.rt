@@ -50,12 +50,12 @@ impl<'a, S: RowSink> RowSink for MergedRows<'a, S> {
 impl<'a, S: RowSink> KeptSink<Vec<Row>> for MergedRows<'a, S> {
     ghost use Rattle.std.specs.Prelude.{◌≡◌, ◌<◌, ◌+◌, ◌-◌, ◌^◌, List, MatchResult};
     ghost use Rattle.srm_member.specs.declared.row.Row.{Row as OneRow};
-    ghost use Rattle.srm_interfaces.specs.Grouped.{all_in, sizes};
-    ghost use Rattle.srm_interfaces.specs.InTurn.{KeepInTurn};
+    ghost use Rattle.srm_interfaces.specs.Grouped.{sizes};
+    ghost use Rattle.srm_interfaces.specs.InTurn.{KeepInGroups};
     ghost use Rattle.srm_interfaces.specs.Sinks.{IsOpen, stage_after, stops_in};
     ghost use Rattle.srm_engine.specs.Kept.{stage_merged};
 
-    ghost keeps = { λ list own. list.items ≡ own };
+    ghost keeps = { KeepInGroups (λ list own. list.items ≡ own) (λ old new. new ≡ old) };
 
     fn kept(&mut self, alloc: Global, groups: &mut [Vec<Vec<Row>>]) -> Result<(), SinkFault>
         requires open { IsOpen (stage_merged self.old.is_refused (S.stage self.old.sink.now)) }
@@ -64,7 +64,8 @@ impl<'a, S: RowSink> KeptSink<Vec<Row>> for MergedRows<'a, S> {
         ensures stage { stage_merged self.new.is_refused (S.stage self.new.sink.now) ≡ stage_after result }
         ensures failures { S.failures self.new.sink.now ≡ S.failures self.old.sink.now + stops_in result }
         ensures each { sizes groups.new ≡ sizes groups.old }
-        ensures rows { (rows : List OneRow) → KeepInTurn (λ list own. list.items ≡ own) (all_in groups.old) rows
+        ensures rows { (rows : List OneRow)
+            → KeepInGroups (λ list own. list.items ≡ own) (λ old new. new ≡ old) groups.old rows
             → MatchResult result (λ _. S.took self.old.sink.now rows self.new.sink.now)
             (λ _. S.part self.old.sink.now rows self.new.sink.now) }
     {

@@ -1,9 +1,10 @@
 //! The engine in windows that keeps no rows, but what a watch keeps of them.
 ghost use Rattle.std.specs.Prelude.{◌≡◌, ◌<◌, ◌+◌, ◌-◌, ◌^◌, [], ℕ, List, IfOk, MatchResult};
+ghost use Rattle.std.specs.Global.{Vec as AVec};
 ghost use Rattle.srm_member.specs.declared.row.Row.{Row as OneRow};
 ghost use Rattle.srm_interfaces.specs.declared.sink.Stage.{Stage as AStage};
 ghost use Rattle.srm_interfaces.specs.Sinks.{IsReady, stage_after, stops_in};
-ghost use Rattle.srm_interfaces.specs.InTurn.{KeepInTurn};
+ghost use Rattle.srm_interfaces.specs.InTurn.{KeepInGroups};
 ghost use Rattle.srm_interfaces.specs.Watches.{MayLead};
 ghost use Rattle.srm_engine.specs.Streams.{LeavesSink, sink_in};
 ghost use Rattle.srm_engine.specs.Starts.{BeginsWith, InRunsOf};
@@ -11,7 +12,7 @@ ghost use Rattle.srm_engine.specs.WindowStreams.{IsLeft, TellsStreamAsked, Calls
 ghost use Rattle.srm_engine.specs.RowRuns.{TellsLast, MayLackWindow, TellsUndone};
 ghost use Rattle.srm_engine.specs.Ends.{MayCut};
 ghost use Rattle.srm_engine.specs.WindowEngines.{frame_of, IsUnderWay, IsAt, OpensAt, BeginsNext, TellsWindows};
-ghost use Rattle.srm_engine.specs.WatchEngines.{IsWatching, KeepsRows, TellsWatched, TellsAllWatched, kept_by};
+ghost use Rattle.srm_engine.specs.WatchEngines.{IsWatching, KeepsRows, TellsWatched, TellsAllWatched};
 
 use crate::cutting::Cutting;
 use crate::fault::RunFault;
@@ -25,7 +26,7 @@ use crate::width::Windows;
 use crate::window_engine::WindowEngine;
 use srm_interfaces::kept_sink::KeptSink;
 use srm_interfaces::sink::SinkFault;
-use srm_interfaces::watch::Watch;
+use srm_interfaces::watch::{MemberWatch, Watch};
 use srm_interfaces::watch_crew::WatchCrew;
 use srm_member::participant::Participant;
 use std::alloc::{AllocError, Global};
@@ -68,7 +69,8 @@ impl<'a, M: Participant, K: Drop> WatchEngine<'a, M, K> {
         sink: &mut S,
     ) -> Result<WindowEngine<'a, M>, StreamFault>
         requires lead { MayLead C.ready C.serves crew.old start.session }
-        requires keeps { (k : K) (rows : List OneRow) → W.keeps watch k rows → S.keeps k rows }
+        requires keeps { (groups : List (AVec K)) (rows : List OneRow)
+            → KeepInGroups (W.keeps watch) (W.closes watch) groups rows → S.keeps groups rows }
         requires sink { IsReady (S.stage sink.old) (S.failures sink.old) }
         ensures lead { MayLead C.ready C.serves crew.new start.entry.session }
         ensures same { C.same crew.old crew.new }
@@ -115,7 +117,8 @@ impl<'a, M: Participant, K: Drop> WatchEngine<'a, M, K> {
         ensures frame { IfOk result (λ e. frame_of e.engine ≡ frame_of self.entry.engine) }
         ensures stands { IfOk result (λ e. IsWatching M.plain e) }
         ensures later { IfOk result (λ e. (next : ℕ) → BeginsNext M.plain e.engine next → begin < next) }
-        ensures window { TellsWatched C.handed M.plain (W.keeps watch) self.entry crew.old result crew.new }
+        ensures window { TellsWatched C.handed M.plain (W.keeps watch) (W.closes watch) self.entry crew.old result
+            crew.new }
     {
         let WatchEngine { engine, kept } = self;
         let end = engine.end(begin);
@@ -146,7 +149,7 @@ impl<'a, M: Participant, K: Drop> WatchEngine<'a, M, K> {
     }
 
     /// Windows, one after the other, until nothing is pending before the end of the run.
-    pub(crate) fn windows<W: Watch<K> + Copy, C: WatchCrew<M, K, W>>(
+    pub(crate) fn windows<W: MemberWatch<K> + Copy, C: WatchCrew<M, K, W>>(
         self,
         alloc: Global,
         crew: &mut C,
@@ -189,7 +192,7 @@ impl<'a, M: Participant, K: Drop> WatchEngine<'a, M, K> {
         ensures device { S.same sink.old sink.new }
         ensures stage { S.stage sink.new ≡ stage_after result }
         ensures failures { S.failures sink.new ≡ S.failures sink.old + stops_in result }
-        ensures rows { (rows : List OneRow) → KeepInTurn S.keeps (kept_by self.entry) rows
+        ensures rows { (rows : List OneRow) → S.keeps self.entry.kept.items rows
             → MatchResult result (λ _. S.took sink.old rows sink.new) (λ _. S.part sink.old rows sink.new) }
     {
         let WatchEngine { engine, kept } = self;
@@ -211,7 +214,8 @@ impl<'a, M: Participant, K: Drop> WatchEngine<'a, M, K> {
         requires lead { MayLead C.ready C.serves crew.old self.engine.session }
         requires stands { IsWatching M.plain self }
         requires none { KeepsRows (W.keeps watch) self [] }
-        requires keeps { (k : K) (rows : List OneRow) → W.keeps watch k rows → S.keeps k rows }
+        requires keeps { (groups : List (AVec K)) (rows : List OneRow)
+            → KeepInGroups (W.keeps watch) (W.closes watch) groups rows → S.keeps groups rows }
         requires sink { IsReady (S.stage sink.old) (S.failures sink.old) }
         ensures lead { MayLead C.ready C.serves crew.new self.entry.engine.session }
         ensures same { C.same crew.old crew.new }

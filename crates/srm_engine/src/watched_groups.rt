@@ -6,6 +6,7 @@ ghost use Rattle.srm_engine.specs.WatchedGroups.{watched_with, groups_in, kept_o
 use crate::sent::add_runs;
 use srm_cell::cell::Cell;
 use srm_cell::sent::Sent;
+use srm_interfaces::keeping::none_of;
 use srm_interfaces::watch::Watch;
 use srm_interfaces::watched::{WatchedDone, WatchedJob};
 use srm_member::participant::Participant;
@@ -26,22 +27,6 @@ pub(crate) fn none_of_each<M: Participant, K: Drop, W: Watch<K>>(
         kept.push(own)?;
     }
     Ok(kept)
-}
-
-// What a watch keeps of no row, so many times.
-fn none_of<K: Drop, W: Watch<K>>(
-    alloc: Global,
-    watch: &W,
-    many: usize,
-) -> Result<Vec<K>, AllocError>
-    ensures many { IfOk result (λ own. length own.items ≡ many) }
-    ensures none { IfOk result (λ own. All (λ k. W.keeps watch.now k []) own.items) }
-{
-    let mut own = Vec::with_capacity(alloc, many)?;
-    for _ in 0..many {
-        own.push(watch.none())?;
-    }
-    Ok(own)
 }
 
 /// Makes what is kept of each cell of the groups what the watch keeps of no row.

@@ -1,10 +1,12 @@
 //! The run in windows whose rows stay where they were made, and what is kept of them is handed on.
 ghost use Rattle.std.specs.Prelude.{List};
+ghost use Rattle.std.specs.Global.{Vec as AVec};
 ghost use Rattle.srm_member.specs.declared.row.Row.{Row as OneRow};
 ghost use Rattle.srm_interfaces.specs.Watches.{MayLead};
 ghost use Rattle.srm_engine.specs.Streams.{LeavesSink};
 ghost use Rattle.srm_interfaces.specs.Sinks.{IsReady};
 ghost use Rattle.srm_engine.specs.Starts.{InRunsOf};
+ghost use Rattle.srm_interfaces.specs.InTurn.{KeepInGroups};
 ghost use Rattle.srm_engine.specs.WindowStreams.{IsLeft, TellsStreamAsked, CallsInWindows, RefusedInWindows};
 ghost use Rattle.srm_engine.specs.RowRuns.{TellsTotals, MayLackWindow, TellsUndone};
 
@@ -21,10 +23,10 @@ use std::alloc::Global;
 use std::marker::Copy;
 
 /// The run of a scenario in windows of time, as [`window_stream`](crate::window_stream::window_stream)'s, but no row leaves the
-/// worker that made it: the sink is handed, as each window ends, what the watch keeps of each member's rows of that window, in
-/// order of the members' numbers. What it took is the trace of the sequential run all the same. What is answered are the crossings
-/// and drops of the trace's packets. The members are dropped, and not asked what they end with: once the sink took the last row, no
-/// memory is asked for.
+/// worker that made it: the sink is handed, as each window ends, what the watch keeps of each member's rows of that window, closed
+/// job by job, in order of the members' numbers. What it took is the trace of the sequential run all the same. What is answered are
+/// the crossings and drops of the trace's packets. The members are dropped, and not asked what they end with: once the sink took the
+/// last row, no memory is asked for.
 ///
 /// # Errors
 /// As of [`window_stream`](crate::window_stream::window_stream), but `Run` with `NoMemory` only where something is left undone: the
@@ -48,7 +50,8 @@ pub fn window_kept<
     sink: &mut S,
 ) -> Result<Totals, StreamFault>
     requires lead { MayLead C.ready C.serves crew.old start.session }
-    requires keeps { (k : K) (rows : List OneRow) → W.keeps watch k rows → S.keeps k rows }
+    requires keeps { (groups : List (AVec K)) (rows : List OneRow)
+        → KeepInGroups (W.keeps watch) (W.closes watch) groups rows → S.keeps groups rows }
     requires sink { IsReady (S.stage sink.old) (S.failures sink.old) }
     ensures lead { MayLead C.ready C.serves crew.new start.entry.session }
     ensures sink { LeavesSink S.RowSink sink.old result sink.new }

@@ -9,7 +9,7 @@ use crate::start::Start;
 use crate::watch_engine::WatchEngine;
 use crate::watched_groups::in_one;
 use crate::width::Windows;
-use srm_interfaces::watch::Watch;
+use srm_interfaces::watch::MemberWatch;
 use srm_interfaces::watch_crew::WatchCrew;
 use srm_ledger::totals::Totals;
 use srm_member::participant::Participant;
@@ -28,7 +28,7 @@ use std::marker::Copy;
 ///    also where memory was refused to the watch.
 ///
 /// The members and what was kept of them are then gone.
-pub fn window_watch<M: Participant, K: Drop, W: Watch<K> + Copy, C: WatchCrew<M, K, W>>(
+pub fn window_watch<M: Participant, K: Drop, W: MemberWatch<K> + Copy, C: WatchCrew<M, K, W>>(
     alloc: Global,
     start: Start<M>,
     crew: &mut C,

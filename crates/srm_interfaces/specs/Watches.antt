@@ -29,6 +29,17 @@ KeepEach keeps (a ∷ old) (rows ∷ more) (b ∷ new) =
     ((before : List Row) → keeps a before → keeps b (before ++ rows)) × KeepEach keeps old more new
 KeepEach keeps old more new = ⊥
 
+-- what was kept of each of some members was closed: this is kept of each then
+abbrev pub IsClosed : {K : Type 0} → (List K → List K → Type 0) → List K → List K → Type 0
+IsClosed closes old new = (length new ≡ length old) × closes old new
+
+-- of each cell what was kept before took in these rows, and what was kept of all then was closed
+pub record KeepClosed {K : Type 0} (keeps : K → List Row → Type 0) (closes : List K → List K → Type 0) (old : List K)
+    (lists : List (List Row)) (new : List K) : Type 0 where
+  pub full : List K
+  pub kept : KeepEach keeps old lists full
+  pub closed : IsClosed closes full new
+
 -- this is kept of member m, of member m + 1 and so on: what is kept of each keeps its rows of these
 abbrev pub KeepMembers : {K : Type 0} → (K → List Row → Type 0) → ℕ → List K → List Row → Type 0
 KeepMembers keeps m [] rows = Unit {0}
@@ -68,39 +79,38 @@ module _ {M K : Type 0} where
     pub links : ledger.links ≡ length net.links
     pub of_ledger : seat.ledger ≡ ledger.name
 
-  -- this is what is left of what is done of a job: of the rows what is kept of them, where this was kept before, and
-  -- their packets
-  pub record Watches (keeps : K → List Row → Type 0) (k : PlainScenario) (net : Network) (old : List K)
-      (d : job.Done M) (e : WatchedDone M K) : Type 0 where
+  -- this is what is left of what is done of a job: where this was kept before, of the rows what is kept of them once
+  -- they are taken in, and their packets
+  pub record Watches (takes : List K → List (List Row) → List K → Type 0) (k : PlainScenario) (net : Network)
+      (old : List K) (d : job.Done M) (e : WatchedDone M K) : Type 0 where
     pub place : e.place ≡ d.place
     pub cells : e.cells ≡ d.cells
-    pub kept : KeepEach keeps old d.rows.items e.kept.items
+    pub kept : takes old d.rows.items e.kept.items
     pub packets : packets_in e.sent.items ≡ packets_of (joined d.rows.items)
     pub sent : All (λ x. IsSent k net x) e.sent.items
     pub crossings : e.crossings ≡ d.crossings
 
   -- so of each job
-  abbrev pub WatchEach : (K → List Row → Type 0) → PlainScenario → Network → List (WatchedJob M K)
+  abbrev pub WatchEach : (List K → List (List Row) → List K → Type 0) → PlainScenario → Network → List (WatchedJob M K)
       → List (job.Done M) → List (WatchedDone M K) → Type 0
-  WatchEach keeps k net [] [] [] = Unit {0}
-  WatchEach keeps k net (j ∷ js) (d ∷ ds) (e ∷ es) =
-      Watches keeps k net j.kept.items d e × WatchEach keeps k net js ds es
-  WatchEach keeps k net js ds es = ⊥
+  WatchEach takes k net [] [] [] = Unit {0}
+  WatchEach takes k net (j ∷ js) (d ∷ ds) (e ∷ es) =
+      Watches takes k net j.kept.items d e × WatchEach takes k net js ds es
+  WatchEach takes k net js ds es = ⊥
 
   -- what advancing watched jobs tells: what is left of what is done of them; or why not, as without a watch
-  abbrev pub AdvanceWatched : (M → Record) → (K → List Row → Type 0) → PlainScenario → Network → List (WatchedJob M K)
-      → Result (Vec (WatchedDone M K)) CellFault → Type 0
-  AdvanceWatched f keeps k net js (Ok w) =
-      (ds : List (job.Done M)) × AreDone f k net (jobs_in js) ds × WatchEach keeps k net js ds w.items
-  AdvanceWatched f keeps k net js (Err e) = AdvanceEach f k net (jobs_in js) (Err e)
+  abbrev pub AdvanceWatched : (M → Record) → (List K → List (List Row) → List K → Type 0) → PlainScenario → Network
+      → List (WatchedJob M K) → Result (Vec (WatchedDone M K)) CellFault → Type 0
+  AdvanceWatched f takes k net js (Ok w) =
+      (ds : List (job.Done M)) × AreDone f k net (jobs_in js) ds × WatchEach takes k net js ds w.items
+  AdvanceWatched f takes k net js (Err e) = AdvanceEach f k net (jobs_in js) (Err e)
 
   -- what a crew's call tells: what is left of what is done of the jobs, and a seat grown by the crossings of all
   -- their rows; or why not, as a crew that keeps the rows
-  abbrev pub MapsWatched : (M → Record) → (K → List Row → Type 0) → PlainScenario → Network → SeatView
-      → List (WatchedJob M K)
-      → Result (Vec (WatchedDone M K) × SeatView) CrewFault → Type 0
-  MapsWatched f keeps k net seat js (Ok w) =
+  abbrev pub MapsWatched : (M → Record) → (List K → List (List Row) → List K → Type 0) → PlainScenario → Network
+      → SeatView → List (WatchedJob M K) → Result (Vec (WatchedDone M K) × SeatView) CrewFault → Type 0
+  MapsWatched f takes k net seat js (Ok w) =
       (ds : List (job.Done M)) × AreDone f k net (jobs_in js) ds
       × HasGrown (counted_in (crossings (traffic_of k net) (rows_of ds))) seat w.1
-      × WatchEach keeps k net js ds w.0.items
-  MapsWatched f keeps k net seat js (Err e) = Maps f k net seat (jobs_in js) (Err e)
+      × WatchEach takes k net js ds w.0.items
+  MapsWatched f takes k net seat js (Err e) = Maps f k net seat (jobs_in js) (Err e)

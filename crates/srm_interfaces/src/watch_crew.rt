@@ -7,7 +7,7 @@ ghost use Rattle.srm_cell.specs.Jobs.{PlainJob};
 ghost use Rattle.srm_cell.specs.Hearing.{IsSent, packets_in};
 ghost use Rattle.srm_interfaces.specs.Crews.{plain_jobs};
 ghost use Rattle.srm_interfaces.specs.Hearers.{GroupsMayHear, TellsHeard};
-ghost use Rattle.srm_interfaces.specs.Watches.{jobs_in, MayMap, MapsWatched};
+ghost use Rattle.srm_interfaces.specs.Watches.{jobs_in, MayMap, MapsWatched, KeepClosed};
 
 use crate::fault::CrewFault;
 use crate::watch::Watch;
@@ -19,7 +19,8 @@ use srm_member::participant::Participant;
 use srm_scenario::session::Session;
 use std::alloc::{AllocError, Global};
 
-/// Who advances jobs whose cells hold members of type `M`, and keeps of their rows what a watch keeps: a `K` of each member.
+/// Who advances jobs whose cells hold members of type `M`, and keeps of their rows what a watch keeps: a `K` of each member. What
+/// is kept of a job's members is closed as the job is done.
 pub trait WatchCrew<M: Participant, K, W: Watch<K>> {
     // It may be called.
     ghost ready: { Self → Type 0 };
@@ -52,8 +53,8 @@ pub trait WatchCrew<M: Participant, K, W: Watch<K>> {
         ensures ready { ready self.new }
         ensures serves { serves self.new session.entry.scenario.now session.entry.net.now }
         ensures same { same self.old self.new }
-        ensures done { MapsWatched M.plain (W.keeps watch) session.entry.scenario.now session.entry.net.now seat
-            jobs.items result }
+        ensures done { MapsWatched M.plain (KeepClosed (W.keeps watch) (W.closes watch)) session.entry.scenario.now
+            session.entry.net.now seat jobs.items result }
         ensures handed { IfOk result (λ _. handed self.old (plain_jobs M.plain (jobs_in jobs.items) ∷ []) self.new) };
 
     /// The groups after each of their cells heard what was sent, one packet after the other. Groups and cells stay in their order.

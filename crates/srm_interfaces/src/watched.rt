@@ -45,9 +45,10 @@ pub struct WatchedDone<M, K> {
 }
 
 impl<M: Participant, K: Drop> WatchedDone<M, K> {
-    ghost use Rattle.srm_interfaces.specs.Watches.{Watches};
+    ghost use Rattle.srm_interfaces.specs.Watches.{KeepClosed, Watches};
 
-    /// What is left of what is done of a job once a watch, which kept this of each cell's rows before, has seen the rows.
+    /// What is left of what is done of a job once a watch, which kept this of each cell's rows before, has seen the rows, and closed
+    /// what it keeps.
     ///
     /// # Errors
     /// [`AllocError`]: the cells are gone.
@@ -60,8 +61,8 @@ impl<M: Participant, K: Drop> WatchedDone<M, K> {
     ) -> Result<Self, AllocError>
         requires many { length done.rows.items ≡ length kept.items }
         requires sent { All (λ rows. All (λ r. IsSentBelow (length session.scenario.now.members) r.sent) rows) done.rows.items }
-        ensures { IfOk result (λ e. Watches (W.keeps watch.now) session.entry.scenario.now session.entry.net.now
-            kept.items done e) }
+        ensures { IfOk result (λ e. Watches (KeepClosed (W.keeps watch.now) (W.closes watch.now)) session.entry.scenario.now
+            session.entry.net.now kept.items done e) }
     {
         let Done {
             place,
@@ -71,6 +72,7 @@ impl<M: Participant, K: Drop> WatchedDone<M, K> {
         } = done;
         let mut kept = kept;
         keep_each(watch, kept.as_mut_slice(), rows.as_slice())?;
+        watch.close(kept.as_mut_slice())?;
         let sent = sent_in(alloc, session, rows.as_slice())?;
         Ok(WatchedDone {
             place,

@@ -6,14 +6,14 @@ ghost use Rattle.srm_options.specs.declared.options.Show.{Show};
 ghost use Rattle.srm_program.specs.EndTables.{IsKeptOf};
 ghost use Rattle.srm_program.specs.Reports.{IsWhole, table_shown};
 
-use srm_interfaces::watch::Watch;
+use srm_interfaces::watch::MemberWatch;
 use srm_ledger::totals::Totals;
 use srm_report::fault::ReportFault;
 use srm_scenario::session::Session;
 use std::alloc::Global;
 
 /// A table that is made at the end of a run, of what a watch keeps of each member's rows, a `K`, and of the totals.
-pub(crate) trait EndTable<K>: Watch<K> {
+pub(crate) trait EndTable<K>: MemberWatch<K> {
     // Which table it is.
     ghost table: { Show };
 

@@ -1,6 +1,8 @@
 //! The rows of a run, or what a watch keeps of them, handed to a sink.
 ghost use Rattle.std.specs.Prelude.{◌≡◌, List, map};
+ghost use Rattle.std.specs.Global.{Vec as AVec};
 ghost use Rattle.srm_member.specs.declared.row.Row.{Row as OneRow};
+ghost use Rattle.srm_interfaces.specs.InTurn.{KeepInGroups};
 ghost use Rattle.srm_interfaces.specs.Watches.{MayLead};
 ghost use Rattle.srm_program.specs.Askings.{HandsOn};
 ghost use Rattle.srm_program.specs.Runs.{fault_of_stream};
@@ -55,7 +57,8 @@ pub(crate) fn hand_kept<
 >(alloc: Global, asked: Asked<M>, crew: &mut C, watch: W, sink: &mut S) -> Result<Totals, LabFault>
     requires windows { asked.task.options.engine ≡ Engine.Window }
     requires crew { MayLead C.ready C.serves crew.old asked.task.session }
-    requires keeps { (k : K) (rows : List OneRow) → W.keeps watch k rows → S.keeps k rows }
+    requires keeps { (groups : List (AVec K)) (rows : List OneRow)
+        → KeepInGroups (W.keeps watch) (W.closes watch) groups rows → S.keeps groups rows }
     requires sink { IsReady (S.stage sink.old) (S.failures sink.old) }
     ensures { HandsOn S.RowSink asked.entry.task (map M.plain asked.entry.members.items) sink.old result sink.new }
 {

@@ -12,7 +12,7 @@ use srm_engine::fault::RunFault;
 use srm_engine::start::Start;
 use srm_engine::width::Windows;
 use srm_engine::window_watch::window_watch;
-use srm_interfaces::watch::Watch;
+use srm_interfaces::watch::{MemberWatch, Watch};
 use srm_interfaces::watch_crew::WatchCrew;
 use srm_interfaces::watch_sink::WatchSink;
 use srm_ledger::totals::Totals;
@@ -22,12 +22,12 @@ use std::marker::Copy;
 
 // The run in windows of time that is asked for, led by this crew: what the watch keeps of each member's rows, in order of their
 // numbers, and the totals.
-pub(crate) fn keep_windows<M: Participant, K: Drop, W: Watch<K> + Copy, C: WatchCrew<M, K, W>>(
-    alloc: Global,
-    asked: Asked<M>,
-    crew: &mut C,
-    watch: W,
-) -> Result<(Vec<K>, Totals), LabFault>
+pub(crate) fn keep_windows<
+    M: Participant,
+    K: Drop,
+    W: MemberWatch<K> + Copy,
+    C: WatchCrew<M, K, W>,
+>(alloc: Global, asked: Asked<M>, crew: &mut C, watch: W) -> Result<(Vec<K>, Totals), LabFault>
     requires windows { asked.task.options.engine ≡ Engine.Window }
     requires lead { MayLead C.ready C.serves crew.old asked.task.session }
     ensures { IsKept (W.keeps watch) asked.entry.task (map M.plain asked.entry.members.items) result }

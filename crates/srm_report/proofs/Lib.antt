@@ -26,8 +26,4 @@ mod TakingLemmas
 pub mod TallyLemmas
 mod SumLemmas
 mod TickLemmas
-mod TickTexts
-mod SpanLemmas
-mod PlaceLemmas
-mod ChainLemmas
 mod PieceLemmas

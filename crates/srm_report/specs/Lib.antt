@@ -1,4 +1,3 @@
-pub mod Chains
 pub mod Counted
 pub mod Courses
 pub mod Devices

@@ -1,5 +1,4 @@
 //! Tables that list rows.
-mod chains;
 mod fields;
 mod in_order;
 pub mod keep_lines;
@@ -7,10 +6,9 @@ mod line;
 pub mod lines;
 pub mod listing_sink;
 mod pieces;
-mod span;
 mod standing;
 mod text_piece;
-mod ticks;
+mod tick_part;
 pub mod timers;
 pub mod trace;
 

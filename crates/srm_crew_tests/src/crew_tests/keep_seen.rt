@@ -21,6 +21,8 @@ pub(crate) struct KeepSeen {
 impl Watch<Vec<Seen>> for KeepSeen {
     ghost keeps = { λ _ _ _. Unit {0} };
 
+    ghost closes = { λ _ _ _. Unit {0} };
+
     fn none(&self) -> Vec<Seen> {
         Vec::new(self.alloc)
     }
@@ -33,6 +35,10 @@ impl Watch<Vec<Seen>> for KeepSeen {
         for row in rows {
             kept.push(row_seen(row))?;
         }
+        Ok(())
+    }
+
+    fn close(&self, _kept: &mut [Vec<Seen>]) -> Result<(), AllocError> {
         Ok(())
     }
 }

@@ -1,5 +1,5 @@
 //! The watch of a table that is made of no row.
-use srm_interfaces::watch::Watch;
+use srm_interfaces::watch::{MemberWatch, Watch};
 use srm_member::row::Row;
 use std::alloc::AllocError;
 
@@ -12,7 +12,11 @@ pub struct Nothing;
 pub struct KeepNothing;
 
 impl Watch<Nothing> for KeepNothing {
+    ghost use Rattle.std.specs.Prelude.{◌≡◌};
+
     ghost keeps = { λ _ _ _. Unit {0} };
+
+    ghost closes = { λ _ old new. new ≡ old };
 
     fn none(&self) -> Nothing {
         Nothing
@@ -23,4 +27,12 @@ impl Watch<Nothing> for KeepNothing {
     fn add(&self, _kept: &mut Nothing, _rows: &[Row]) -> Result<(), AllocError> {
         Ok(())
     }
+
+    fn close(&self, _kept: &mut [Nothing]) -> Result<(), AllocError> {
+        Ok(())
+    }
+}
+
+impl MemberWatch<Nothing> for KeepNothing {
+    ghost stays = { λ w old new h. h };
 }

@@ -1,19 +1,18 @@
-//! The lines of all members, put in order.
-ghost use Rattle.std.specs.Prelude.{◌≡◌, List, length, IfOk, OnOk};
+//! Lines, put in order of their ticks.
+ghost use Rattle.std.specs.Prelude.{◌≡◌, ◌++◌, ℕ, List, IfOk, OnOk};
+ghost use Rattle.std.specs.List.{flat_map};
 ghost use Rattle.srm_member.specs.declared.row.Row.{Row as R};
-ghost use Rattle.srm_interfaces.specs.Grouped.{all_in};
+ghost use Rattle.srm_cell.specs.Crossings.{joined};
 ghost use Rattle.srm_report.specs.Listings.{Form, lines_in};
-ghost use Rattle.srm_report.specs.KeptLines.{AreLinesOf, tick_texts, with_members, with_ticks};
+ghost use Rattle.srm_report.specs.KeptLines.{AreLinesOf, parts_seen, text_at};
 
-use crate::listing::chains::Chains;
 use crate::listing::lines::Lines;
 use crate::listing::pieces::Pieces;
-use crate::listing::ticks::Ticks;
+use crate::listing::tick_part::TickPart;
 use std::alloc::{AllocError, Global};
 
-/// The text of the lines of all members, in order of their rows' keys: whatever the rows are, where each member's lines are those
-/// of its rows. A key is compared by its time and then its member, so the text of each tick is that of one member after the other,
-/// and a member's own lines stand as they are.
+/// The text of the lines of all members, in order of their rows' keys: whatever the rows are, of which these lines were kept and
+/// closed. A key is compared by its time and then its member, so the text of each tick is that of one member after the other.
 ///
 /// # Errors
 /// [`AllocError`].
@@ -21,53 +20,59 @@ pub(crate) fn put_in_order<'a>(
     alloc: Global,
     groups: &'a [Vec<Lines>],
 ) -> Result<Pieces<'a>, AllocError>
-    ensures { (f : Form) (rows : List R) → AreLinesOf f rows (all_in groups.now)
+    ensures { (f : Form) (rows : List R) → AreLinesOf f rows groups.now
         → IfOk result (λ pieces. pieces ≡ lines_in f rows) }
 {
-    let ticks = Ticks::of(alloc, groups)?;
-    let texts = texts_of(alloc, &ticks, groups)?;
-    texts.in_turn(alloc)
-}
-
-// The text of each tick: the lines of one member after the other. The last member's are the first to be put there.
-fn texts_of<'a>(
-    alloc: Global,
-    ticks: &Ticks,
-    groups: &'a [Vec<Lines>],
-) -> Result<Chains<'a>, AllocError>
-    ensures { IfOk result (λ texts. texts ≡ tick_texts ticks.now (all_in groups.now)) }
-{
-    let mut texts = Chains::empty(alloc, ticks.len())?;
-    for index in (0..groups.len()).rev() {
-        put_group(&mut texts, ticks, groups[index].as_slice())?;
+    let mut parts = Vec::new(alloc);
+    for group in groups {
+        add_parts(&mut parts, group.as_slice())?;
     }
-    Ok(texts)
+    parts.sort_by_key(|part| part.time)?;
+    pieces_of(alloc, parts.as_slice())
 }
 
-// Puts the lines of a group's members before the texts of their ticks.
-fn put_group<'a>(
-    texts: &mut Chains<'a>,
-    ticks: &Ticks,
-    group: &'a [Lines],
-) -> Result<(), AllocError>
-    requires { length texts.old ≡ length ticks.now }
-    ensures { OnOk result (texts.new ≡ with_members ticks.now group.now texts.old) }
+/// The lines of some members together, in order of ticks.
+///
+/// # Errors
+/// [`AllocError`].
+pub(crate) fn together(alloc: Global, all: &[Lines]) -> Result<Lines, AllocError>
+    ensures { IfOk result (λ lines. (t : ℕ) → text_at t lines ≡ flat_map (text_at t) all.now) }
 {
-    for member in (0..group.len()).rev() {
-        put_lines(texts, ticks, &group[member])?;
+    let mut parts = Vec::new(alloc);
+    add_parts(&mut parts, all)?;
+    parts.sort_by_key(|part| part.time)?;
+    lines_of(alloc, parts.as_slice())
+}
+
+// Adds the parts of these lines.
+fn add_parts<'a>(parts: &mut Vec<TickPart<'a>>, all: &'a [Lines]) -> Result<(), AllocError>
+    ensures { OnOk result (parts_seen parts.new.items ≡ parts_seen parts.old.items ++ joined all.now) }
+{
+    for own in all {
+        own.put_parts(parts)?;
     }
     Ok(())
 }
 
-// Puts a member's lines before the texts of their ticks.
-fn put_lines<'a>(texts: &mut Chains<'a>, ticks: &Ticks, own: &'a Lines) -> Result<(), AllocError>
-    requires { length texts.old ≡ length ticks.now }
-    ensures { OnOk result (texts.new ≡ with_ticks ticks.now own.now texts.old) }
+// The texts of these parts, one after the other.
+fn pieces_of<'a>(alloc: Global, parts: &[TickPart<'a>]) -> Result<Pieces<'a>, AllocError>
+    ensures { IfOk result (λ pieces. pieces ≡ flat_map (λ p. p.text.now) parts.now) }
 {
-    for index in (0..own.len()).rev() {
-        if let Some(place) = ticks.place(own.time(index)) {
-            texts.put_before(place, own.text(index))?;
-        }
+    let mut pieces = Pieces::new(alloc);
+    for part in parts {
+        pieces.put(part.text)?;
     }
-    Ok(())
+    Ok(pieces)
+}
+
+// These parts, those of one tick that stand beside each other together.
+fn lines_of(alloc: Global, parts: &[TickPart]) -> Result<Lines, AllocError>
+    ensures { IfOk result (λ lines. (t : ℕ) → text_at t lines ≡ text_at t (parts_seen parts.now)) }
+{
+    let mut lines = Lines::new(alloc);
+    lines.reserve(parts.len())?;
+    for part in parts {
+        lines.put_part(part)?;
+    }
+    Ok(lines)
 }

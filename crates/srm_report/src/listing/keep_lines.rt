@@ -1,11 +1,15 @@
-//! The watch that keeps the lines of a member's rows.
+//! The watch that keeps the lines of members' rows.
+ghost use Rattle.std.specs.Prelude.{◌≡◌, [], All, length};
+
 use crate::listing::Listing;
+use crate::listing::in_order::together;
 use crate::listing::lines::Lines;
 use srm_interfaces::watch::Watch;
 use srm_member::row::Row;
 use std::alloc::{AllocError, Global};
 
-/// Keeps the lines that the rows of a member have in a table which lists rows, and no row.
+/// Keeps the lines that the rows of a member have in a table which lists rows, and no row. Where more than one of a job's members
+/// have lines, they are put together as the job is done: then they stand in order of ticks, as what the first member has.
 #[derive(Clone, Copy)]
 pub struct KeepLines<L> {
     /// The memory that is taken for lines.
@@ -16,9 +20,11 @@ pub struct KeepLines<L> {
 
 impl<L: Listing> Watch<Lines> for KeepLines<L> {
     ghost use Rattle.std.specs.Prelude.{◌≡◌};
-    ghost use Rattle.srm_report.specs.KeptLines.{lines_of};
+    ghost use Rattle.srm_report.specs.KeptLines.{lines_of, HaveSameTexts};
 
     ghost keeps = { λ _ k rows. k ≡ lines_of L.form rows };
+
+    ghost closes = { λ _ old new. HaveSameTexts old new };
 
     fn none(&self) -> Lines {
         Lines::new(self.alloc)
@@ -34,5 +40,26 @@ impl<L: Listing> Watch<Lines> for KeepLines<L> {
             kept.put::<L>(row)?;
         }
         Ok(())
+    }
+
+    fn close(&self, kept: &mut [Lines]) -> Result<(), AllocError> {
+        // Where fewer than two have lines, all are together.
+        if kept.len() < 2 || kept.iter().filter(|own| own.len() > 0).count() < 2 {
+            return Ok(());
+        }
+        let lines = together(self.alloc, kept)?;
+        clear_all(self.alloc, kept);
+        kept[0] = lines;
+        Ok(())
+    }
+}
+
+// Takes all lines out.
+fn clear_all(alloc: Global, kept: &mut [Lines])
+    ensures long { length kept.new ≡ length kept.old }
+    ensures none { All (λ own. own ≡ []) kept.new }
+{
+    for own in kept.iter_mut() {
+        own.clear(alloc);
     }
 }

@@ -1,9 +1,10 @@
 //! Lines of rows, kept as one text, and where those of each tick end.
-ghost use Rattle.std.specs.Prelude.{◌≡◌, ◌<◌, ◌≤◌, ◌++◌, ◌∷◌, [], length, is_ok, if◌then◌else◌};
+ghost use Rattle.std.specs.Prelude.{◌≡◌, ◌<◌, ◌≤◌, ◌++◌, ◌∷◌, [], length, is_ok, OnOk, if◌then◌else◌};
 ghost use Rattle.std.proofs.Math.ListN.{get_or};
-ghost use Rattle.srm_report.specs.KeptLines.{line_behind, start_at};
+ghost use Rattle.srm_report.specs.KeptLines.{line_behind, parts_seen, start_at};
 
 use crate::listing::Listing;
+use crate::listing::tick_part::TickPart;
 use srm_member::row::Row;
 use std::alloc::{AllocError, Global};
 use std::marker::Model;
@@ -23,7 +24,7 @@ pub struct LineEnd {
     pub end: usize,
 }
 
-/// The lines of a member's rows, in parts: those of one tick are together. Contracts see them as a list of ticks and texts.
+/// The lines of members' rows, in parts: those of one tick are together. Contracts see them as a list of ticks and texts.
 #[derive(Drop)]
 pub struct Lines {
     ends: Vec<LineEnd>,
@@ -100,6 +101,43 @@ impl Lines {
             return Ok(());
         }
         self.ends.push(LineEnd { time, end })?;
+        Ok(())
+    }
+
+    /// Puts a part behind the others.
+    ///
+    /// # Errors
+    /// [`AllocError`]: the lines are of no more use.
+    pub(crate) fn put_part(&mut self, part: &TickPart) -> Result<(), AllocError>
+        ensures { OnOk result (self.new ≡ line_behind self.old part.now.time part.now.text.now) }
+    {
+        self.ends.reserve(1)?;
+        self.text.extend_from_slice(part.text)?;
+        let time = part.time;
+        let end = self.text.len();
+        let count = self.ends.len();
+        if count > 0 && self.ends[count - 1].time == time {
+            self.ends[count - 1] = LineEnd { time, end };
+            return Ok(());
+        }
+        self.ends.push(LineEnd { time, end })?;
+        Ok(())
+    }
+
+    /// Puts the parts behind others.
+    ///
+    /// # Errors
+    /// [`AllocError`].
+    pub(crate) fn put_parts<'a>(&'a self, parts: &mut Vec<TickPart<'a>>) -> Result<(), AllocError>
+        ensures { OnOk result (parts_seen parts.new.items ≡ parts_seen parts.old.items ++ self.now) }
+    {
+        parts.reserve(self.len())?;
+        for index in 0..self.len() {
+            parts.push(TickPart {
+                time: self.time(index),
+                text: self.text(index),
+            })?;
+        }
         Ok(())
     }
 

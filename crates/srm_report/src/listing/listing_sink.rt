@@ -1,7 +1,7 @@
 //! A table that lists rows, written as they come.
 ghost use Rattle.std.specs.Prelude.{◌≡◌, ◌<◌, ◌+◌, ◌-◌, ◌^◌, ◌≤◌, ◌==◌, ◌||◌, List, [], false, true, is_ok, not, if◌then◌else◌, length, IfOk};
 ghost use Rattle.srm_member.specs.declared.row.Row.{Row as R};
-ghost use Rattle.srm_interfaces.specs.Grouped.{all_in, sizes};
+ghost use Rattle.srm_interfaces.specs.Grouped.{sizes};
 ghost use Rattle.srm_report.specs.KeptLines.{AreLinesOf};
 ghost use Rattle.srm_report.specs.Pieces.{whole_text};
 ghost use Rattle.srm_report.specs.Standings.{text_next, after_answer, TakesText};
@@ -59,7 +59,7 @@ fn pieces_of_lines<'a, L: Listing>(
     standing: Standing,
     groups: &'a [Vec<Lines>],
 ) -> Result<Vec<TextPiece<'a>>, ReportFault>
-    ensures { (rows : List R) → AreLinesOf L.form rows (all_in groups.now)
+    ensures { (rows : List R) → AreLinesOf L.form rows groups.now
         → IfOk result (λ pieces. whole_text pieces.items ≡ text_next L.form standing rows) }
 {
     let mut pieces = put_in_order(alloc, groups)?.into_pieces()?;
@@ -216,11 +216,11 @@ impl<'a, L: Listing, O: Outlet> ListingSink<'a, L, O> {
         ensures outlet { AreOverOne self.old self.new }
         ensures standing { StandsAsBefore self.old self.new }
         ensures failures { O.failures (outlet_under self.new) ≡ O.failures (outlet_under self.old) + stops_in result }
-        ensures text { (rows : List R) → AreLinesOf L.form rows (all_in groups.now)
+        ensures text { (rows : List R) → AreLinesOf L.form rows groups.now
             → PutsText O.taken self.old (text_next L.form (standing_of self.old) rows) result self.new }
         ensures told { stage_at (after_answer result) (written_by self.new) ≡ stage_after result }
         ensures left { LeavesOutlet self.old result self.new }
-        ensures gathered { (rows : List R) → AreLinesOf L.form rows (all_in groups.now)
+        ensures gathered { (rows : List R) → AreLinesOf L.form rows groups.now
             → IfOk result (λ _. Gathers self.old (text_next L.form (standing_of self.old) rows) self.new) }
     {
         match pieces_of_lines::<L>(alloc, self.standing, groups) {
@@ -369,14 +369,12 @@ impl<'a, L: Listing, O: Outlet> RowSink for ListingSink<'a, L, O> {
 
 impl<'a, L: Listing, O: Outlet> KeptSink<Lines> for ListingSink<'a, L, O> {
     ghost use Rattle.std.specs.Prelude.{MatchResult};
-    ghost use Rattle.srm_interfaces.specs.InTurn.{KeepInTurn};
     ghost use Rattle.srm_interfaces.specs.Sinks.{IsOpen, stage_after, stops_in};
-    ghost use Rattle.srm_report.specs.KeptLines.{lines_of};
     ghost use Rattle.srm_report.specs.ListingSinks.{stage_of, standing_of, has_begun, outlet_under, AreOverOne, Gathers, LeavesOutlet, PutsRows, PutsPart};
 
-    ghost keeps = { λ k rows. k ≡ lines_of L.form rows };
+    ghost keeps = { λ groups rows. AreLinesOf L.form rows groups };
 
-    /// Writes the lines of the rows that come next after those before, as `rows` does, of the lines of each member.
+    /// Writes the lines of the rows that come next after those before, as `rows` does, of the lines of the members.
     fn kept(&mut self, alloc: Global, groups: &mut [Vec<Lines>]) -> Result<(), SinkFault>
         requires open { IsOpen (stage_of self.old) }
         requires failures { O.failures (outlet_under self.old) < 2 ^ 64 - 1 }
@@ -384,11 +382,11 @@ impl<'a, L: Listing, O: Outlet> KeptSink<Lines> for ListingSink<'a, L, O> {
         ensures stage { stage_of self.new ≡ stage_after result }
         ensures failures { O.failures (outlet_under self.new) ≡ O.failures (outlet_under self.old) + stops_in result }
         ensures each { sizes groups.new ≡ sizes groups.old }
-        ensures rows { (rows : List R) → AreLinesOf L.form rows (all_in groups.old)
+        ensures rows { (rows : List R) → AreLinesOf L.form rows groups.old
             → MatchResult result (λ _. PutsRows O.taken L.form self.old rows self.new)
             (λ _. PutsPart O.taken L.form self.old rows self.new) }
         ensures left { LeavesOutlet self.old result self.new }
-        ensures gathered { (rows : List R) → AreLinesOf L.form rows (all_in groups.old)
+        ensures gathered { (rows : List R) → AreLinesOf L.form rows groups.old
             → IfOk result (λ _. Gathers self.old (text_next L.form (standing_of self.old) rows) self.new) }
         ensures begun { has_begun self.new ≡ true }
     {

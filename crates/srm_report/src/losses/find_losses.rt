@@ -2,7 +2,7 @@
 use crate::losses::by_loss::ByLoss;
 use crate::losses::courses::note;
 use crate::losses::member_losses::MemberLosses;
-use srm_interfaces::watch::Watch;
+use srm_interfaces::watch::{MemberWatch, Watch};
 use srm_member::row::Row;
 use std::alloc::{AllocError, Global};
 
@@ -14,9 +14,12 @@ pub struct FindLosses {
 }
 
 impl Watch<MemberLosses> for FindLosses {
+    ghost use Rattle.std.specs.Prelude.{◌≡◌};
     ghost use Rattle.srm_report.specs.KeptLosses.{KeepsLosses};
 
     ghost keeps = { λ _ k rows. KeepsLosses rows k };
+
+    ghost closes = { λ _ old new. new ≡ old };
 
     fn none(&self) -> MemberLosses {
         MemberLosses {
@@ -34,4 +37,12 @@ impl Watch<MemberLosses> for FindLosses {
         }
         Ok(())
     }
+
+    fn close(&self, _kept: &mut [MemberLosses]) -> Result<(), AllocError> {
+        Ok(())
+    }
+}
+
+impl MemberWatch<MemberLosses> for FindLosses {
+    ghost stays = { λ w old new h. h };
 }

@@ -1,6 +1,6 @@
 //! The watch that counts what the rows of a member say of it.
 use crate::members::member_count::MemberCount;
-use srm_interfaces::watch::Watch;
+use srm_interfaces::watch::{MemberWatch, Watch};
 use srm_member::row::Row;
 use std::alloc::AllocError;
 
@@ -9,9 +9,12 @@ use std::alloc::AllocError;
 pub struct CountRows;
 
 impl Watch<MemberCount> for CountRows {
+    ghost use Rattle.std.specs.Prelude.{◌≡◌};
     ghost use Rattle.srm_report.specs.MemberCounts.{IsCountOf};
 
     ghost keeps = { λ _ k rows. IsCountOf rows k };
+
+    ghost closes = { λ _ old new. new ≡ old };
 
     fn none(&self) -> MemberCount {
         MemberCount::new()
@@ -31,4 +34,12 @@ impl Watch<MemberCount> for CountRows {
         }
         Ok(())
     }
+
+    fn close(&self, _kept: &mut [MemberCount]) -> Result<(), AllocError> {
+        Ok(())
+    }
+}
+
+impl MemberWatch<MemberCount> for CountRows {
+    ghost stays = { λ w old new h. h };
 }

@@ -1,6 +1,6 @@
 //! The watch that keeps what a member's rows tell of operations.
 use crate::operations::member_operations::MemberOperations;
-use srm_interfaces::watch::Watch;
+use srm_interfaces::watch::{MemberWatch, Watch};
 use srm_member::row::Row;
 use std::alloc::{AllocError, Global};
 
@@ -12,9 +12,12 @@ pub struct FindOperations {
 }
 
 impl Watch<MemberOperations> for FindOperations {
+    ghost use Rattle.std.specs.Prelude.{◌≡◌};
     ghost use Rattle.srm_report.specs.KeptOperations.{KeepsOperations};
 
     ghost keeps = { λ _ k rows. KeepsOperations rows k };
+
+    ghost closes = { λ _ old new. new ≡ old };
 
     fn none(&self) -> MemberOperations {
         MemberOperations::new(self.alloc)
@@ -34,4 +37,12 @@ impl Watch<MemberOperations> for FindOperations {
         }
         Ok(())
     }
+
+    fn close(&self, _kept: &mut [MemberOperations]) -> Result<(), AllocError> {
+        Ok(())
+    }
+}
+
+impl MemberWatch<MemberOperations> for FindOperations {
+    ghost stays = { λ w old new h. h };
 }

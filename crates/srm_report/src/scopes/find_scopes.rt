@@ -1,6 +1,6 @@
 //! The watch that keeps what a member's rows tell of scopes.
 use crate::scopes::member_scopes::MemberScopes;
-use srm_interfaces::watch::Watch;
+use srm_interfaces::watch::{MemberWatch, Watch};
 use srm_member::row::Row;
 use std::alloc::{AllocError, Global};
 
@@ -12,9 +12,12 @@ pub struct FindScopes {
 }
 
 impl Watch<MemberScopes> for FindScopes {
+    ghost use Rattle.std.specs.Prelude.{◌≡◌};
     ghost use Rattle.srm_report.specs.KeptScopes.{KeepsScopes};
 
     ghost keeps = { λ _ k rows. KeepsScopes rows k };
+
+    ghost closes = { λ _ old new. new ≡ old };
 
     fn none(&self) -> MemberScopes {
         MemberScopes::new(self.alloc)
@@ -30,4 +33,12 @@ impl Watch<MemberScopes> for FindScopes {
         }
         Ok(())
     }
+
+    fn close(&self, _kept: &mut [MemberScopes]) -> Result<(), AllocError> {
+        Ok(())
+    }
+}
+
+impl MemberWatch<MemberScopes> for FindScopes {
+    ghost stays = { λ w old new h. h };
 }

@@ -5,6 +5,7 @@ use Rattle.srm_cell.specs.declared.cell.Cell.{Cell}
 use Rattle.srm_cell.specs.Setting.{traffic_of}
 use Rattle.srm_cell.specs.Hearing.{packets_in, AllMayHear}
 use Rattle.srm_interfaces.specs.Hearers.{GroupsHear, GroupsMayHear}
+use Rattle.srm_interfaces.specs.Watches.{KeepClosed}
 use Rattle.srm_crew.specs.Pieces.{AreHearersOf, HeardTogether}
 use Rattle.srm_crew.proofs.Hearers.{hearers_may, hearers_heard, hearers_gave, if_ok_then}
 use Rattle.srm_interfaces.proofs.InPieces.{all_each}
@@ -33,15 +34,16 @@ work_in_team-requires-clause-ready g c =
     let k = c.args.work.session.scenario.now in
     let net = c.args.work.session.net.now in
     let may = λ (v : Vec (Cell _)). AllMayHear g.M.Participant.plain (traffic_of k net) (packets_in c.args.sent.items) v.items in
-    hearers_may g.M.Participant.plain (g.W.Watch.keeps c.args.work.watch) k net c.args.sent.items c.in_ok-pieces.pieces.items
+    hearers_may g.M.Participant.plain (KeepClosed (g.W.Watch.keeps c.args.work.watch) (g.W.Watch.closes c.args.work.watch))
+    k net c.args.sent.items c.in_ok-pieces.pieces.items
     c.in_ok-given.given.items
     c.in_ok-given.ensures c.requires.sent
     (all_each may c.in_ok-pieces.pieces.items (subst (All may) (sym c.in_ok-pieces.ensures.all) c.requires.groups))
 
 pub heard_of-requires : goal.heard_of-requires
 heard_of-requires g c =
-    hearers_heard g.M.Participant.plain (g.W.Watch.keeps c.args.work.watch) c.args.work.session.scenario.now
-    c.args.work.session.net.now c.args.sent.items
+    hearers_heard g.M.Participant.plain (KeepClosed (g.W.Watch.keeps c.args.work.watch) (g.W.Watch.closes c.args.work.watch))
+    c.args.work.session.scenario.now c.args.work.session.net.now c.args.sent.items
     c.in_ok-pieces.pieces.items
     c.in_ok-given.given.items c.in_ok-all.all.items c.in_ok-given.ensures c.in_ok-all.ensures.given
 
@@ -53,7 +55,8 @@ returns-clause-heard g c =
     if_ok_then (λ (v : Vec (Vec (Cell _))). HeardTogether c.in_ok-all.all.items v.items)
     (λ (v : Vec (Vec (Cell _))). GroupsHear g.M.Participant.plain (traffic_of k net) ps c.args.groups.items v.items)
     (λ v h. subst (λ l. GroupsHear g.M.Participant.plain (traffic_of k net) ps l v.items) c.in_ok-pieces.ensures.all
-    (hearers_gave g.M.Participant.plain (g.W.Watch.keeps c.args.work.watch) k net c.args.sent.items c.in_ok-pieces.pieces.items
+    (hearers_gave g.M.Participant.plain (KeepClosed (g.W.Watch.keeps c.args.work.watch) (g.W.Watch.closes c.args.work.watch))
+    k net c.args.sent.items c.in_ok-pieces.pieces.items
     c.in_ok-given.given.items c.in_ok-all.all.items
     v.items c.in_ok-given.ensures c.in_ok-all.ensures.given h))
     c.heard_of.result c.heard_of.ensures

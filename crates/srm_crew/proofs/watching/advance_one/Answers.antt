@@ -9,9 +9,10 @@ use Rattle.srm_cell.specs.declared.sent.Sent.{Sent}
 use Rattle.srm_cell.specs.Hearing.{IsSent, packets_in}
 use Rattle.srm_cell.specs.Setting.{traffic_of}
 use Rattle.srm_cell.specs.Totalled.{numbers_of}
+use Rattle.srm_interfaces.specs.Watches.{IsClosed, KeepClosed}
 use Rattle.srm_crew.specs.Watched.{IsOfMember}
 use Rattle.srm_crew.proofs.WatchedCells.{CellsSoFar, are_of_members, cells_all, cells_fault, cells_more, cells_none}
-use Rattle.srm_crew.proofs.WatchedCells.{cells_past, few_sent}
+use Rattle.srm_crew.proofs.WatchedCells.{cells_past, few_sent, if_ok}
 use Rattle.srm_crew.proofs.watching.advance_one.Goals as goal
 
 pub loop-cell-init : goal.loop-cell-init
@@ -59,10 +60,10 @@ returns-in-Err g c =
     let own = All-head (IsOfMember g.M.Participant.plain (length c.args.work.now.session.net.now.hosts)) _ _
     (rw (drop_more cells i c.cell-item.result within) at c.loop-cell.invariant.4) in
     cells_fault g.M.Participant.plain (g.W.Watch.keeps c.args.work.now.watch) c.args.work.now.session.scenario.now
-    c.args.work.now.session.net.now c.args.job (take i cells) (drop (i + 1) cells) (take i c.args.job.kept.items)
-    (take i c.loop-cell.kept.items) c.loop-cell.sent.items cell
-    c.run_watched.new.cell c.in-Err.fault (rw (drop_more cells i c.cell-item.result within) at c.loop-cell.invariant.5)
-    (λ ne. c.in-Err.ensures.refused ne own.0)
+    c.args.work.now.session.net.now c.args.job
+    (KeepClosed (g.W.Watch.keeps c.args.work.now.watch) (g.W.Watch.closes c.args.work.now.watch)) (take i cells) (drop (i + 1) cells)
+    (take i c.args.job.kept.items) (take i c.loop-cell.kept.items) c.loop-cell.sent.items cell c.run_watched.new.cell c.in-Err.fault
+    (rw (drop_more cells i c.cell-item.result within) at c.loop-cell.invariant.5) (λ ne. c.in-Err.ensures.refused ne own.0)
 
 pub loop-cell-preserved : goal.loop-cell-preserved
 loop-cell-preserved g c =
@@ -146,23 +147,31 @@ returns g c =
     let cells = c.loop-cell.cell-items in
     let was = c.args.job.kept.items in
     let now = c.loop-cell.kept.items in
+    let new = c.close.new.kept in
     let sent = c.loop-cell.sent.items in
     let many : length cells ≡ length was = c.loop-cell.invariant.1 in
     let same = c.loop-cell.auto.cell-items in
     let past = c.loop-cell-test.false in
     let within = c.loop-cell.auto.cell-index-end in
     let all : i ≡ length cells = omega arith in
-    cells_all f keeps k net c.args.job
+    let shown = c.as_mut_slice.ensures.value in
+    let closed = if_ok c.close.result (g.W.Watch.closes c.args.work.now.watch c.as_mut_slice.result.now new)
+    (sym c.is_err.ensures.value ∙ c.if-is_err.false) c.close.ensures.closed in
+    let long : length new ≡ length now = c.close.ensures.long ∙ ap length shown in
+    let held : (with_items c.loop-cell.kept new).items ≡ new = with_items_is c.loop-cell.kept new (long ∙ sym c.loop-cell.kept.ok.0) in
+    cells_all f keeps k net c.args.job (g.W.Watch.closes c.args.work.now.watch) now
     (record {
       place = c.args.job.place;
       cells = with_items c.args.job.cells cells;
-      kept = c.loop-cell.kept;
+      kept = with_items c.loop-cell.kept new;
       sent = c.loop-cell.sent;
       crossings = c.in-Ok-of.crossings;
     }) refl
     (subst (λ xs. CellsSoFar f keeps k net c.args.job xs [] was now sent)
     (sym (with_items_is c.args.job.cells cells (many ∙ c.requires.kept ∙ sym c.args.job.cells.ok.0)))
     (cells_past f keeps k net c.args.job i cells was now sent all many c.loop-cell.invariant.2 c.loop-cell.invariant.5))
+    (subst (IsClosed (g.W.Watch.closes c.args.work.now.watch) now) (sym held)
+    (long, subst (λ xs. g.W.Watch.closes c.args.work.now.watch xs new) shown closed))
     c.loop-cell.invariant.6
     (c.in-Ok-of.ensures.counted
     ∙ ap (λ (xs : List Sent). numbers_of (traffic_of k net) (packets_in xs)) c.as_slice.ensures.value)

@@ -4,7 +4,7 @@ use Rattle.std.proofs.lemmas.List.{length-map}
 use Rattle.srm_cell.specs.declared.job.Job.{Job}
 use Rattle.srm_cell.specs.Jobs.{MayAdvance}
 use Rattle.srm_interfaces.specs.Crews.{AreDone}
-use Rattle.srm_interfaces.specs.Watches.{jobs_in, job_in}
+use Rattle.srm_interfaces.specs.Watches.{KeepClosed, jobs_in, job_in}
 use Rattle.srm_engine.specs.ByRows.{LeftEach}
 use Rattle.srm_engine.proofs.Leaving.{left_of_jobs, may_leave}
 use Rattle.srm_engine.proofs.WatchedLemmas.{places_in}
@@ -48,12 +48,13 @@ returns-in-Ok-leave-clause-done g c =
     let k = c.args.session.scenario.now in
     let net = c.args.session.net.now in
     let ds = c.in-Ok-map.done.0.items in
+    let takes = KeepClosed (g.W.Watch.keeps c.args.watch) (g.W.Watch.closes c.args.watch) in
     let told = c.in-Ok-map.ensures.done in (
       ds,
       subst (λ l. AreDone f k net l ds) c.in-Ok.ensures.jobs told.0,
       told.1,
-      left_of_jobs (g.W.Watch.keeps c.args.watch) k net js ds c.in-Ok-leave.left.items
-          (subst (λ l. LeftEach (g.W.Watch.keeps c.args.watch) k net l ds c.in-Ok-leave.left.items) c.in-Ok.ensures.kept
+      left_of_jobs takes k net js ds c.in-Ok-leave.left.items
+          (subst (λ l. LeftEach takes k net l ds c.in-Ok-leave.left.items) c.in-Ok.ensures.kept
           c.in-Ok-leave.ensures),
     )
 

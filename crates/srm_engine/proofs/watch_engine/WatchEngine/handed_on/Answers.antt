@@ -2,7 +2,7 @@ use Rattle.std.proofs.Common.{All, [], sym, subst, arith}
 use Rattle.std.specs.Vec.{with_items}
 use Rattle.std.proofs.lemmas.List.{with_items_is}
 use Rattle.srm_engine.specs.Groups.{all_in}
-use Rattle.srm_engine.proofs.WatchedLemmas.{none_kept}
+use Rattle.srm_interfaces.proofs.WatchLemmas.{none_kept}
 use Rattle.srm_engine.proofs.watch_engine.WatchEngine.handed_on.Goals as goal
 
 pub returns-clause-none : goal.returns-clause-none

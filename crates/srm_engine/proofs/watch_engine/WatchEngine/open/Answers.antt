@@ -1,6 +1,6 @@
 use Rattle.std.proofs.Common.{◌∙◌, ap}
 use Rattle.srm_engine.specs.Groups.{all_in, sizes}
-use Rattle.srm_engine.proofs.WatchedLemmas.{none_kept}
+use Rattle.srm_interfaces.proofs.WatchLemmas.{none_kept}
 use Rattle.srm_engine.proofs.watch_engine.WatchEngine.open.Goals as goal
 
 pub returns-clause-stands : goal.returns-clause-stands

@@ -11,9 +11,8 @@ use Rattle.srm_engine.specs.declared.halt.Halt.TheVariants.{Sink}
 use Rattle.srm_engine.specs.Ends.{ends_rule}
 use Rattle.srm_engine.specs.Streams.{TellsHalt}
 use Rattle.srm_engine.specs.Windowed.{MayCome}
-use Rattle.srm_engine.specs.WatchEngines.{kept_by}
 use Rattle.srm_engine.specs.WindowEngines.{BeginsNext, ComesTo, frame_of, setting_by, rule_by}
-use Rattle.srm_engine.proofs.KeptTurns.{keep_as, kept_in_turn, kept_stopped}
+use Rattle.srm_engine.proofs.KeptTurns.{kept_in_turn, kept_stopped}
 use Rattle.srm_engine.proofs.Stepping.{opening_reached, opening_trace}
 use Rattle.srm_engine.proofs.WindowLemmas.{reached, is_last}
 use Rattle.srm_engine.proofs.watch_engine.WatchEngine.stream.Goals as goal
@@ -91,6 +90,7 @@ pub returns-in-Err-handed_on-clause-windows : goal.returns-in-Err-handed_on-clau
 returns-in-Err-handed_on-clause-windows g c = λ seed h.
     let f = g.M.Participant.plain in
     let keeps = g.W.Watch.keeps c.args.watch in
+    let closes = g.W.Watch.closes c.args.watch in
     let v = c.loop-begin.invariant in
     let i = v.windows seed h in
     let e = c.loop-begin.ran.engine in
@@ -98,9 +98,9 @@ returns-in-Err-handed_on-clause-windows g c = λ seed h.
     let told = (c.in-Ok.ensures.window seed i.0 i.1 i.2).0 in
     let u = told.0 in
     let rows = told.2.0 in
-    let kept = told.2.3 [] v.none in
-    let turn = kept_in_turn f g.S.KeptSink.keeps ended c.in-Ok.ensures.stands seed (i.0 ++ i.1 ∷ []) u told.1 i.1.trace rows
-    told.2.1 (keep_as keeps g.S.KeptSink.keeps c.requires.keeps 0 (kept_by ended) rows kept) in
+    let turn = c.requires.keeps ended.kept.items rows
+    (kept_in_turn f keeps closes ended c.in-Ok.ensures.stands seed (i.0 ++ i.1 ∷ []) u told.1 i.1.trace rows told.2.1 (told.2.3 [] v.none))
+    in
     subst (λ (k : Session × ℕ × Ends). TellsHalt g.S.RowSink.took g.S.RowSink.part
     (MayCome (setting_on k.0 seed) (ends_rule (setting_on k.0 seed) k.2) k.1) (setting_on k.0 seed)
     c.args.sink.now (Sink c.in-Err-handed_on.fault) c.handed_on.new.sink) v.frame
@@ -122,6 +122,7 @@ pub loop-begin-preserved : goal.loop-begin-preserved
 loop-begin-preserved g c =
     let f = g.M.Participant.plain in
     let keeps = g.W.Watch.keeps c.args.watch in
+    let closes = g.W.Watch.closes c.args.watch in
     let v = c.loop-begin.invariant in
     let ended = c.in-Ok.ended in
     let done = c.in-Ok.ensures in
@@ -144,8 +145,9 @@ loop-begin-preserved g c =
           let both = done.window seed i.0 i.1 i.2 in
           let told = both.0 in
           let rows = told.2.0 in
-          let turn = kept_in_turn f g.S.KeptSink.keeps ended done.stands seed (i.0 ++ i.1 ∷ []) told.0 told.1 i.1.trace rows
-          told.2.1 (keep_as keeps g.S.KeptSink.keeps c.requires.keeps 0 (kept_by ended) rows (told.2.3 [] v.none)) in
+          let turn = c.requires.keeps ended.kept.items rows
+          (kept_in_turn f keeps closes ended done.stands seed (i.0 ++ i.1 ∷ []) told.0 told.1 i.1.trace rows told.2.1
+          (told.2.3 [] v.none)) in
           let rule = rule_by e seed in
           let calls = subst (λ l. g.C.WatchCrew.handed c.args.crew.now l c.window.new.crew)
           (sym ((calls_follow rule e.groups.cut).1 i.0 i.1))

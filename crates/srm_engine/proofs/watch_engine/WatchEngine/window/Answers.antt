@@ -9,6 +9,7 @@ use Rattle.srm_model.specs.WindowRuns.{cells_in, each_hears, jobs_of, AreNewInTu
 use Rattle.srm_model.proofs.OneWindow.{some_merge}
 use Rattle.srm_net.specs.Orders.{ordered}
 use Rattle.srm_interfaces.specs.Watches.{job_in, jobs_in, KeepMembers}
+use Rattle.srm_interfaces.specs.InTurn.{WereClosed}
 use Rattle.srm_engine.specs.Groups.{all_in, groups_of, sizes, lists_of, some_of, AreCuts, AreGrouped, RanGroups}
 use Rattle.srm_engine.specs.Seen.{plain_cells}
 use Rattle.srm_engine.specs.Soonest.{soonest_of}
@@ -29,7 +30,7 @@ use Rattle.srm_engine.proofs.watch_engine.WatchEngine.window.Goals as goal
 pub map-requires-clause-may : goal.map-requires-clause-may
 map-requires-clause-may g c =
     let js = c.in_ok-jobs.jobs.items in
-    let told = watched_tell_now g.M.Participant.plain (g.W.Watch.keeps c.args.watch) c.args.self c.requires.stands c.end-end.result
+    let told = watched_tell_now g.M.Participant.plain c.args.self c.requires.stands c.end-end.result
     c.end-end.ensures js c.in_ok-jobs.ensures in
     let long = length-map js job_in in
     let k = c.requires.stands.under_way in record {
@@ -44,13 +45,13 @@ map-requires-clause-may g c =
 
 pub unwrap-requires : goal.unwrap-requires
 unwrap-requires g c = rw c.of.ensures (of_a_window c.in-Err.fault (λ spent.
-    let j = watched_tell_now g.M.Participant.plain (g.W.Watch.keeps c.args.watch) c.args.self c.requires.stands c.end-end.result
+    let j = watched_tell_now g.M.Participant.plain c.args.self c.requires.stands c.end-end.result
     c.end-end.ensures c.in_ok-jobs.jobs.items c.in_ok-jobs.ensures in
     j.not_spent (subst (AnyEnds Spent) j.seen (rw spent at c.in-Err.ensures.done))))
 
 pub returns-in-Err-clause-window : goal.returns-in-Err-clause-window
 returns-in-Err-clause-window g c = λ seed begins w comes.
-    let j = watched_tell g.M.Participant.plain (g.W.Watch.keeps c.args.watch) c.args.self c.requires.stands seed begins w comes
+    let j = watched_tell g.M.Participant.plain c.args.self c.requires.stands seed begins w comes
     c.end-end.result c.end-end.ensures c.in_ok-jobs.jobs.items c.in_ok-jobs.ensures in
     map_refused g.M.Participant.plain c.args.self.engine seed c.end-end.result w (jobs_in c.in_ok-jobs.jobs.items) j c.in-Err.fault
     c.unwrap.result (sym c.of.ensures ∙ c.unwrap.ensures) c.in-Err.ensures.done
@@ -59,7 +60,7 @@ pub look_again-groups-requires : goal.look_again-groups-requires
 look_again-groups-requires g c =
     let k = c.requires.stands.under_way in
     let e = c.args.self.engine in
-    let left = watch_ran_now g.M.Participant.plain (g.W.Watch.keeps c.args.watch) c.args.self c.requires.stands c.end-end.result
+    let left = watch_ran_now g.M.Participant.plain c.args.self c.requires.stands c.end-end.result
     c.end-end.ensures c.in_ok-jobs.jobs.items c.in_ok-jobs.ensures c.in-Ok.done c.in-Ok.ensures.done in
     let ran = left.ran in
     let same = c.in_ok-groups.ensures.groups ∙ left.groups in
@@ -86,7 +87,7 @@ look_again-groups-requires g c =
 pub heard_from-requires-clause-sent : goal.heard_from-requires-clause-sent
 heard_from-requires-clause-sent g c =
     rw c.in_ok-groups.ensures.sent
-    (watch_ran_now g.M.Participant.plain (g.W.Watch.keeps c.args.watch) c.args.self c.requires.stands c.end-end.result
+    (watch_ran_now g.M.Participant.plain c.args.self c.requires.stands c.end-end.result
     c.end-end.ensures c.in_ok-jobs.jobs.items c.in_ok-jobs.ensures c.in-Ok.done c.in-Ok.ensures.done).sent
 
 pub heard_from-requires-clause-may : goal.heard_from-requires-clause-may
@@ -95,7 +96,7 @@ heard_from-requires-clause-may g c =
     let e = c.args.self.engine in
     let w = k.world in
     let ds = c.in-Ok.ensures.done.0 in
-    let left = watch_ran_now g.M.Participant.plain (g.W.Watch.keeps c.args.watch) c.args.self c.requires.stands c.end-end.result
+    let left = watch_ran_now g.M.Participant.plain c.args.self c.requires.stands c.end-end.result
     c.end-end.ensures c.in_ok-jobs.jobs.items c.in_ok-jobs.ensures c.in-Ok.done c.in-Ok.ensures.done in
     let ran = left.ran in
     let f = g.M.Participant.plain in
@@ -126,8 +127,8 @@ returns-clause-window g c = λ seed begins w comes.
     let at = c.end-end.ensures in
     let done = c.in-Ok.ensures.done in
     let ds = done.0 in
-    let j = watched_tell f keeps c.args.self c.requires.stands seed begins w comes till at c.in_ok-jobs.jobs.items c.in_ok-jobs.ensures in
-    let left = watch_ran f keeps c.args.self c.requires.stands seed begins w comes till at c.in_ok-jobs.jobs.items c.in_ok-jobs.ensures
+    let j = watched_tell f c.args.self c.requires.stands seed begins w comes till at c.in_ok-jobs.jobs.items c.in_ok-jobs.ensures in
+    let left = watch_ran f c.args.self c.requires.stands seed begins w comes till at c.in_ok-jobs.jobs.items c.in_ok-jobs.ensures
     c.in-Ok.done done in
     let ran = left.ran in
     let s = setting_by e seed in
@@ -156,9 +157,14 @@ returns-clause-window g c = λ seed begins w comes.
           refl,
           merge.in_order,
           λ before so_far.
-              subst (λ l. KeepMembers keeps 0 (all_in l) (before ++ rows)) (sym c.in_ok-groups.ensures.kept)
-              (kept_after f e k seed begins w comes till at ds ran rows (merge.all, merge.in_order) keeps before (kept_by c.args.self) _
-              so_far left.kept),
+              subst (WereClosed (g.W.Watch.closes c.args.watch) (λ kept. KeepMembers keeps 0 kept (before ++ rows)))
+              (sym c.in_ok-groups.ensures.kept)
+              (record {
+                full = left.kept.full;
+                closed = left.kept.closed;
+                so = kept_after f e k seed begins w comes till at ds ran rows (merge.all, merge.in_order) keeps before
+                    (kept_by c.args.self) (joined left.kept.full) so_far left.kept.so;
+              }),
         ),
       ),
       subst (λ n. g.C.WatchCrew.handed c.args.crew.now (jobs_of cut n w ∷ []) c.heard_from.new.crew)
@@ -172,7 +178,7 @@ returns-clause-window g c = λ seed begins w comes.
 pub returns-clause-stands : goal.returns-clause-stands
 returns-clause-stands g c =
     let k = c.requires.stands.under_way in
-    let left = watch_ran_now g.M.Participant.plain (g.W.Watch.keeps c.args.watch) c.args.self c.requires.stands c.end-end.result
+    let left = watch_ran_now g.M.Participant.plain c.args.self c.requires.stands c.end-end.result
     c.end-end.ensures c.in_ok-jobs.jobs.items c.in_ok-jobs.ensures c.in-Ok.done c.in-Ok.ensures.done in
     let told = (returns-clause-window g c k.seed k.begins k.world k.comes).0 in record {
       under_way = record {
@@ -194,7 +200,7 @@ returns-clause-later g c = λ next at.
     let k = c.requires.stands.under_way in
     let e = c.args.self.engine in
     let ds = c.in-Ok.ensures.done.0 in
-    let ran = (watch_ran g.M.Participant.plain (g.W.Watch.keeps c.args.watch) c.args.self c.requires.stands k.seed k.begins k.world k.comes
+    let ran = (watch_ran g.M.Participant.plain c.args.self c.requires.stands k.seed k.begins k.world k.comes
     c.end-end.result c.end-end.ensures c.in_ok-jobs.jobs.items c.in_ok-jobs.ensures c.in-Ok.done c.in-Ok.ensures.done).ran in
     let lists = some_of (lists_of ds) in
     let rows = ordered row_cmp (joined lists) in

@@ -1,7 +1,9 @@
 use Rattle.std.proofs.Common.{◌∙◌, ◌<◌, ℕ, List, sym, ◌++◌, ◌∷◌, [], arith, ap, subst, refl}
 use Rattle.srm_scenario.specs.declared.session.Session.{Session}
 use Rattle.srm_member.specs.declared.row.Row.{Row}
-use Rattle.srm_interfaces.specs.Watches.{MayLead}
+use Rattle.srm_interfaces.specs.Watches.{KeepMembers, MayLead}
+use Rattle.srm_interfaces.specs.InTurn.{WereClosed}
+use Rattle.srm_interfaces.proofs.GroupedLemmas.{still_so}
 use Rattle.srm_engine.specs.Starts.{setting_on}
 use Rattle.srm_engine.specs.declared.ends.Ends.{Ends}
 use Rattle.srm_engine.specs.Ends.{ends_rule}
@@ -72,6 +74,8 @@ loop-begin-preserved g c = record {
   next = c.begin-begin-in-loop-begin.ensures;
   windows = λ seed h none.
       let i = c.loop-begin.invariant.windows seed h none in
+      let keeps = g.W.Watch.keeps c.args.watch in
+      let closes = g.W.Watch.closes c.args.watch in
       let e = c.loop-begin.ran.engine in
       let told = c.in-Ok.ensures.window seed i.0 i.1 i.2 in
       let rule = rule_by e seed in
@@ -80,7 +84,9 @@ loop-begin-preserved g c = record {
         i.0 ++ i.1 ∷ [],
         told.0.0,
         told.0.1,
-        subst (KeepsRows (g.W.Watch.keeps c.args.watch) c.in-Ok.next) (sym told.0.2.1) (told.0.2.3 i.1.trace i.3),
+        still_so closes (g.met.W.MemberWatch.stays c.args.watch) (λ kept. KeepMembers keeps 0 kept told.0.0.trace) c.in-Ok.next.kept.items
+            (subst (λ (l : List Row). WereClosed closes (λ kept. KeepMembers keeps 0 kept l) c.in-Ok.next.kept.items) (sym told.0.2.1)
+            (told.0.2.3 i.1.trace i.3)),
         subst (λ (k : Session × ℕ × Ends). g.C.WatchCrew.handed c.args.crew.now
             (window_jobs (ends_rule (setting_on k.0 seed) k.2) k.1 (i.0 ++ i.1 ∷ [])) c.window.new.crew) (sym c.in-Ok.ensures.frame)
             calls,

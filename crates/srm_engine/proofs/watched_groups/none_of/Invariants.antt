@@ -1,5 +1,0 @@
-use Rattle.std.proofs.Common.{◌≡◌, [], All, length}
-use Rattle.srm_engine.proofs.watched_groups.none_of.Given as goal
-
-abbrev pub invariant-loop : goal.invariant-loop
-invariant-loop g l = (length l.own.items ≡ l.counter) × All (λ k. g.W.Watch.keeps l.watch k []) l.own.items
