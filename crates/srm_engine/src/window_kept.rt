@@ -23,10 +23,10 @@ use std::alloc::Global;
 use std::marker::Copy;
 
 /// The run of a scenario in windows of time, as [`window_stream`](crate::window_stream::window_stream)'s, but no row leaves the
-/// worker that made it: the sink is handed, as each window ends, what the watch keeps of each member's rows of that window, closed
-/// job by job, in order of the members' numbers. What it took is the trace of the sequential run all the same. What is answered are
-/// the crossings and drops of the trace's packets. The members are dropped, and not asked what they end with: once the sink took the
-/// last row, no memory is asked for.
+/// worker that made it: the sink is handed, as each window ends, what the watch keeps of each member's rows of that window,
+/// closed job by job, in order of the members' numbers. What it took is the trace of the sequential run all the same. What is
+/// answered are the crossings and drops of the trace's packets. The members are dropped, and not asked what they end with:
+/// once the sink took the last row, no memory is asked for.
 ///
 /// # Errors
 /// As of [`window_stream`](crate::window_stream::window_stream), but `Run` with `NoMemory` only where something is left undone: the

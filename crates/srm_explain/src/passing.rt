@@ -37,7 +37,8 @@ fn passed_at(table: &Table, rule: Rule) -> Option<Finding>
     Some(Finding::Passed { rule, copy, number })
 }
 
-// By how much the number at a key of a table rises from copy to copy, if it rises. Of a loss, which alone has a rate, the link does.
+// By how much the number at a key of a table rises from copy to copy, if it rises. Of a loss, which alone has a rate,
+// the link does.
 fn rise_in(table: &Table, key: FileKey) -> Option<u64>
     ensures { result ≡ rise_in (table_view table.now) key }
 {

@@ -10,8 +10,9 @@ use srm_scenario::table::number;
 use std::alloc::{AllocError, Global};
 use toml::Table;
 
-/// What is remarked of the scenario that a text describes: of each constant of timers of 1 to 64 thousandths, which are the whole
-/// numbers that a constant may be, that it is told in thousandths; and the line in which it stands. Nothing is remarked of other texts.
+/// What is remarked of the scenario that a text describes: of each constant of timers of 1 to 64 thousandths, which are the
+/// whole numbers that a constant may be, that it is told in thousandths; and the line in which it stands. Nothing is remarked
+/// of other texts.
 ///
 /// # Errors
 /// [`AllocError`].

@@ -75,7 +75,8 @@ fn allows(rules: &[Rule], key: FileKey) -> bool
     rules.iter().any(|rule| rule.key.name() == key.name() && !matches!(rule.need, Need::Refused))
 }
 
-/// What follows the sentence of a finding: of a key that is not allowed the reason, and of an unknown one whether the top table has it.
+/// What follows the sentence of a finding: of a key that is not allowed the reason, and of an unknown one whether the top
+/// table has it.
 ///
 /// # Errors
 /// Memory ran out.

@@ -47,8 +47,8 @@ pub struct WatchedDone<M, K> {
 impl<M: Participant, K: Drop> WatchedDone<M, K> {
     ghost use Rattle.srm_interfaces.specs.Watches.{KeepClosed, Watches};
 
-    /// What is left of what is done of a job once a watch, which kept this of each cell's rows before, has seen the rows, and closed
-    /// what it keeps.
+    /// What is left of what is done of a job once a watch, which kept this of each cell's rows before, has seen the rows,
+    /// and closed what it keeps.
     ///
     /// # Errors
     /// [`AllocError`]: the cells are gone.

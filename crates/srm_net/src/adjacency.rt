@@ -9,8 +9,8 @@ use crate::earlier::Earlier;
 use crate::link::LinkSpec;
 use std::alloc::{AllocError, Global};
 
-/// For each node the last link that meets it, and for each link the one before it at each of its ends. So the links that meet a node are
-/// found one after the other, the last of them first.
+/// For each node the last link that meets it, and for each link the one before it at each of its ends. So the links that meet
+/// a node are found one after the other, the last of them first.
 ///
 /// A link is told as one more than its number, and 0 tells that there is none.
 #[derive(Drop)]
