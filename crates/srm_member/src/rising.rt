@@ -1,5 +1,5 @@
 //! Finite maps from names, in one vector.
-ghost use Rattle.std.specs.Prelude.{◌≡◌, ◌≤◌, ◌↔◌, [], OnErr, OnOk, IfOk, IsTrue, length};
+ghost use Rattle.std.specs.Prelude.{◌≡◌, ◌≤◌, ◌↔◌, [], OnErr, OnOk, IfOk, IsTrue, length, insert};
 ghost use Rattle.std.specs.FinMap.Entries.{put, find};
 ghost use Rattle.srm_net.specs.Names.{name_cmp};
 ghost use Rattle.srm_member.specs.Places.{is_before, is_at, IsPlaceOf};
@@ -155,7 +155,7 @@ impl<V: Copy> Rising<V> {
             self.last = place;
             return Ok(Some(before));
         }
-        self.entries.insert(place, (name, value))?;
+        insert(&mut self.entries, place, (name, value))?;
         Ok(None)
     }
 
@@ -169,4 +169,19 @@ impl<V: Copy> Rising<V> {
         let entries: Vec<(Name, V)> = self.entries.iter().copied().collect(alloc)?;
         Ok(Sequence::from_vec(entries))
     }
+}
+
+// Puts an entry at a place. Those from there on move by one, together: `Vec::insert` moves them one after the other.
+fn insert<V: Copy>(
+    entries: &mut Vec<(Name, V)>,
+    place: usize,
+    entry: (Name, V),
+) -> Result<(), AllocError>
+    requires { place ≤ length entries.old.items }
+    ensures ok { OnOk result (entries.new.items ≡ insert entries.old.items place entry) }
+    ensures err { OnErr result (entries.new.items ≡ entries.old.items) }
+{
+    entries.push(entry)?;
+    entries.as_mut_slice()[place..].rotate_right(1);
+    Ok(())
 }

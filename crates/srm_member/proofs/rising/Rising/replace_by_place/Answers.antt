@@ -30,7 +30,7 @@ returns-clause-before g c =
 pub returns-clause-ok : goal.returns-clause-ok
 returns-clause-ok g c =
     let place = c.place-place.result in
-    c.in_ok-insert.ensures.items ∙ ap (λ es. insert es place (c.args.name, c.args.value)) c.self.view_is
+    c.in_ok-insert.ensures.ok ∙ ap (λ es. insert es place (c.args.name, c.args.value)) c.self.view_is
     ∙ sym (put_between name_cmp name_total tied_names c.args.name c.args.value c.args.self.now place c.place-place.ensures
     (sym c.is_at.ensures ∙ c.if-is_at.false))
 
