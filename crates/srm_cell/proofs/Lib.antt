@@ -2,6 +2,7 @@ pub mod Entries
 pub mod InboxLines
 pub mod Nexts
 pub mod Saying
+pub mod Answering
 pub mod OwnRunLemmas
 pub mod Pushes
 pub mod Putting

@@ -6,7 +6,8 @@ ghost use Rattle.srm_scenario.specs.Plain.{mark_cmp};
 ghost use Rattle.srm_cell.specs.Flights.{BringsNone};
 ghost use Rattle.srm_cell.specs.Cells.{hear_at, first_arrival, first_mark, next_timer, due_in};
 ghost use Rattle.srm_cell.specs.Views.{AreWaiting, IsNew, Becomes, Steps, Ends, IsNextOf, IsNextTime, TellsMember, known_in};
-ghost use Rattle.srm_cell.specs.InnerSteps.{StandsFor, TakesFirst, AnswersEvent};
+ghost use Rattle.srm_cell.specs.InnerSteps.{StandsFor, AnswersNext, AnswersEvent, HasAnswer, IsQuiet, Completes};
+ghost use Rattle.srm_member.specs.declared.cause.Cause.TheVariants as causes;
 ghost use Rattle.srm_cell.specs.PutRows.{PutsRow, PutsStep};
 ghost use Rattle.srm_cell.specs.Jobs.{Runs};
 ghost use Rattle.srm_cell.specs.Setting.{traffic_of};
@@ -30,6 +31,7 @@ use srm_member::fault::MemberFault;
 use srm_member::member::Member;
 use srm_member::participant::Participant;
 use srm_member::rare::Rare;
+use srm_member::react::React;
 use srm_member::row::{About, Row, Word};
 use srm_member::told::Told;
 use srm_net::key::Key;
@@ -176,14 +178,15 @@ impl<M: Participant> Cell<M> {
         if next.time >= till {
             return Ok(false);
         }
-        let Some((key, cause)) = self.take(next) else {
-            return Ok(false);
-        };
-        match self.answer(alloc, key, cause, rows) {
-            Ok(()) => {
-                self.next = self.least();
+        match self.answer(alloc, next, rows) {
+            Ok(true) => {
+                // By its fields: as a whole, what fills it up in memory would be copied too.
+                let Next { time, source } = self.least();
+                self.next.time = time;
+                self.next.source = source;
                 Ok(true)
             }
+            Ok(false) => Ok(false),
             Err(fault) => Err(fault),
         }
     }
@@ -223,52 +226,46 @@ impl<M: Participant> Cell<M> {
         ended(alloc, member)
     }
 
-    // Takes the next event, and gives its key and its cause; at a leave there is no cause.
-    #[inline(always)]
-    fn take(&mut self, next: Next) -> Option<(Key, Option<Cause>)>
-        ensures { TakesFirst M.plain next self.old result self.new }
+    // The next event is taken, and the member answers it. Tells whether there was one.
+    #[inline]
+    fn answer(&mut self, alloc: Global, next: Next, rows: &mut Vec<Row>) -> Result<bool, CellFault>
+        requires { next.time < end_of_time }
+        ensures { PutsStep (λ r. AnswersNext M.plain next self.old r self.new) rows.old.items result rows.new.items }
     {
         match next.source {
             Source::Inbox => {
-                let flight = self.inbox.pop_first()?;
-                let key = PendingEvent::arriving(self.number, next.time, flight.packet.id).key;
-                let cause = Cause::Arrival {
-                    packet: flight.packet,
+                let Some(flight) = self.inbox.pop_first() else {
+                    return Ok(false);
                 };
-                Some((key, Some(cause)))
+                let key = PendingEvent::arriving(self.number, next.time, flight.packet.id).key;
+                self.say_packet(alloc, key, flight.packet, rows)?;
+                Ok(true)
             }
             Source::Script => {
-                let mark = self.script.pop_first()?;
+                let Some(mark) = self.script.pop_first() else {
+                    return Ok(false);
+                };
                 let key = PendingEvent::marked(self.number, next.time, mark).key;
-                Some((key, cause_at(mark)))
+                match cause_at(mark) {
+                    Some(cause) => self.say(alloc, key, cause, rows)?,
+                    None => self.leave(alloc, key, rows)?,
+                }
+                Ok(true)
             }
             Source::Timer => {
-                let due = self.due()?;
+                let Some(due) = self.due() else {
+                    return Ok(false);
+                };
                 let key = PendingEvent::expiring(self.number, next.time, due).key;
-                Some((key, Some(expiry(due))))
+                self.say(alloc, key, expiry(due), rows)?;
+                Ok(true)
             }
-            Source::Nowhere => None,
+            Source::Nowhere => Ok(false),
         }
     }
 
-    // The member answers an event, or leaves where there is no cause. The row is put behind others.
-    fn answer(
-        &mut self,
-        alloc: Global,
-        key: Key,
-        cause: Option<Cause>,
-        rows: &mut Vec<Row>,
-    ) -> Result<(), CellFault>
-        requires { key.time < end_of_time }
-        ensures { PutsRow (λ r. AnswersEvent M.plain key cause self.old r self.new) rows.old.items result rows.new.items }
-    {
-        match cause {
-            Some(cause) => self.say(alloc, key, cause, rows),
-            None => self.leave(alloc, key, rows),
-        }
-    }
-
-    // The member reacts to a cause. Where it has no answer the cell holds no box then.
+    // The member reacts to a cause, and a row is put behind others.
+    #[inline(never)]
     fn say(
         &mut self,
         alloc: Global,
@@ -279,27 +276,71 @@ impl<M: Participant> Cell<M> {
         requires { key.time < end_of_time }
         ensures { PutsRow (λ r. AnswersEvent M.plain key (Some cause) self.old r self.new) rows.old.items result rows.new.items }
     {
-        let Some(mut member) = self.member.take() else {
+        let cause_word = word(&cause);
+        let reaction = self.ask(alloc, key, &cause)?;
+        let subject = about(cause, reaction.body());
+        let row = quiet_row(alloc, key, cause_word, subject, reaction.told());
+        self.put_answer(rows, row, reaction)
+    }
+
+    // The same of a packet that arrives, as most events are: from where the member reads it, it goes to its row by one way alone.
+    #[inline]
+    fn say_packet(
+        &mut self,
+        alloc: Global,
+        key: Key,
+        packet: Packet,
+        rows: &mut Vec<Row>,
+    ) -> Result<(), CellFault>
+        requires { key.time < end_of_time }
+        ensures { PutsRow (λ r. AnswersEvent M.plain key (Some (causes.Arrival packet)) self.old r self.new)
+            rows.old.items result rows.new.items }
+    {
+        let cause = Cause::Arrival { packet };
+        let cause_word = word(&cause);
+        let reaction = self.ask(alloc, key, &cause)?;
+        let Cause::Arrival { packet } = cause else {
+            unreachable!()
+        };
+        let row = quiet_row(
+            alloc,
+            key,
+            cause_word,
+            About::Of { packet },
+            reaction.told(),
+        );
+        self.put_answer(rows, row, reaction)
+    }
+
+    // What the member answers to a cause.
+    #[inline(always)]
+    fn ask(&mut self, alloc: Global, key: Key, cause: &Cause) -> Result<React, CellFault>
+        requires { key.time < end_of_time }
+        ensures { HasAnswer M.plain key cause.now self.old result self.new }
+    {
+        let Some(member) = &mut self.member else {
             return Err(CellFault::Spent);
         };
-        let reaction = match react(alloc, &mut member, key.time, &cause) {
-            Ok(reaction) => reaction,
-            Err(MemberFault::NoMemory) => return Err(CellFault::NoMemory),
-            Err(MemberFault::Spent) => return Err(CellFault::Spent),
-        };
-        self.member = Some(member);
-        let (told, rare) = reaction.into_parts();
-        let cause_word = word(&cause);
+        match react(alloc, member, key.time, cause) {
+            Ok(reaction) => Ok(reaction),
+            Err(MemberFault::NoMemory) => Err(CellFault::NoMemory),
+            Err(MemberFault::Spent) => Err(CellFault::Spent),
+        }
+    }
+
+    // The row of an answer is put behind others, with what the answer tells beside its word.
+    #[inline(always)]
+    fn put_answer(
+        &mut self,
+        rows: &mut Vec<Row>,
+        row: Row,
+        reaction: React,
+    ) -> Result<(), CellFault>
+        requires { IsQuiet reaction.told row }
+        ensures { PutsRow (λ r. Completes row reaction self.old r self.new) rows.old.items result rows.new.items }
+    {
+        let (_, rare) = reaction.into_parts();
         let Some(rare) = rare else {
-            let row = Row {
-                key,
-                cause: cause_word,
-                about: about(cause, &None),
-                told,
-                lost: Sequence::new(alloc),
-                sent: None,
-                adapted: Adapted::nothing(),
-            };
             return put(rows, row);
         };
         let Rare {
@@ -307,12 +348,18 @@ impl<M: Participant> Cell<M> {
             body,
             adapted,
         } = Box::into_inner(rare);
-        let subject = about(cause, &body);
+        let Row {
+            key,
+            cause,
+            about,
+            told,
+            ..
+        } = row;
         let sent = packet(&mut self.sent, key, body)?;
         let row = Row {
             key,
-            cause: cause_word,
-            about: subject,
+            cause,
+            about,
             told,
             lost,
             sent,
@@ -336,15 +383,7 @@ impl<M: Participant> Cell<M> {
                     return Err(CellFault::NoMemory);
                 };
                 self.exit = Some(exit);
-                let row = Row {
-                    key,
-                    cause: Word::Leave,
-                    about: About::Nothing,
-                    told: Told::Parted,
-                    lost: Sequence::new(alloc),
-                    sent: None,
-                    adapted: Adapted::nothing(),
-                };
+                let row = quiet_row(alloc, key, Word::Leave, About::Nothing, Told::Parted);
                 put(rows, row)
             }
         }
@@ -440,6 +479,22 @@ fn ended<M: Participant>(alloc: Global, member: Option<M>) -> Result<Exit, CellF
         Ok(exit) => Ok(exit),
         Err(MemberFault::NoMemory) => Err(CellFault::NoMemory),
         Err(MemberFault::Spent) => Err(CellFault::Spent),
+    }
+}
+
+// The row of an event of which no more is told than what came of it.
+#[inline(always)]
+fn quiet_row(alloc: Global, key: Key, cause: Word, about: About, told: Told) -> Row
+    ensures { result ≡ record { key = key; cause = cause; about = about; told = told; lost = []; sent = None; adapted = None } }
+{
+    Row {
+        key,
+        cause,
+        about,
+        told,
+        lost: Sequence::new(alloc),
+        sent: None,
+        adapted: Adapted::nothing(),
     }
 }
 

@@ -1,5 +1,6 @@
 //! What a row tells of its event.
 ghost use Rattle.std.specs.Prelude.{◌≡◌, Some, Option};
+ghost use Rattle.std.specs.Option.{option_copied};
 ghost use Rattle.srm_cell.specs.Cells.{word_of, about_of, cause_of_timer};
 ghost use Rattle.srm_cell.specs.InnerSteps.{Packs};
 ghost use Rattle.srm_cell.specs.Setting.{cause_of_mark};
@@ -17,6 +18,7 @@ use srm_scenario::mark::Mark;
 const COUNT_LIMIT: u64 = 281_474_976_710_656;
 
 // The kind of an event that has a cause.
+#[inline(always)]
 pub(crate) fn word(cause: &Cause) -> Word
     ensures { result ≡ word_of (Some cause.now) }
 {
@@ -36,8 +38,8 @@ pub(crate) fn word(cause: &Cause) -> Word
 }
 
 // What an event that has a cause is about, where the member sends this body.
-pub(crate) fn about(cause: Cause, body: &Option<Body>) -> About
-    ensures { result ≡ about_of (Some cause) body.now }
+pub(crate) fn about(cause: Cause, body: Option<&Body>) -> About
+    ensures { result ≡ about_of (Some cause) (option_copied body.entry) }
 {
     match cause {
         Cause::Arrival { packet } => About::Of { packet },

@@ -1,6 +1,5 @@
 use Rattle.std.proofs.Common.{refl, sym, subst, ◌∙◌, None, Some}
-use Rattle.srm_member.specs.declared.told.Told.TheVariants.{Parted}
-use Rattle.srm_cell.specs.Cells.{Done, word_of, about_of}
+use Rattle.srm_cell.specs.Cells.{Done}
 use Rattle.srm_cell.specs.InnerSteps.{AnswersEvent}
 use Rattle.srm_cell.specs.Views.{HasWork, plain_cell, known_in}
 use Rattle.srm_cell.proofs.Putting.{row_is_put}
@@ -33,15 +32,7 @@ returns g c =
     _ _ _ c.put.result c.put.ensures.row c.put.ensures.memory (
       done ∙ (λ i. Done (record {
         cell = record (plain_cell f now) { holds = known_in f (sym c.take.ensures.after i); exit = Some (sym c.in-Ok-new.ensures.ok i) };
-        row = record {
-          key = c.args.key;
-          cause = word_of None;
-          about = about_of None None;
-          told = Parted;
-          lost = sym c.new-in-Ok.ensures i;
-          sent = None;
-          adapted = sym c.nothing.ensures i;
-        };
+        row = sym c.quiet_row-row.ensures i;
       })),
       record { number = refl; left = λ none x q. c.take.ensures.after },
     )
