@@ -1,5 +1,5 @@
 -- What is seen of a cell, and what its calls tell.
-use Rattle.std.specs.Prelude.{◌≡◌, ◌≤◌, ◌⊎◌, ℕ, List, length, Option, Some, None, Result, Ok, Err, []}
+use Rattle.std.specs.Prelude.{◌≡◌, ◌⊎◌, ◌-◌, ◌^◌, ℕ, min, List, length, Option, Some, None, Result, Ok, Err, []}
 use Rattle.std.specs.Global.{Box}
 use Rattle.srm_scenario.specs.declared.mark.Mark.{Mark}
 use Rattle.srm_member.specs.declared.exit.Exit.{Exit}
@@ -130,9 +130,9 @@ module _ {M : Type 0} where
   abbrev pub IsNextTime : (M → Record) → Cell M → Option ℕ → Type 0
   IsNextTime f c time = IsSoundCell f c → time ≡ time_of (event_of f c)
 
-  -- no more than the packets on their way to the cell's member
+  -- the packets on their way to the cell's member are so many, or more than a number of 64 bits tells
   abbrev pub AreWaiting : (M → Record) → Cell M → ℕ → Type 0
-  AreWaiting f c n = n ≤ length c.inbox
+  AreWaiting f c n = n ≡ min (length c.inbox) (2 ^ 64 - 1)
 
   -- what the cell's end tells
   abbrev pub Ends : (M → Record) → Cell M → Result Exit CellFault → Type 0

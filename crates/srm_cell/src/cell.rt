@@ -87,7 +87,7 @@ impl<M: Participant> Cell<M> {
         }
     }
 
-    /// How many packets are on their way to the member, or fewer: as it is written, exactly so many. It does not allocate.
+    /// How many packets are on their way to the member, or the greatest number of a `usize`. It does not allocate.
     pub fn waiting(&self) -> usize
         ensures { AreWaiting M.plain self.now result }
     {

@@ -1,5 +1,5 @@
 //! The packets on their way to one member.
-ghost use Rattle.std.specs.Prelude.{◌≡◌, ◌≤◌, List, [], ◌∷◌, MatchOption, OnOk, OnErr, length, insert, slice_get};
+ghost use Rattle.std.specs.Prelude.{◌≡◌, ◌≤◌, List, [], ◌∷◌, MatchOption, OnOk, OnErr, length, insert, min, slice_get};
 ghost use Rattle.std.specs.Ordering.{is_lt};
 ghost use Rattle.std.specs.Option.{option_map};
 ghost use Rattle.srm_net.specs.Orders.{Rises};
@@ -51,9 +51,9 @@ impl Inbox {
         }
     }
 
-    /// How many packets there are, or fewer.
+    /// How many packets there are, or the greatest number of a `usize`.
     pub fn waiting(&self) -> usize
-        ensures { result ≤ length self.now }
+        ensures { result ≡ min (length self.now) usize.MAX }
     {
         self.line.len().saturating_add(self.strays.waiting())
     }

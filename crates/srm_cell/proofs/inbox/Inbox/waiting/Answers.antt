@@ -1,4 +1,4 @@
-use Rattle.std.proofs.Common.{◌≡◌, ◌≤◌, ◌+◌, ◌++◌, List, length, subst, arith, ◌∙◌, length-append}
+use Rattle.std.proofs.Common.{◌≡◌, ◌+◌, ◌-◌, ◌^◌, ◌++◌, min, List, length, subst, arith, ◌∙◌, length-append}
 use Rattle.srm_cell.specs.declared.flight.Flight.{Flight}
 use Rattle.srm_cell.specs.Flights.{flight_cmp}
 use Rattle.srm_cell.proofs.InboxLines.{length_ordered}
@@ -13,4 +13,4 @@ returns c =
     let line : c.len.result ≡ length c.self.inside.line.items = c.len.ensures ∙ c.self.inside.line.ok.0 in
     let others = c.waiting.ensures in
     let sum = c.saturating_add.ensures in
-    subst (λ (l : List Flight). c.saturating_add.result ≤ length l) c.self.view_is (grind (arith))
+    subst (λ (l : List Flight). c.saturating_add.result ≡ min (length l) (2 ^ 64 - 1)) c.self.view_is (omega arith)
