@@ -1,17 +1,19 @@
 -- A table that lists rows, written as they come.
-use Rattle.std.specs.Prelude.{◌≡◌, ◌⊎◌, ℕ, Bool, IsTrue, List, [], ◌++◌, length, Option, Result, Ok, Err}
+use Rattle.std.specs.Prelude.{◌≡◌, ◌⊎◌, ℕ, ◌+◌, Bool, IsTrue, List, [], ◌++◌, length, Option, Result, Ok, Err}
 use Rattle.std.specs.Io.KnownBytes.{Appends}
 use Rattle.srm_member.specs.declared.row.Row.{Row}
 use Rattle.srm_interfaces.specs.declared.sink.SinkFault.{SinkFault}
 use Rattle.srm_interfaces.specs.declared.sink.SinkFault.TheVariants as fault
 use Rattle.srm_interfaces.specs.declared.sink.Stage.{Stage}
 use Rattle.srm_interfaces.specs.declared.sink.Stage.TheVariants as stage
+use Rattle.srm_interfaces.specs.Sinks.{stage_after, stops_in}
 use Rattle.srm_report.specs.declared.listing.standing.Standing.{Standing}
 use Rattle.srm_report.specs.declared.listing.standing.Standing.TheVariants.{Fresh, Live, NoMemory, Stopped}
 use Rattle.srm_report.specs.declared.listing.listing_sink.ListingSink.{ListingSink}
+use Rattle.srm_report.specs.declared.outlet.Outlet as outlet
 use Rattle.srm_report.specs.declared.writing.WriteFault.{WriteFault}
 use Rattle.srm_report.specs.Listings.{Form}
-use Rattle.srm_report.specs.Standings.{GrewBy, IsText, text_next}
+use Rattle.srm_report.specs.Standings.{after_answer, GrewBy, IsText, text_next}
 
 -- ---- sinks
 
@@ -53,10 +55,6 @@ module _ {L O : Type 0} where
   abbrev pub AreOverOne : ListingSink L O → ListingSink L O → Type 0
   AreOverOne a b = (b.outlet.ghost_name ≡ a.outlet.ghost_name) × (gathering_room b ≡ gathering_room a)
 
-  -- it stands as it stood, and has begun where it had
-  abbrev pub StandsAsBefore : ListingSink L O → ListingSink L O → Type 0
-  StandsAsBefore a b = (standing_of b ≡ standing_of a) × (has_begun b ≡ has_begun a)
-
   -- nothing is gathered now; or the sink had begun, and all that was gathered is so still, with this text after it
   abbrev pub Gathers : ListingSink L O → List ℕ → ListingSink L O → Type 0
   Gathers a text b = (gathered_by b ≡ []) ⊎ (IsTrue (has_begun a) × (gathered_by b ≡ gathered_by a ++ text))
@@ -84,21 +82,10 @@ module _ {L O : Type 0} where
     abbrev pub PutsPart : Form → ListingSink L O → List Row → ListingSink L O → Type 0
     PutsPart f a rows b = PutsFront a (text_next f a.standing rows) b
 
-    -- what is gathered was written, or else a front of it
-    abbrev pub WritesGathered : {A E : Type 0} → ListingSink L O → Result A E → ListingSink L O → Type 0
-    WritesGathered a (Ok v) b = (gathered_by b ≡ []) × PutsAll a [] b
-    WritesGathered a (Err e) b = PutsFront a [] b
-
-    -- so was a text after it
-    abbrev pub WritesThrough : {A E : Type 0} → ListingSink L O → List ℕ → Result A E → ListingSink L O → Type 0
-    WritesThrough a text (Ok v) b = (gathered_by b ≡ []) × PutsAll a text b
-    WritesThrough a text (Err e) b = PutsFront a text b
-
-    -- a text was put, or else no more than a front of it; a fault of the outlet tells how many bytes it took in all
-    abbrev pub PutsText : {A : Type 0} → ListingSink L O → List ℕ → Result A SinkFault → ListingSink L O → Type 0
-    PutsText a text (Ok v) b = PutsAll a text b
-    PutsText a text (Err fault.NoMemory) b = PutsFront a text b
-    PutsText a text (Err (fault.Stopped n)) b = PutsFront a text b × (n ≡ written_by b)
+    -- a text was put, or else no more than a front of it
+    abbrev pub PutsText : {A E : Type 0} → ListingSink L O → List ℕ → Result A E → ListingSink L O → Type 0
+    PutsText a text (Ok v) b = PutsAll a text b × Gathers a text b
+    PutsText a text (Err e) b = PutsFront a text b
 
     -- nothing is left to be written; or a front was written, and the fault tells how many bytes the outlet took in all
     abbrev pub Flushes : {A : Type 0} → ListingSink L O → Result A WriteFault → ListingSink L O → Type 0
@@ -110,3 +97,13 @@ module _ {L O : Type 0} where
   LeavesOutlet a (Ok v) b = Unit {0}
   LeavesOutlet a (Err fault.NoMemory) b = (outlet_under b ≡ outlet_under a) × (written_by b ≡ written_by a)
   LeavesOutlet a (Err (fault.Stopped n)) b = Unit {0}
+
+  -- what an answer to a text that was put tells, and how the sink stands before it is told
+  pub record Answers {A : Type 0} (o : outlet.Ghosts O) (a : ListingSink L O) (r : Result A SinkFault)
+      (b : ListingSink L O) : Type 0 where
+    pub device : AreOverOne a b
+    pub standing : standing_of b ≡ standing_of a
+    pub begun : has_begun b ≡ has_begun a
+    pub failures : o.failures (outlet_under b) ≡ o.failures (outlet_under a) + stops_in r
+    pub told : stage_at (after_answer r) (written_by b) ≡ stage_after r
+    pub left : LeavesOutlet a r b

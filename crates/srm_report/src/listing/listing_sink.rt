@@ -1,7 +1,8 @@
 //! A table that lists rows, written as they come.
-ghost use Rattle.std.specs.Prelude.{◌≡◌, ◌<◌, ◌+◌, ◌-◌, ◌^◌, ◌≤◌, ◌==◌, ◌||◌, List, [], false, true, is_ok, not, if◌then◌else◌, length, IfOk};
+ghost use Rattle.std.specs.Prelude.{◌≡◌, ◌<◌, ◌+◌, ◌-◌, ◌^◌, ◌≤◌, ◌==◌, ◌||◌, List, [], false, true, is_ok, not, if◌then◌else◌, length, IfErr, IfOk};
 ghost use Rattle.srm_member.specs.declared.row.Row.{Row as R};
 ghost use Rattle.srm_interfaces.specs.Grouped.{sizes};
+ghost use Rattle.srm_interfaces.specs.Sinks.{stops_in};
 ghost use Rattle.srm_report.specs.KeptLines.{AreLinesOf};
 ghost use Rattle.srm_report.specs.Pieces.{whole_text};
 ghost use Rattle.srm_report.specs.Standings.{text_next, after_answer, TakesText};
@@ -12,7 +13,7 @@ use crate::listing::in_order::put_in_order;
 use crate::listing::lines::Lines;
 use crate::listing::standing::Standing;
 use crate::listing::text_piece::TextPiece;
-use crate::outlet::{OutFault, Outlet};
+use crate::outlet::Outlet;
 use crate::writing::{WriteFault, write_out};
 use srm_interfaces::kept_sink::KeptSink;
 use srm_interfaces::sink::{RowSink, SinkFault};
@@ -86,11 +87,11 @@ fn standing_after(answer: &Result<(), SinkFault>) -> Standing
     }
 }
 
-// Writes a text, and counts the bytes of it that were taken.
-fn write<O: Outlet>(outlet: &mut O, written: &mut u64, text: &[u8]) -> Result<(), OutFault>
+// Writes a text, and counts the bytes of it that were taken. A fault tells how many were in all.
+fn write<O: Outlet>(outlet: &mut O, written: &mut u64, text: &[u8]) -> Result<(), SinkFault>
     requires { O.failures outlet.old < 2 ^ 64 - 1 }
-    ensures failures { O.failures outlet.new
-        ≡ (if is_ok result then O.failures outlet.old else O.failures outlet.old + 1) }
+    ensures failures { O.failures outlet.new ≡ O.failures outlet.old + stops_in result }
+    ensures told { IfErr result (λ fault. fault ≡ SinkFault.Stopped written.new) }
     ensures taken { TakesText O.taken outlet.old written.old text.now result outlet.new written.new }
 {
     match write_out(outlet, text) {
@@ -100,7 +101,7 @@ fn write<O: Outlet>(outlet: &mut O, written: &mut u64, text: &[u8]) -> Result<()
         }
         Err(fault) => {
             *written = written.saturating_add(fault.written);
-            Err(OutFault)
+            Err(SinkFault::Stopped { written: *written })
         }
     }
 }
@@ -108,8 +109,8 @@ fn write<O: Outlet>(outlet: &mut O, written: &mut u64, text: &[u8]) -> Result<()
 impl<'a, L: Listing, O: Outlet> ListingSink<'a, L, O> {
     ghost use Rattle.srm_interfaces.specs.declared.sink.Stage.{Stage as AStage};
     ghost use Rattle.std.specs.Prelude.{MatchResult};
-    ghost use Rattle.srm_interfaces.specs.Sinks.{IsOpen, stage_after, stops_in};
-    ghost use Rattle.srm_report.specs.ListingSinks.{stage_at, stage_of, standing_of, has_begun, outlet_under, gathered_by, gathering_room, written_by, AreOverOne, StandsAsBefore, Gathers, PutsPart, PutsRows, PutsText, LeavesOutlet, WritesGathered, WritesThrough, Flushes};
+    ghost use Rattle.srm_interfaces.specs.Sinks.{IsOpen};
+    ghost use Rattle.srm_report.specs.ListingSinks.{stage_of, standing_of, has_begun, outlet_under, gathered_by, gathering_room, written_by, AreOverOne, Answers, PutsText, Flushes};
 
     /// A sink of this table over this outlet, which took no rows yet. It writes each piece of the table as it comes. It does not
     /// allocate.
@@ -161,9 +162,9 @@ impl<'a, L: Listing, O: Outlet> ListingSink<'a, L, O> {
         ensures flushed { Flushes O.taken self.old result self.new }
         ensures begun { has_begun self.new ≡ has_begun self.old }
     {
-        match self.write_gathered() {
+        match self.write_through(&[]) {
             Ok(()) => Ok(()),
-            Err(OutFault) => {
+            Err(_) => {
                 self.standing = Standing::Stopped;
                 let written = self.written;
                 Err(WriteFault { written })
@@ -180,32 +181,16 @@ impl<'a, L: Listing, O: Outlet> ListingSink<'a, L, O> {
         outlet
     }
 
-    // Writes what is gathered.
-    fn write_gathered(&mut self) -> Result<(), OutFault>
-        requires failures { O.failures (outlet_under self.old) < 2 ^ 64 - 1 }
-        ensures outlet { AreOverOne self.old self.new }
-        ensures standing { StandsAsBefore self.old self.new }
-        ensures failures { O.failures (outlet_under self.new)
-            ≡ (if is_ok result then O.failures (outlet_under self.old) else O.failures (outlet_under self.old) + 1) }
-        ensures written { WritesGathered O.taken self.old result self.new }
-    {
-        write(self.outlet, &mut self.written, self.gathered.as_slice())?;
-        self.gathered.clear();
-        Ok(())
-    }
-
     // Puts the text of the rows that come next.
     fn put_rows(&mut self, alloc: Global, rows: Vec<Row>) -> Result<(), SinkFault>
         requires failures { O.failures (outlet_under self.old) < 2 ^ 64 - 1 }
-        ensures outlet { AreOverOne self.old self.new }
-        ensures standing { StandsAsBefore self.old self.new }
-        ensures failures { O.failures (outlet_under self.new) ≡ O.failures (outlet_under self.old) + stops_in result }
+        ensures sink { Answers O.Outlet self.old result self.new }
         ensures text { PutsText O.taken self.old (text_next L.form (standing_of self.old) rows.items) result self.new }
-        ensures left { LeavesOutlet self.old result self.new }
-        ensures gathered { IfOk result (λ _. Gathers self.old (text_next L.form (standing_of self.old) rows.items) self.new) }
     {
         match text_of::<L>(alloc, self.standing, rows.as_slice()) {
-            Ok(text) => self.put(text.as_slice()),
+            Ok(text) => self.put(&[TextPiece::Part {
+                text: text.as_slice(),
+            }]),
             Err(ReportFault::NoMemory) => Err(SinkFault::NoMemory),
         }
     }
@@ -213,98 +198,50 @@ impl<'a, L: Listing, O: Outlet> ListingSink<'a, L, O> {
     // The same of rows of which these are the lines of all members.
     fn put_lines(&mut self, alloc: Global, groups: &[Vec<Lines>]) -> Result<(), SinkFault>
         requires failures { O.failures (outlet_under self.old) < 2 ^ 64 - 1 }
-        ensures outlet { AreOverOne self.old self.new }
-        ensures standing { StandsAsBefore self.old self.new }
-        ensures failures { O.failures (outlet_under self.new) ≡ O.failures (outlet_under self.old) + stops_in result }
+        ensures sink { Answers O.Outlet self.old result self.new }
         ensures text { (rows : List R) → AreLinesOf L.form rows groups.now
             → PutsText O.taken self.old (text_next L.form (standing_of self.old) rows) result self.new }
-        ensures told { stage_at (after_answer result) (written_by self.new) ≡ stage_after result }
-        ensures left { LeavesOutlet self.old result self.new }
-        ensures gathered { (rows : List R) → AreLinesOf L.form rows groups.now
-            → IfOk result (λ _. Gathers self.old (text_next L.form (standing_of self.old) rows) self.new) }
     {
         match pieces_of_lines::<L>(alloc, self.standing, groups) {
-            Ok(pieces) => self.put_pieces(pieces.as_slice()),
+            Ok(pieces) => self.put(pieces.as_slice()),
             Err(ReportFault::NoMemory) => Err(SinkFault::NoMemory),
         }
     }
 
-    // Puts a text in pieces: gathers it where it is one, or writes the pieces after what is gathered.
-    fn put_pieces(&mut self, pieces: &[TextPiece]) -> Result<(), SinkFault>
+    // Puts a text in pieces: gathers it where it is one and there is room, or writes it after what is gathered.
+    fn put(&mut self, pieces: &[TextPiece]) -> Result<(), SinkFault>
         requires failures { O.failures (outlet_under self.old) < 2 ^ 64 - 1 }
-        ensures outlet { AreOverOne self.old self.new }
-        ensures standing { StandsAsBefore self.old self.new }
-        ensures failures { O.failures (outlet_under self.new) ≡ O.failures (outlet_under self.old) + stops_in result }
+        ensures sink { Answers O.Outlet self.old result self.new }
         ensures text { PutsText O.taken self.old (whole_text pieces.now) result self.new }
-        ensures left { LeavesOutlet self.old result self.new }
-        ensures gathered { IfOk result (λ _. Gathers self.old (whole_text pieces.now) self.new) }
     {
-        if let [text] = pieces {
-            return self.put(text.bytes());
-        }
-        match self.write_each(pieces) {
-            Ok(()) => Ok(()),
-            Err(OutFault) => {
-                let written = self.written;
-                Err(SinkFault::Stopped { written })
+        if self.has_begun
+            && let [piece] = pieces
+        {
+            let text = piece.bytes();
+            if self.gathered.len() + text.len() <= self.room {
+                return match self.gathered.extend_from_slice(text) {
+                    Ok(()) => Ok(()),
+                    Err(_) => Err(SinkFault::NoMemory),
+                };
             }
         }
+        self.write_through(pieces)
     }
 
     // Writes what is gathered, and the pieces of a text after it. It does not allocate.
-    fn write_each(&mut self, pieces: &[TextPiece]) -> Result<(), OutFault>
+    fn write_through(&mut self, pieces: &[TextPiece]) -> Result<(), SinkFault>
         requires failures { O.failures (outlet_under self.old) < 2 ^ 64 - 1 }
-        ensures outlet { AreOverOne self.old self.new }
-        ensures standing { StandsAsBefore self.old self.new }
-        ensures failures { O.failures (outlet_under self.new)
-            ≡ (if is_ok result then O.failures (outlet_under self.old) else O.failures (outlet_under self.old) + 1) }
-        ensures text { WritesThrough O.taken self.old (whole_text pieces.now) result self.new }
+        ensures sink { Answers O.Outlet self.old result self.new }
+        ensures text { PutsText O.taken self.old (whole_text pieces.now) result self.new }
+        ensures through { MatchResult result (λ _. gathered_by self.new ≡ [])
+            (λ fault. fault ≡ SinkFault.Stopped (written_by self.new)) }
     {
-        self.write_gathered()?;
+        write(self.outlet, &mut self.written, self.gathered.as_slice())?;
+        self.gathered.clear();
         for piece in pieces {
-            self.write_through(piece.bytes())?;
+            write(self.outlet, &mut self.written, piece.bytes())?;
         }
         Ok(())
-    }
-
-    // Gathers a text, or writes it after what is gathered.
-    fn put(&mut self, text: &[u8]) -> Result<(), SinkFault>
-        requires failures { O.failures (outlet_under self.old) < 2 ^ 64 - 1 }
-        ensures outlet { AreOverOne self.old self.new }
-        ensures standing { StandsAsBefore self.old self.new }
-        ensures failures { O.failures (outlet_under self.new) ≡ O.failures (outlet_under self.old) + stops_in result }
-        ensures text { PutsText O.taken self.old text.now result self.new }
-        ensures left { LeavesOutlet self.old result self.new }
-        ensures gathered { IfOk result (λ _. Gathers self.old text.now self.new) }
-    {
-        if self.has_begun && self.gathered.len() + text.len() <= self.room {
-            return match self.gathered.extend_from_slice(text) {
-                Ok(()) => Ok(()),
-                Err(_) => Err(SinkFault::NoMemory),
-            };
-        }
-        match self.write_through(text) {
-            Ok(()) => Ok(()),
-            Err(OutFault) => {
-                let written = self.written;
-                Err(SinkFault::Stopped { written })
-            }
-        }
-    }
-
-    // Writes what is gathered, and a text after it.
-    fn write_through(&mut self, text: &[u8]) -> Result<(), OutFault>
-        requires failures { O.failures (outlet_under self.old) < 2 ^ 64 - 1 }
-        ensures outlet { AreOverOne self.old self.new }
-        ensures standing { StandsAsBefore self.old self.new }
-        ensures failures { O.failures (outlet_under self.new)
-            ≡ (if is_ok result then O.failures (outlet_under self.old) else O.failures (outlet_under self.old) + 1) }
-        ensures text { WritesThrough O.taken self.old text.now result self.new }
-    {
-        match self.write_gathered() {
-            Ok(()) => write(self.outlet, &mut self.written, text),
-            Err(OutFault) => Err(OutFault),
-        }
     }
 }
 
@@ -312,7 +249,7 @@ impl<'a, L: Listing, O: Outlet> RowSink for ListingSink<'a, L, O> {
     ghost use Rattle.std.specs.Prelude.{refl};
     ghost use Rattle.std.proofs.Common.{◌∙◌};
     ghost use Rattle.std.specs.Prelude.{MatchResult};
-    ghost use Rattle.srm_interfaces.specs.Sinks.{IsOpen, stage_after, stops_in};
+    ghost use Rattle.srm_interfaces.specs.Sinks.{IsOpen, stage_after};
     ghost use Rattle.srm_report.specs.ListingSinks.{stage_of, standing_of, has_begun, outlet_under, AreOverOne, Gathers, LeavesOutlet, PutsRows, PutsPart};
     ghost use Rattle.srm_report.specs.SinkLaws.{one_self, over_one_more, rows_none, rows_more, part_none, part_more, part_longer};
 
@@ -369,7 +306,7 @@ impl<'a, L: Listing, O: Outlet> RowSink for ListingSink<'a, L, O> {
 
 impl<'a, L: Listing, O: Outlet> KeptSink<Lines> for ListingSink<'a, L, O> {
     ghost use Rattle.std.specs.Prelude.{MatchResult};
-    ghost use Rattle.srm_interfaces.specs.Sinks.{IsOpen, stage_after, stops_in};
+    ghost use Rattle.srm_interfaces.specs.Sinks.{IsOpen, stage_after};
     ghost use Rattle.srm_report.specs.ListingSinks.{stage_of, standing_of, has_begun, outlet_under, AreOverOne, Gathers, LeavesOutlet, PutsRows, PutsPart};
 
     ghost keeps = { λ groups rows. AreLinesOf L.form rows groups };
