@@ -1,5 +1,6 @@
 -- Lines of a CSV text in memory.
-use Rattle.std.specs.Prelude.{ℕ, ◌+◌, ◌*◌, ◌-◌, List, drop}
+use Rattle.std.specs.Prelude.{◌≡◌, ◌≤◌, ℕ, ◌+◌, ◌*◌, ◌-◌, List, ◌∷◌, ◌++◌, drop}
+use Rattle.csv.specs.Writing.{comma}
 use Rattle.srm_report.specs.declared.listing.line.Line.{Line}
 use Rattle.srm_report.specs.declared.listing.line.TheConstants.{SIZE}
 
@@ -30,3 +31,8 @@ line_written l = drop l.start l.bytes
 -- the line, without the comma before its first field
 abbrev pub line_text : Line → List ℕ
 line_text l = drop (l.start + 1) l.bytes
+
+-- a field that takes so many bytes at most, with the comma before it, was put before what was written
+pub record PutsField (most : ℕ) (old : Line) (field : List ℕ) (new : Line) : Type 0 where
+  pub room : line_room old ≤ line_room new + most
+  pub written : line_written new ≡ comma ∷ (field ++ line_written old)

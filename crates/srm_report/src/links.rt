@@ -1,11 +1,10 @@
 //! The table of links as CSV.
 pub mod keep_nothing;
 
-ghost use Rattle.std.specs.Prelude.{◌≡◌, ◌++◌, ℕ, List, IfOk, OnOk, slice_index};
-ghost use Rattle.csv.specs.Writing.{default_writer, row_text};
+ghost use Rattle.std.specs.Prelude.{◌≡◌, IfOk, slice_index};
 ghost use Rattle.srm_ledger.specs.Counts.{place_of};
 ghost use Rattle.srm_report.specs.Links.{link_fields, links_table};
-ghost use Rattle.srm_report.specs.Records.{HasText};
+ghost use Rattle.srm_report.specs.Records.{PutsRecord};
 
 use crate::fault::ReportFault;
 use crate::records::field::Field;
@@ -47,8 +46,7 @@ fn put_link(
     link: usize,
     numbers: &[u64; 5],
 ) -> Result<(), ReportFault>
-    ensures { (text : List ℕ) → HasText writer.old text → OnOk result (HasText writer.new
-        (text ++ row_text default_writer (link_fields link (λ k. slice_index numbers.now (place_of k))))) }
+    ensures { PutsRecord writer.old (link_fields link (λ k. slice_index numbers.now (place_of k))) result writer.new }
 {
     put_record(
         writer,

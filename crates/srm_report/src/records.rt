@@ -2,9 +2,8 @@
 //! since its buffer of 8 KiB goes with it.
 pub(crate) mod field;
 
-ghost use Rattle.std.specs.Prelude.{◌≡◌, ◌++◌, ℕ, List, IfOk, OnOk, map};
-ghost use Rattle.csv.specs.Writing.{default_writer, row_text};
-ghost use Rattle.srm_report.specs.Records.{HasText};
+ghost use Rattle.std.specs.Prelude.{◌≡◌, ℕ, List, IfOk, map};
+ghost use Rattle.srm_report.specs.Records.{HasText, PutsRecord};
 
 use crate::fault::ReportFault;
 use csv::Writer;
@@ -18,8 +17,7 @@ pub(crate) fn writer_behind(text: Vec<u8>) -> Writer<Vec<u8>>
 
 // Writes a record of these fields.
 pub(crate) fn put_record(writer: &mut Writer<Vec<u8>>, fields: &[&[u8]]) -> Result<(), ReportFault>
-    ensures { (text : List ℕ) → HasText writer.old text
-        → OnOk result (HasText writer.new (text ++ row_text default_writer (map (λ f. f.now) fields.now))) }
+    ensures { PutsRecord writer.old (map (λ f. f.now) fields.now) result writer.new }
 {
     match writer.write_fields(fields) {
         Ok(()) => Ok(()),

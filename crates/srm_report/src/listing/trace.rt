@@ -1,9 +1,9 @@
 //! The trace of a run as CSV.
-ghost use Rattle.std.specs.Prelude.{◌≡◌, ◌+◌, ◌-◌, ◌<◌, ◌≤◌, [], ◌∷◌, ◌++◌, drop, length, IfOk, OnOk};
+ghost use Rattle.std.specs.Prelude.{◌≡◌, ◌-◌, ◌<◌, ◌≤◌, [], ◌∷◌, ◌++◌, drop, length, IfOk, OnOk};
 ghost use Rattle.csv.specs.Machine.{line_feed};
 ghost use Rattle.csv.specs.Writing.{comma, default_writer, row_text};
 ghost use Rattle.srm_report.specs.Listings.{lines_in};
-ghost use Rattle.srm_report.specs.Lines.{full_room, line_room, line_text, line_written, name_room, pair_room};
+ghost use Rattle.srm_report.specs.Lines.{PutsField, full_room, line_room, line_text, line_written, name_room, pair_room};
 ghost use Rattle.srm_report.specs.Rows.{or_dash};
 ghost use Rattle.srm_report.specs.Trace.{cause_word, packet_text, told_word, ref_text, trace_fields, trace_form, trace_of_rows};
 
@@ -113,8 +113,7 @@ fn put_row(line: &mut Line, row: &Row)
 // Puts what an event is about.
 pub(crate) fn put_ref(line: &mut Line, about: &About)
     requires { name_room ≤ line_room line.old }
-    ensures room { line_room line.old ≤ line_room line.new + name_room }
-    ensures written { line_written line.new ≡ comma ∷ (ref_text about.now ++ line_written line.old) }
+    ensures { PutsField name_room line.old (ref_text about.now) line.new }
 {
     match about {
         About::Nothing => put_dash(line),
@@ -126,8 +125,7 @@ pub(crate) fn put_ref(line: &mut Line, about: &About)
 // Puts the packet that an event sent.
 fn put_sent(line: &mut Line, sent: &Option<Packet>)
     requires { pair_room ≤ line_room line.old }
-    ensures room { line_room line.old ≤ line_room line.new + pair_room }
-    ensures written { line_written line.new ≡ comma ∷ (or_dash (λ p. packet_text p.id) sent.now ++ line_written line.old) }
+    ensures { PutsField pair_room line.old (or_dash (λ p. packet_text p.id) sent.now) line.new }
 {
     match sent {
         None => put_dash(line),
@@ -139,8 +137,7 @@ fn put_sent(line: &mut Line, sent: &Option<Packet>)
 #[inline]
 pub(crate) fn put_cause(line: &mut Line, cause: Word)
     requires { 8 ≤ line_room line.old }
-    ensures room { line_room line.old ≤ line_room line.new + 8 }
-    ensures written { line_written line.new ≡ comma ∷ (cause_word cause ++ line_written line.old) }
+    ensures { PutsField 8 line.old (cause_word cause) line.new }
 {
     let (bytes, count) = tag_of_cause(cause);
     line.put_last(bytes, count);
@@ -150,8 +147,7 @@ pub(crate) fn put_cause(line: &mut Line, cause: Word)
 #[inline]
 fn put_told(line: &mut Line, told: Told)
     requires { 8 ≤ line_room line.old }
-    ensures room { line_room line.old ≤ line_room line.new + 8 }
-    ensures written { line_written line.new ≡ comma ∷ (told_word told ++ line_written line.old) }
+    ensures { PutsField 8 line.old (told_word told) line.new }
 {
     let (bytes, count) = tag_of_told(told);
     line.put_last(bytes, count);

@@ -1,11 +1,10 @@
 //! The lines of the table of losses.
-ghost use Rattle.std.specs.Prelude.{◌≡◌, ◌<◌, ◌++◌, ℕ, List, Some, IfOk, IfSome, OnOk, length};
-ghost use Rattle.csv.specs.Writing.{default_writer, row_text};
+ghost use Rattle.std.specs.Prelude.{◌≡◌, ◌<◌, List, Some, IfOk, IfSome, length};
 ghost use Rattle.srm_member.specs.declared.row.Row.{Row as R};
 ghost use Rattle.srm_member.specs.Orderly.{IsOrderly};
 ghost use Rattle.srm_report.specs.Courses.{TellLosses};
 ghost use Rattle.srm_report.specs.Losses.{delay_of, loss_fields, losses_table};
-ghost use Rattle.srm_report.specs.Records.{HasText};
+ghost use Rattle.srm_report.specs.Records.{PutsRecord};
 ghost use Rattle.srm_report.specs.Rows.{or_dash};
 
 use crate::fault::ReportFault;
@@ -45,8 +44,8 @@ fn put_loss(
 ) -> Result<(), ReportFault>
     requires member { entry.now.0.member < length net.now.hosts }
     requires source { entry.now.0.name.source < length net.now.hosts }
-    ensures { (text : List ℕ) → HasText writer.old text → OnOk result (HasText writer.new
-        (text ++ row_text default_writer (loss_fields net.now entry.now.0 (Some entry.now.1.detected) entry.now.1.recovered))) }
+    ensures { PutsRecord writer.old (loss_fields net.now entry.now.0 (Some entry.now.1.detected) entry.now.1.recovered)
+        result writer.new }
 {
     let (Loss { member, name }, course) = *entry;
     put_record(

@@ -1,10 +1,9 @@
 //! The lines of the table of members.
-ghost use Rattle.std.specs.Prelude.{◌≡◌, ◌++◌, ℕ, List, length, IfOk, OnOk};
-ghost use Rattle.csv.specs.Writing.{default_writer, row_text};
+ghost use Rattle.std.specs.Prelude.{◌≡◌, List, length, IfOk};
 ghost use Rattle.srm_member.specs.declared.row.Row.{Row as R};
 ghost use Rattle.srm_report.specs.MemberCounts.{AreCounts, counts_at};
 ghost use Rattle.srm_report.specs.Members.{member_fields, members_table, role_word};
-ghost use Rattle.srm_report.specs.Records.{HasText};
+ghost use Rattle.srm_report.specs.Records.{PutsRecord};
 
 use crate::fault::ReportFault;
 use crate::members::HEADER;
@@ -57,8 +56,7 @@ fn put_member(
     member: &MemberSpec,
     counts: &Counts,
 ) -> Result<(), ReportFault>
-    ensures { (text : List ℕ) → HasText writer.old text → OnOk result (HasText writer.new
-        (text ++ row_text default_writer (member_fields number member.now counts.now))) }
+    ensures { PutsRecord writer.old (member_fields number member.now counts.now) result writer.new }
 {
     let open = counts.lost.saturating_sub(u128::from(counts.fixed));
     put_record(

@@ -1,12 +1,11 @@
 //! The lines of the table of operations.
-ghost use Rattle.std.specs.Prelude.{◌≡◌, ◌<◌, ◌++◌, ℕ, List, IfOk, IfSome, OnOk, decimal, length, map};
-ghost use Rattle.csv.specs.Writing.{default_writer, row_text};
+ghost use Rattle.std.specs.Prelude.{◌≡◌, ◌<◌, List, IfOk, IfSome, decimal, length, map};
 ghost use Rattle.srm_net.specs.declared.packet.Name.{Name as AName};
 ghost use Rattle.srm_member.specs.declared.row.Row.{Row as R};
 ghost use Rattle.srm_member.specs.Orderly.{IsOrderly};
 ghost use Rattle.srm_report.specs.Operations.{last_told, operation_columns, operation_fields, operations_table};
 ghost use Rattle.srm_report.specs.KeptOperations.{TellOperations};
-ghost use Rattle.srm_report.specs.Records.{HasText};
+ghost use Rattle.srm_report.specs.Records.{PutsRecord};
 ghost use Rattle.srm_report.specs.Rows.{or_dash};
 ghost use Rattle.srm_report.specs.Sendings.{sending_in};
 ghost use Rattle.srm_report.specs.Tables.{table_lines};
@@ -83,8 +82,7 @@ fn put_operation(
     sending: &SentForName,
 ) -> Result<(), ReportFault>
     requires members { IfSome (last_told tally.now) (λ r. (r.member < length net.now.hosts) × (name.source < length net.now.hosts)) }
-    ensures { (text : List ℕ) → HasText writer.old text → OnOk result (HasText writer.new
-        (text ++ row_text default_writer (operation_fields net.now name tally.now sending.now))) }
+    ensures { PutsRecord writer.old (operation_fields net.now name tally.now sending.now) result writer.new }
 {
     let last = last_of(tally);
     put_record(

@@ -1,8 +1,7 @@
 //! The lines of the table of scopes.
-ghost use Rattle.std.specs.Prelude.{◌≡◌, ◌-◌, ◌<◌, ◌≤◌, ◌++◌, ℕ, List, IfOk, OnOk, decimal, drop, map};
-ghost use Rattle.csv.specs.Writing.{default_writer, row_text};
+ghost use Rattle.std.specs.Prelude.{◌≡◌, ◌-◌, ◌<◌, ◌≤◌, IfOk, decimal, drop, map};
 ghost use Rattle.srm_report.specs.KeptScopes.{count_in};
-ghost use Rattle.srm_report.specs.Records.{HasText};
+ghost use Rattle.srm_report.specs.Records.{PutsRecord};
 ghost use Rattle.srm_report.specs.Rows.{or_dash};
 ghost use Rattle.srm_report.specs.Scopes.{scope_columns, scope_fields};
 ghost use Rattle.srm_report.specs.Tables.{table_lines};
@@ -40,8 +39,7 @@ fn put_entry(
     entry: &ScopeEntry,
     heard: u64,
 ) -> Result<(), ReportFault>
-    ensures { (text : List ℕ) → HasText writer.old text → OnOk result (HasText writer.new
-        (text ++ row_text default_writer (scope_fields entry.now heard))) }
+    ensures { PutsRecord writer.old (scope_fields entry.now heard) result writer.new }
 {
     let (cause, count) = tag_of_cause(entry.cause);
     let (requester, width) = fields_of_local(entry.local);
