@@ -18,9 +18,6 @@ use Rattle.srm_member.specs.Record.{due_cmp}
 use Rattle.srm_net.specs.contracts.packet.NameOrd.TheImpl as name_order
 use Rattle.srm_member.specs.contracts.due.DueOrd.TheImpl as due_order
 
-pub names_compared : name_order.cmp-value.it ≡ name_cmp
-names_compared = refl
-
 pub dues_compared : due_order.cmp-value.it ≡ due_cmp
 dues_compared i a b =
     ordering_then (nat_cmp a.time b.time) (ordering_then (ranks_compared a.rank b.rank i) (name_cmp a.name b.name))
