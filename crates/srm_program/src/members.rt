@@ -6,21 +6,20 @@ ghost use Rattle.srm_program.specs.Sessions.{session_failures, OfRun, TellsSessi
 use crate::fault::Fault;
 use crate::made::{Made, made_members};
 use crate::options::Options;
-use crate::run::run;
+use crate::runner::Runner;
+use crate::task::Task;
 use srm_member::member::Member;
 use srm_report::outlet::Outlet;
 use srm_scenario::session::Session;
 use std::alloc::Global;
-use std::marker::Sync;
-use std::sync::Wait;
-use std::thread::Threads;
 
-/// Makes each member of a session by its role, with random words of this seed, runs them in boxes, and writes the report of the run.
+/// Makes each member of a session by its role, with random words of this seed, has them run in boxes, and the report of
+/// the run written.
 ///
 /// # Errors
-/// Memory runs out before the run, and nothing is written; or the run is refused, as [`run`] says.
-pub(crate) fn run_members<R: Threads + Wait + Sync, O: Outlet>(
-    rt: &R,
+/// Memory runs out before the run, and nothing is written; or the run is refused, as [`run`](crate::run::run) says.
+pub(crate) fn run_members<E: Runner + Drop, O: Outlet>(
+    runner: E,
     alloc: Global,
     session: Session,
     seed: u64,
@@ -28,6 +27,7 @@ pub(crate) fn run_members<R: Threads + Wait + Sync, O: Outlet>(
     outlet: &mut O,
 ) -> Result<(), Fault>
     requires workers { MayShareBag options.workers }
+    requires ready { E.ready runner options }
     requires count { O.failures outlet.old < 2 ^ 64 - 1 }
     ensures failures { O.failures outlet.new ≡ session_failures result (O.failures outlet.old) }
     ensures report { TellsSession session.entry.scenario.now session.entry.net.now seed options.show
@@ -48,8 +48,7 @@ pub(crate) fn run_members<R: Threads + Wait + Sync, O: Outlet>(
         };
         members.push(member)?;
     }
-    let Session { scenario, net } = session;
-    match run(rt, alloc, scenario, net, members, options, outlet) {
+    match runner.report(alloc, Task { session, options }, members, outlet) {
         Ok(()) => Ok(()),
         Err(fault) => Err(Fault::Lab(fault)),
     }

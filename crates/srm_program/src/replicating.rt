@@ -3,6 +3,7 @@ ghost use Rattle.std.specs.Prelude.{◌≡◌, ℕ};
 ghost use Rattle.srm_program.specs.Replications.{GivesLines, MakesLines, MayReplicate};
 
 use crate::fault::{Fault, LabFault};
+use crate::in_steps::BySteps;
 use crate::members::run_members;
 use crate::options::Options;
 use srm_report::outlet::WriteOutlet;
@@ -10,14 +11,10 @@ use srm_report::seeds::seeded_lines;
 use srm_scenario::session::Session;
 use srm_team::work::Work;
 use std::alloc::Global;
-use std::marker::Sync;
-use std::sync::Wait;
-use std::thread::Threads;
 
 /// Runs of a scenario on its network, one event after the other. Of each seed it gives the lines of the run's table.
 #[derive(Clone, Copy)]
-pub(crate) struct Replicating<'a, R> {
-    pub rt: R,
+pub(crate) struct Replicating<'a> {
     /// The memory that workers take.
     pub alloc: Global,
     /// What is run.
@@ -26,16 +23,15 @@ pub(crate) struct Replicating<'a, R> {
     pub options: Options,
 }
 
-impl<'a, R: Threads + Wait + Sync> Work<u64, Result<Vec<u8>, LabFault>> for Replicating<'a, R> {
-    ghost use Rattle.std.specs.Thread.{IsSync};
+impl<'a> Work<u64, Result<Vec<u8>, LabFault>> for Replicating<'a> {
     ghost use Rattle.srm_program.specs.Replications.{MakesLines, MayReplicate};
 
-    ghost ready = { λ w _. IsSync R.row × MayReplicate w.options };
+    ghost ready = { λ w _. MayReplicate w.options };
 
     ghost gives = { λ w seed r. MakesLines w.session.scenario.now w.session.net.now w.options.show seed r };
 
     fn work(&self, seed: u64) -> Result<Vec<u8>, LabFault> {
-        lines_of_seed(&self.rt, self.alloc, self.session, seed, self.options)
+        lines_of_seed(self.alloc, self.session, seed, self.options)
     }
 }
 
@@ -44,8 +40,7 @@ impl<'a, R: Threads + Wait + Sync> Work<u64, Result<Vec<u8>, LabFault>> for Repl
 ///
 /// # Errors
 /// `NoMemory` or `CountFull`.
-fn lines_of_seed<R: Threads + Wait + Sync>(
-    rt: &R,
+fn lines_of_seed(
     alloc: Global,
     session: Session,
     seed: u64,
@@ -62,15 +57,14 @@ fn lines_of_seed<R: Threads + Wait + Sync>(
         scenario: &seeded,
         net: session.net,
     };
-    lines_of_run(rt, alloc, of_seed, seed, options)
+    lines_of_run(alloc, of_seed, seed, options)
 }
 
 /// The run of a session, whose losses have their seed, into memory.
 ///
 /// # Errors
 /// `NoMemory` or `CountFull`.
-fn lines_of_run<R: Threads + Wait + Sync>(
-    rt: &R,
+fn lines_of_run(
     alloc: Global,
     session: Session,
     seed: u64,
@@ -80,7 +74,7 @@ fn lines_of_run<R: Threads + Wait + Sync>(
     ensures { GivesLines session.entry.scenario.now session.entry.net.now options.show seed result }
 {
     let mut outlet = WriteOutlet::new(Vec::new(alloc));
-    match run_members(rt, alloc, session, seed, options, &mut outlet) {
+    match run_members(BySteps {}, alloc, session, seed, options, &mut outlet) {
         Ok(()) => {
             let table = outlet.into_inner();
             match seeded_lines(alloc, seed, table.as_slice()) {

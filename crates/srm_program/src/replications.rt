@@ -314,7 +314,6 @@ pub fn replicate<R: Threads + Wait + Sync, O: Outlet>(
     }) (O.taken outlet.old) (O.taken outlet.new) result }
 {
     let work = Replicating {
-        rt,
         alloc,
         session,
         options,
@@ -324,7 +323,7 @@ pub fn replicate<R: Threads + Wait + Sync, O: Outlet>(
         first: seeds.first,
         end: seeds.first + u64::from(seeds.count),
     };
-    by_team::<Replicating<&R>, Brand, R, O>(
+    by_team::<Replicating, Brand, R, O>(
         rt,
         alloc,
         Opened::new(),

@@ -5,28 +5,46 @@ ghost use Rattle.srm_engine.specs.Openings.{HoldOpeningRecords};
 ghost use Rattle.srm_program.specs.Reports.{failures_after_run, TellsReport};
 ghost use Rattle.srm_program.specs.Runs.{MayShareBag, TellsRefusals};
 
-use crate::at_end::write_steps;
 use crate::fault::LabFault;
+use crate::in_steps::BySteps;
 use crate::in_windows::in_windows;
-use crate::listed::write_listing;
-use crate::options::{Engine, Options, Show};
+use crate::options::{Engine, Options};
+use crate::runner::Runner;
 use crate::task::Task;
 use srm_member::member::Member;
 use srm_net::net::Net;
-use srm_report::links::keep_nothing::KeepNothing;
-use srm_report::listing::timers::TimersListing;
-use srm_report::listing::trace::TraceListing;
-use srm_report::losses::find_losses::FindLosses;
-use srm_report::members::count_rows::CountRows;
-use srm_report::operations::find_operations::FindOperations;
 use srm_report::outlet::Outlet;
-use srm_report::scopes::find_scopes::FindScopes;
 use srm_scenario::scenario::Scenario;
 use srm_scenario::session::Session;
 use std::alloc::Global;
 use std::marker::Sync;
 use std::sync::Wait;
 use std::thread::Threads;
+
+/// Runs by the engine that is asked for.
+#[derive(Drop)]
+pub(crate) struct ByEngine<'a, R> {
+    pub rt: &'a R,
+}
+
+impl<'a, R: Threads + Wait + Sync> Runner for ByEngine<'a, R> {
+    ghost use Rattle.std.specs.Thread.{IsSync};
+
+    ghost ready = { λ _ _. IsSync R.row };
+
+    fn report<O: Outlet>(
+        self,
+        alloc: Global,
+        task: Task,
+        members: Vec<Box<dyn Member>>,
+        outlet: &mut O,
+    ) -> Result<(), LabFault> {
+        match task.options.engine {
+            Engine::Step => BySteps {}.report(alloc, task, members, outlet),
+            Engine::Window => in_windows(self.rt, alloc, task, members, outlet),
+        }
+    }
+}
 
 /// Runs the members of a scenario with the engine that is asked for, and writes the report of the run. Both engines write the
 /// same bytes: the report is that of the sequential run, for every seed whose opening records the boxes hold. As it is written, the
@@ -70,17 +88,5 @@ pub fn run<R: Threads + Wait + Sync, O: Outlet>(
 {
     let session = Session { scenario, net };
     let task = Task { session, options };
-    match options.engine {
-        Engine::Window => return in_windows(rt, alloc, task, members, outlet),
-        Engine::Step => {}
-    }
-    match options.show {
-        Show::Trace => write_listing(alloc, task, members, TraceListing, outlet),
-        Show::Members => write_steps(alloc, task, members, CountRows, outlet),
-        Show::Losses => write_steps(alloc, task, members, FindLosses { alloc }, outlet),
-        Show::Operations => write_steps(alloc, task, members, FindOperations { alloc }, outlet),
-        Show::Links => write_steps(alloc, task, members, KeepNothing, outlet),
-        Show::Timers => write_listing(alloc, task, members, TimersListing, outlet),
-        Show::Scopes => write_steps(alloc, task, members, FindScopes { alloc }, outlet),
-    }
+    ByEngine { rt }.report(alloc, task, members, outlet)
 }

@@ -11,6 +11,7 @@ use crate::fault::Fault;
 use crate::members::run_members;
 use crate::options::Options;
 use crate::replications::{Seeds, replicate};
+use crate::run::ByEngine;
 use srm_report::outlet::Outlet;
 use srm_scenario::bytes::{TextFault, read_text};
 use srm_scenario::fault::ScenarioFault;
@@ -134,7 +135,7 @@ pub fn simulate_text<R: Threads + Wait + Sync, O: Outlet>(
         net: &net,
     };
     match options.replications {
-        None => run_members(rt, alloc, session, seed, options, outlet),
+        None => run_members(ByEngine { rt }, alloc, session, seed, options, outlet),
         Some(count) => {
             let seeds = Seeds { first: seed, count };
             match replicate(rt, alloc, session, seeds, options, outlet) {

@@ -50,11 +50,10 @@ loop-made-preserved g c = (
       ∙ c.loop-made.invariant.2,
 )
 
-pub run-requires-clause-boxes : goal.run-requires-clause-boxes
-run-requires-clause-boxes g c =
+pub report-requires-clause-boxes : goal.report-requires-clause-boxes
+report-requires-clause-boxes g c =
     let ok = c.loop-made.made-iterator.rest.ok in
-    let none : into_iter_items c.loop-made.made-iterator ≡ [] = grind (arith, common_steps) in
-    λ κs alive. (
+    let none : into_iter_items c.loop-made.made-iterator ≡ [] = grind (arith, common_steps) in (
       c.args.seed,
       all-boxed (λ b. (own-1.entry b.vtable).1.plain b.value) record_made c.loop-made.members.items
           (into_iter_items c.loop-made.made-iterator) _ none c.loop-made.invariant.2,

@@ -5,7 +5,7 @@ use Rattle.srm_program.proofs.ReplicationLemmas.{columns_are_line, rows_are_line
 use Rattle.srm_program.proofs.replicating.lines_of_run.Goals as goal
 
 pub returns-in-Ok-seeded_lines : goal.returns-in-Ok-seeded_lines
-returns-in-Ok-seeded_lines g c =
+returns-in-Ok-seeded_lines c =
     let p = c.args.session.scenario.now in
     let net = c.args.session.net.now in
     let show = c.args.options.show in
