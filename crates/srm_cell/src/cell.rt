@@ -1,5 +1,5 @@
 //! A member's cell.
-ghost use Rattle.std.specs.Prelude.{◌≡◌, ◌≤◌, ◌<◌, ◌∷◌, ◌++◌, [], Some, None, OnOk, OnErr, IfOk, IfErr, All};
+ghost use Rattle.std.specs.Prelude.{◌≡◌, ◌≢◌, ◌≤◌, ◌<◌, ◌∷◌, ◌++◌, [], Some, None, OnOk, OnErr, IfOk, IfErr, All};
 ghost use Rattle.srm_net.specs.Limits.{end_of_time, most_sent};
 ghost use Rattle.srm_net.specs.Orders.{Rises};
 ghost use Rattle.srm_scenario.specs.Plain.{mark_cmp};
@@ -8,6 +8,7 @@ ghost use Rattle.srm_cell.specs.Cells.{hear_at, first_arrival, first_mark, next_
 ghost use Rattle.srm_cell.specs.Views.{AreWaiting, IsNew, Becomes, Steps, Ends, IsNextOf, IsNextTime, TellsMember, known_in};
 ghost use Rattle.srm_cell.specs.InnerSteps.{StandsFor, AnswersNext, AnswersEvent, HasAnswer, IsQuiet, Completes};
 ghost use Rattle.srm_member.specs.declared.cause.Cause.TheVariants as causes;
+ghost use Rattle.srm_cell.specs.declared.pending_event.Source.TheVariants as sources;
 ghost use Rattle.srm_cell.specs.PutRows.{PutsRow, PutsStep};
 ghost use Rattle.srm_cell.specs.Jobs.{Runs};
 ghost use Rattle.srm_cell.specs.Setting.{traffic_of};
@@ -232,15 +233,30 @@ impl<M: Participant> Cell<M> {
         requires { next.time < end_of_time }
         ensures { PutsStep (λ r. AnswersNext M.plain next self.old r self.new) rows.old.items result rows.new.items }
     {
+        let Source::Inbox = next.source else {
+            return self.answer_own(alloc, next, rows);
+        };
+        let Some(flight) = self.inbox.pop_first() else {
+            return Ok(false);
+        };
+        let key = PendingEvent::arriving(self.number, next.time, flight.packet.id).key;
+        self.say_packet(alloc, key, flight.packet, rows)?;
+        Ok(true)
+    }
+
+    // The same of a mark or a timer: apart from packets, as most events are, since what makes room for its values costs each of them.
+    #[inline(never)]
+    fn answer_own(
+        &mut self,
+        alloc: Global,
+        next: Next,
+        rows: &mut Vec<Row>,
+    ) -> Result<bool, CellFault>
+        requires time { next.time < end_of_time }
+        requires own { next.source ≢ sources.Inbox }
+        ensures { PutsStep (λ r. AnswersNext M.plain next self.old r self.new) rows.old.items result rows.new.items }
+    {
         match next.source {
-            Source::Inbox => {
-                let Some(flight) = self.inbox.pop_first() else {
-                    return Ok(false);
-                };
-                let key = PendingEvent::arriving(self.number, next.time, flight.packet.id).key;
-                self.say_packet(alloc, key, flight.packet, rows)?;
-                Ok(true)
-            }
             Source::Script => {
                 let Some(mark) = self.script.pop_first() else {
                     return Ok(false);
@@ -261,6 +277,7 @@ impl<M: Participant> Cell<M> {
                 Ok(true)
             }
             Source::Nowhere => Ok(false),
+            Source::Inbox => unreachable!(),
         }
     }
 
