@@ -25,6 +25,22 @@ use srm_report::scopes::member_scopes::MemberScopes;
 use srm_report::scopes::scopes_kept;
 use srm_scenario::session::Session;
 use std::alloc::Global;
+use std::marker::Copy;
+
+/// A table that is made at the end of a run in windows is written then.
+impl<K: Drop, T: EndTable<K> + Copy> WatchedTable<K> for T {
+    ghost show = { T.table };
+
+    fn write<M: Participant, C: WatchCrew<M, K, T>, O: Outlet>(
+        self,
+        alloc: Global,
+        asked: Asked<M>,
+        crew: &mut C,
+        outlet: &mut O,
+    ) -> Result<(), LabFault> {
+        write_windows(alloc, asked, crew, self, outlet)
+    }
+}
 
 /// The table of members, of the counts of each.
 impl EndTable<MemberCount> for CountRows {
@@ -42,22 +58,6 @@ impl EndTable<MemberCount> for CountRows {
         _totals: &Totals,
     ) -> Result<Vec<u8>, ReportFault> {
         members_kept(alloc, session.scenario, kept)
-    }
-}
-
-impl WatchedTable<MemberCount> for CountRows {
-    ghost use Rattle.srm_options.specs.declared.options.Show.TheVariants.{Members};
-
-    ghost show = { Members };
-
-    fn write<M: Participant, C: WatchCrew<M, MemberCount, CountRows>, O: Outlet>(
-        self,
-        alloc: Global,
-        asked: Asked<M>,
-        crew: &mut C,
-        outlet: &mut O,
-    ) -> Result<(), LabFault> {
-        write_windows(alloc, asked, crew, self, outlet)
     }
 }
 
@@ -82,22 +82,6 @@ impl EndTable<MemberLosses> for FindLosses {
     }
 }
 
-impl WatchedTable<MemberLosses> for FindLosses {
-    ghost use Rattle.srm_options.specs.declared.options.Show.TheVariants.{Losses};
-
-    ghost show = { Losses };
-
-    fn write<M: Participant, C: WatchCrew<M, MemberLosses, FindLosses>, O: Outlet>(
-        self,
-        alloc: Global,
-        asked: Asked<M>,
-        crew: &mut C,
-        outlet: &mut O,
-    ) -> Result<(), LabFault> {
-        write_windows(alloc, asked, crew, self, outlet)
-    }
-}
-
 /// The table of operations, of what the rows of each member tell of them.
 impl EndTable<MemberOperations> for FindOperations {
     ghost use Rattle.srm_options.specs.declared.options.Show.TheVariants.{Operations};
@@ -116,22 +100,6 @@ impl EndTable<MemberOperations> for FindOperations {
         // By its contract, every scenario is accepted: that makes the rows of its run orderly.
         let _ = session.scenario.until();
         operations_kept(alloc, session.net, kept)
-    }
-}
-
-impl WatchedTable<MemberOperations> for FindOperations {
-    ghost use Rattle.srm_options.specs.declared.options.Show.TheVariants.{Operations};
-
-    ghost show = { Operations };
-
-    fn write<M: Participant, C: WatchCrew<M, MemberOperations, FindOperations>, O: Outlet>(
-        self,
-        alloc: Global,
-        asked: Asked<M>,
-        crew: &mut C,
-        outlet: &mut O,
-    ) -> Result<(), LabFault> {
-        write_windows(alloc, asked, crew, self, outlet)
     }
 }
 
@@ -156,22 +124,6 @@ impl EndTable<MemberScopes> for FindScopes {
     }
 }
 
-impl WatchedTable<MemberScopes> for FindScopes {
-    ghost use Rattle.srm_options.specs.declared.options.Show.TheVariants.{Scopes};
-
-    ghost show = { Scopes };
-
-    fn write<M: Participant, C: WatchCrew<M, MemberScopes, FindScopes>, O: Outlet>(
-        self,
-        alloc: Global,
-        asked: Asked<M>,
-        crew: &mut C,
-        outlet: &mut O,
-    ) -> Result<(), LabFault> {
-        write_windows(alloc, asked, crew, self, outlet)
-    }
-}
-
 /// The table of links, of the totals alone.
 impl EndTable<Nothing> for KeepNothing {
     ghost use Rattle.srm_options.specs.declared.options.Show.TheVariants.{Links};
@@ -188,21 +140,5 @@ impl EndTable<Nothing> for KeepNothing {
         totals: &Totals,
     ) -> Result<Vec<u8>, ReportFault> {
         links_text(alloc, totals)
-    }
-}
-
-impl WatchedTable<Nothing> for KeepNothing {
-    ghost use Rattle.srm_options.specs.declared.options.Show.TheVariants.{Links};
-
-    ghost show = { Links };
-
-    fn write<M: Participant, C: WatchCrew<M, Nothing, KeepNothing>, O: Outlet>(
-        self,
-        alloc: Global,
-        asked: Asked<M>,
-        crew: &mut C,
-        outlet: &mut O,
-    ) -> Result<(), LabFault> {
-        write_windows(alloc, asked, crew, self, outlet)
     }
 }
