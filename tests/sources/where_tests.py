@@ -126,7 +126,7 @@ class Where(unittest.TestCase):
 class OfThisRepository(unittest.TestCase):
     def test_each_definition_of_a_public_clause_is_found(self) -> None:
         """Of some calls of which the documents speak."""
-        for name, definition in [("Net::distance", "distance"), ("step_run", "RunsFrom"), ("Ledger::add", "SeatGrows")]:
+        for name, definition in [("Net::distance", "distance"), ("step_run", "TellsOutcome"), ("Ledger::add", "SeatGrows")]:
             found = [it for it in where.functions(None) if it.is_called(name)]
             self.assertTrue(found, name)
             self.assertIn(definition, {told for it in found for told, _ in where.definitions(it, where.contract(it))}, name)

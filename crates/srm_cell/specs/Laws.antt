@@ -2,7 +2,7 @@
 use Rattle.std.specs.Prelude.{◌≡◌, ℕ, List, [], ◌++◌, Some, None, Ok}
 use Rattle.srm_net.specs.Keys.{key_cmp}
 use Rattle.srm_net.specs.Orders.{Rises, NoneBelow}
-use Rattle.srm_scenario.specs.Plain.{PlainScenario, network_of, mark_cmp, with_seed}
+use Rattle.srm_scenario.specs.Plain.{PlainScenario, mark_cmp, with_seed}
 use Rattle.srm_scenario.specs.Accepted.{IsAccepted}
 use Rattle.srm_scenario.specs.Faults.{scenario_of_text}
 use Rattle.srm_member.specs.declared.row.Row.{Row}
@@ -20,13 +20,13 @@ OwnRunsAreOne =
 
 -- the setting of an accepted scenario is fit
 abbrev pub SettingsAreFit : Type 0
-SettingsAreFit = (s : PlainScenario) (seed : ℕ) → IsAccepted s → IsFit (setting_of s (network_of s) seed)
+SettingsAreFit = (s : PlainScenario) (seed : ℕ) → IsAccepted s → IsFit (setting_of s seed)
 
 -- and so is, with every seed, by which packets are lost too, that of the scenario of a text
 abbrev pub SettingsOfTextsAreFit : Type 0
 SettingsOfTextsAreFit =
     (text : List ℕ) (s : PlainScenario) (seed : ℕ) → scenario_of_text text ≡ Ok s
-    → IsFit (setting_of (with_seed s seed) (network_of (with_seed s seed)) seed)
+    → IsFit (setting_of (with_seed s seed) seed)
 
 -- the crossings of two lists of rows together are those of each, added
 abbrev pub CrossingsAdd : Type 0

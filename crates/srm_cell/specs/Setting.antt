@@ -1,4 +1,4 @@
--- What the model needs of a scenario, its network and a seed.
+-- What the model needs of a scenario and a seed.
 use Rattle.std.specs.Prelude.{◌≡◌, ◌≢◌, ℕ, ◌+◌, ◌<◌, Bool, true, not, ◌&&◌, List, [], ◌∷◌, length}
 use Rattle.std.specs.Prelude.{Option, Some, None, unwrap_or, slice_get, nat_lt, ◌==◌, if◌then◌else◌}
 use Rattle.srm_net.specs.declared.packet.Packet.{Packet}
@@ -16,7 +16,7 @@ pub use Rattle.srm_net.specs.Paths.{half_rounds_from}
 use Rattle.srm_net.specs.Paths.{hops_from}
 use Rattle.srm_scenario.specs.declared.mark.Mark.{Mark}
 use Rattle.srm_scenario.specs.declared.parts.MemberSpec.{MemberSpec}
-use Rattle.srm_scenario.specs.Plain.{PlainScenario, mark_cmp, script_of}
+use Rattle.srm_scenario.specs.Plain.{PlainScenario, mark_cmp, network_of, script_of}
 use Rattle.srm_scenario.specs.Scripts.{is_mark_rank}
 use Rattle.srm_scenario.specs.Presence.{is_present}
 use Rattle.srm_member.specs.declared.cause.Cause.{Cause}
@@ -54,8 +54,8 @@ member_at s m = unwrap_or (slice_get s.members m)
     (record { node = 0; role = Receiver; stream = 0; join = 0; leave = None; pages = []; scope = 0 })
 
 -- the part of member m's record that never changes
-abbrev pub fixed_of : PlainScenario → Network → ℕ → ℕ → Fixed
-fixed_of s net seed m = record {
+abbrev pub fixed_of : PlainScenario → ℕ → ℕ → Fixed
+fixed_of s seed m = record {
   member = m;
   role = (member_at s m).role;
   backoff = if s.room.backoff == 3 then Three else Two;
@@ -63,8 +63,8 @@ fixed_of s net seed m = record {
   c2 = record { first = s.constants.c2; least = s.room.least.c2; most = s.room.most.c2 };
   d1 = record { first = s.constants.d1; least = s.room.least.d1; most = s.room.most.d1 };
   d2 = record { first = s.constants.d2; least = s.room.least.d2; most = s.room.most.d2 };
-  dist = half_rounds_from net m;
-  hops = hops_from net m;
+  dist = half_rounds_from (network_of s) m;
+  hops = hops_from (network_of s) m;
   scope = (member_at s m).scope;
   widen = s.recovery.widen;
   tries = s.recovery.tries;
@@ -74,7 +74,7 @@ fixed_of s net seed m = record {
   stream = (member_at s m).stream;
 }
 
--- the traffic of a scenario and its network
+-- the traffic of a scenario on a network
 abbrev pub traffic_of : PlainScenario → Network → Traffic
 traffic_of s net = record {
   until = s.until;
@@ -88,9 +88,9 @@ traffic_of s net = record {
   drops_at = λ p. paths.drops_at net s.drops p.id p.sent (scope_of p.body);
 }
 
--- the setting of a scenario, its network and a seed
-abbrev pub setting_of : PlainScenario → Network → ℕ → Setting
-setting_of s net seed = record { traffic = traffic_of s net; fixed = fixed_of s net seed; script = script_of s }
+-- the setting of a scenario and a seed
+abbrev pub setting_of : PlainScenario → ℕ → Setting
+setting_of s seed = record { traffic = traffic_of s (network_of s); fixed = fixed_of s seed; script = script_of s }
 
 -- what becomes of packet p where links drop packets by these rules
 abbrev pub IsSpreadOf : Network → DropRules → Packet → PlainSpread → Type 0

@@ -2,7 +2,6 @@
 use Rattle.std.proofs.Common.{◌≡◌, ◌⊎◌, ℕ, zero, suc, ◌+◌, List, [], ◌∷◌, ◌++◌, length, refl, None}
 use Rattle.std.proofs.Common.{sym, ap, ◌∙◌, subst, map, arith, length-append, add-one, zero-add, Vec, Global}
 use Rattle.std.specs.List.{range_with_len}
-use Rattle.srm_net.specs.Network.{Network}
 use Rattle.srm_scenario.specs.declared.mark.Mark.{Mark}
 use Rattle.srm_scenario.specs.Plain.{PlainScenario, script_of}
 use Rattle.srm_scenario.specs.ScriptLists.{scripts_of}
@@ -15,7 +14,7 @@ use Rattle.srm_cell.specs.Views.{IsCell, IsNew}
 use Rattle.srm_model.specs.World.{World, opening, opening_cells}
 use Rattle.srm_engine.specs.Seen.{AreCellsInOrder}
 use Rattle.srm_cell.specs.Totalled.{numbers_of}
-use Rattle.srm_engine.specs.Openings.{records_from}
+use Rattle.srm_engine.proofs.Openings.{records_from}
 use Rattle.srm_model.proofs.OneStep.{length_opening}
 use Rattle.std.specs.List.{range_with_len}
 use Rattle.std.proofs.lemmas.List.{length-map, map-append}
@@ -48,12 +47,12 @@ module _ {M : Type 0} where
   unfolding opening_cells
   none_seen f s = (record { sound = All-nil (IsSoundCell f); numbers = refl }, refl)
 
-  pub opened_cell : (f : M → Record) (p : PlainScenario) (net : Network) (seed k : ℕ) (c : Cell M) (r : Record)
+  pub opened_cell : (f : M → Record) (p : PlainScenario) (seed k : ℕ) (c : Cell M) (r : Record)
       (marks : List Mark)
-      → r ≡ opening_record (fixed_of p net seed k) → marks ≡ script_of p k
+      → r ≡ opening_record (fixed_of p seed k) → marks ≡ script_of p k
       → IsNew f r marks 0 c
-      → IsCell f c (record { member = k; cell = opening_cell (setting_of p net seed) k })
-  opened_cell f p net seed k c r marks e h is = record {
+      → IsCell f c (record { member = k; cell = opening_cell (setting_of p seed) k })
+  opened_cell f p seed k c r marks e h is = record {
     sound = is.sound;
     is = is.is ∙ (λ i. record {
       member = (fixed_part (e i)).member;
@@ -83,44 +82,38 @@ pub totals_are : (s : Setting) (w : World) → numbers_of s.traffic (packets_of 
 unfolding numbers_of crossings
 totals_are s w = refl
 
--- ---- the records that are still to come
-
-pub none_left : (p : PlainScenario) (net : Network) (seed k n : ℕ) → [] ≡ records_from p net seed k n → n ≡ 0
-none_left p net seed k zero h = refl
-none_left p net seed k (suc m) h = cc
-
 -- ---- cells that open one after the other
 
--- of no script none is to come
-no_script : (p : PlainScenario) (k n : ℕ) → [] ≡ map (script_of p) (range_with_len k n) → n ≡ 0
-no_script p k zero h = refl
-no_script p k (suc n) h = cc
+-- of nothing none is to come
+none_left : {A : Type 0} (f : ℕ → A) (k n : ℕ) → [] ≡ map f (range_with_len k n) → n ≡ 0
+none_left f k zero h = refl
+none_left f k (suc n) h = cc
 
-module _ {M : Type 0} (f : M → Record) (p : PlainScenario) (net : Network) (seed : ℕ) where
+module _ {M : Type 0} (f : M → Record) (p : PlainScenario) (seed : ℕ) where
   -- the cells so far are those of the first members, and the members and scripts that are left are those of the others
   pub record OpenSoFar (ms : List M) (vs : List (Vec Mark Global)) (cs : List (Cell M)) : Type 0 where
     pub left : ℕ
     pub all : length cs + left ≡ length p.members
-    pub records : map f ms ≡ records_from p net seed (length cs) left
+    pub records : map f ms ≡ records_from p seed (length cs) left
     pub scripts : map (λ marks. marks.items) vs ≡ map (script_of p) (range_with_len (length cs) left)
-    pub cells : AreCellsInOrder f cs (opening_cells (setting_of p net seed) (length cs) 0)
+    pub cells : AreCellsInOrder f cs (opening_cells (setting_of p seed) (length cs) 0)
 
-  pub open_none : (ms : List M) (vs : List (Vec Mark Global)) → map f ms ≡ records_from p net seed 0 (length p.members)
+  pub open_none : (ms : List M) (vs : List (Vec Mark Global)) → map f ms ≡ records_from p seed 0 (length p.members)
       → map (λ marks. marks.items) vs ≡ scripts_of p → OpenSoFar ms vs []
   open_none ms vs h e = record {
     left = length p.members;
     all = zero-add _;
     records = h;
     scripts = e;
-    cells = none_seen f (setting_of p net seed);
+    cells = none_seen f (setting_of p seed);
   }
 
   -- the next member and its script, and those after it
   record IsNext (m : M) (ms : List M) (v : Vec Mark Global) (vs : List (Vec Mark Global)) (k left : ℕ) : Type 0 where
     rest : ℕ
     one : left ≡ suc rest
-    opening : f m ≡ opening_record (fixed_of p net seed k)
-    records : map f ms ≡ records_from p net seed (suc k) rest
+    opening : f m ≡ opening_record (fixed_of p seed k)
+    records : map f ms ≡ records_from p seed (k + 1) rest
     script : v.items ≡ script_of p k
     scripts : map (λ marks. marks.items) vs ≡ map (script_of p) (range_with_len (k + 1) rest)
 
@@ -141,19 +134,19 @@ module _ {M : Type 0} (f : M → Record) (p : PlainScenario) (net : Network) (se
       → OpenSoFar ms vs (cs ++ c ∷ [])
   open_next m ms ns v vs ws cs c e d before is =
       let k = length cs in
-      let s = setting_of p net seed in
+      let s = setting_of p seed in
       let o = begins m ms ns v vs ws cs e d before in
       let i = next_is m ms v vs cs o in
       let q = opening_cell s k in
       let here = subst (λ j. IsCell f c (record { member = j; cell = q })) (sym (length_opening s k 0))
-      (opened_cell f p net seed k c (f m) v.items i.opening i.script is) in
+      (opened_cell f p seed k c (f m) v.items i.opening i.script is) in
       let now : length (cs ++ c ∷ []) ≡ k + 1 = length-append cs (c ∷ []) in
       let was = o.all in
       let one = i.one in
       record {
         left = i.rest;
         all = omega arith;
-        records = i.records ∙ ap (λ j. records_from p net seed j i.rest) (sym (now ∙ add-one k));
+        records = i.records ∙ ap (λ j. records_from p seed j i.rest) (sym now);
         scripts = i.scripts ∙ ap (λ j. map (script_of p) (range_with_len j i.rest)) (sym now);
         cells = subst (λ j. AreCellsInOrder f (cs ++ c ∷ []) (opening_cells s j 0)) (sym now)
             (subst (λ (qs : List PlainCell). AreCellsInOrder f (cs ++ c ∷ []) qs) (sym (next_opening s k))
@@ -162,5 +155,5 @@ module _ {M : Type 0} (f : M → Record) (p : PlainScenario) (net : Network) (se
 
   -- where no member or no script is left, all cells are open
   pub open_all : (ms : List M) (vs : List (Vec Mark Global)) (cs : List (Cell M)) → OpenSoFar ms vs cs → (ms ≡ []) ⊎ (vs ≡ [])
-      → AreCellsInOrder f cs (opening_cells (setting_of p net seed) (length p.members) 0)
-  open_all ms vs cs o none = grind (arith, none_left, no_script)
+      → AreCellsInOrder f cs (opening_cells (setting_of p seed) (length p.members) 0)
+  open_all ms vs cs o none = grind (arith, none_left)

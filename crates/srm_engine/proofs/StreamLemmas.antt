@@ -20,7 +20,7 @@ use Rattle.srm_interfaces.specs.declared.sink.Stage.{Stage}
 use Rattle.srm_model.specs.World.{World, IsReached, step}
 use Rattle.srm_scenario.specs.declared.session.Session.{Session}
 use Rattle.srm_engine.specs.Starts.{setting_on}
-use Rattle.srm_engine.specs.Engines.{MayRefuseStep, HasCounted, traffic_in}
+use Rattle.srm_engine.specs.Engines.{MayRefuseStep, HasCounted}
 use Rattle.srm_interfaces.specs.Sinks.{most_rows, stage_after, stops_in}
 use Rattle.srm_engine.specs.Outcomes.{MayRefuseRun}
 use Rattle.srm_engine.specs.Streams.{sink_in, stream_fault_of, run_fault_in, stopped_in, MayStop, MeetsRefusal, TakesTraceFront}
@@ -128,8 +128,7 @@ module _ {S : Type 0} (took part : S → List Row → S → Type 0) where
 -- what an engine counted that is seen as a world of a run
 pub run_totals : {M : Type 0} (e : Simulation M) (at : Session) (seed : ℕ) (w : World) (totals : List ℕ)
     → e.session ≡ at → HasCounted e (packets_of w.trace) → totals ≡ tallied e.session.net.now e.tally
-    → totals ≡ crossings (traffic_of at.scenario.now at.net.now) w.trace
+    → totals ≡ crossings (setting_on at seed).traffic w.trace
 run_totals e at seed w totals same counted is =
-    let here : numbers_of (traffic_in e) (packets_of w.trace) ≡ numbers_of (traffic_of at.scenario.now at.net.now) (packets_of w.trace) =
-    ap (λ at. numbers_of (traffic_of at.scenario.now at.net.now) (packets_of w.trace)) same in
-    is ∙ counted.numbers ∙ here ∙ totals_are (setting_on at seed) w
+    is ∙ counted.numbers ∙ ap (λ net. numbers_of (traffic_of e.session.scenario.now net) (packets_of w.trace)) e.session.network
+    ∙ ap (λ at. numbers_of (setting_on at seed).traffic (packets_of w.trace)) same ∙ totals_are (setting_on at seed) w

@@ -8,7 +8,7 @@ use Rattle.std.proofs.lemmas.List.Sorted.{IsPermutation-refl}
 use Rattle.std.specs.List.{range_with_len}
 use Rattle.std.specs.Global.{Vec}
 use Rattle.srm_net.specs.Network.{Network}
-use Rattle.srm_scenario.specs.Plain.{PlainScenario, network_of}
+use Rattle.srm_scenario.specs.Plain.{PlainScenario}
 use Rattle.srm_scenario.specs.Accepted.{IsAccepted}
 use Rattle.srm_scenario.specs.declared.parts.MemberSpec.{MemberSpec}
 use Rattle.srm_scenario.proofs.Members.{few_members}
@@ -20,7 +20,7 @@ use Rattle.srm_interfaces.proofs.Sums.{crossings_long}
 use Rattle.srm_cell.specs.declared.cell.Cell.{Cell}
 use Rattle.srm_cell.specs.declared.job.Job.{Job}
 use Rattle.srm_cell.specs.declared.job.Done as job
-use Rattle.srm_cell.specs.Setting.{Setting, IsFit, setting_of}
+use Rattle.srm_cell.specs.Setting.{Setting, IsFit, setting_of, traffic_of}
 use Rattle.srm_cell.specs.Cells.{Event, Full, Spent}
 use Rattle.srm_cell.specs.Crossings.{joined, packets_of, crossings}
 use Rattle.srm_cell.specs.Jobs as cell
@@ -79,9 +79,9 @@ use Rattle.srm_interfaces.proofs.Sums.{none_crossed}
 -- ---- windows
 
 -- windows that end so follow a rule
-pub ends_are_rules : (p : PlainScenario) (net : Network) → net ≡ network_of p → IsAccepted p → (seed : ℕ) (ends : Ends) → MayEnd net ends
-    → IsEndRule (setting_of p net seed) (ends_rule (setting_of p net seed) ends)
-ends_are_rules p net is accepted seed ends may = grind (arith, widths_are_rules, promises_are_a_rule, settings_are_fit)
+pub ends_are_rules : (p : PlainScenario) → IsAccepted p → (seed : ℕ) (ends : Ends) → MayEnd p ends
+    → IsEndRule (setting_of p seed) (ends_rule (setting_of p seed) ends)
+ends_are_rules p accepted seed ends may = grind (arith, widths_are_rules, promises_are_a_rule, settings_are_fit)
 
 -- ---- records
 
@@ -112,7 +112,8 @@ pub map_refused : {M : Type 0} (f : M → Record) (e : WindowEngine M) (seed til
     (js : List (Job M)) → JobsTell f e seed till w js → (x : CrewFault) (y : RunFault) → run_fault_of x ≡ Some y
     → Maps f e.session.scenario.now e.session.net.now e.seat js (Err x)
     → MayRefuseWindow (setting_by e seed) (rule_by e seed w) e.groups.cut w y
-map_refused f e seed till w js j x y is h = grind arith
+map_refused f e seed till w js j x y is of_net =
+    let h = subst (λ (net : Network). Maps f e.session.scenario.now net e.seat js (Err x)) e.session.network of_net in grind arith
 
 -- what the crew did for the window that ends so
 pub record WindowRan {M : Type 0} (f : M → Record) (e : WindowEngine M) (seed till : ℕ) (w : World)
@@ -133,12 +134,10 @@ module _ {M : Type 0} (f : M → Record) (e : WindowEngine M) (is : IsUnderWay f
   s = setting_by e seed
 
   pub fit : IsFit s
-  fit = subst (λ (n : Network). IsFit (setting_of e.session.scenario.now n seed)) (sym e.session.network)
-      (settings_are_fit e.session.scenario.now seed
-      is.accepted)
+  fit = settings_are_fit e.session.scenario.now seed is.accepted
 
   rule_is : IsEndRule s (rule_by e seed)
-  rule_is = ends_are_rules e.session.scenario.now e.session.net.now e.session.network is.accepted seed e.ends is.ends
+  rule_is = ends_are_rules e.session.scenario.now is.accepted seed e.ends is.ends
 
   pub reached : IsReached s w
   reached = (windows_are_reached s (rule_by e seed) begins w comes.windows).0
@@ -314,11 +313,12 @@ module _ {M : Type 0} (f : M → Record) (e : WindowEngine M) (is : IsUnderWay f
           kept_goes_on keeps s w till fit reached within safe ran.results ran.alone rows merge_is before old new h
           (subst (λ l. KeepEach keeps old l new) ran.rows each)
 
-      pub counted_after : (seat : SeatView) → HasGrown (counted_in (crossings s.traffic (rows_of ds))) e.seat seat
+      pub counted_after : (seat : SeatView)
+          → HasGrown (counted_in (crossings (traffic_of e.session.scenario.now e.session.net.now) (rows_of ds))) e.seat seat
           → IsCounted s.traffic e.ledger (w.trace ++ rows) seat
       counted_after seat grown = counted_merged s e.ledger w.trace (joined (rows_in ran.results)) rows seat merge_is.all
-          (counted_more s.traffic e.ledger w.trace (rows_of ds) (joined (rows_in ran.results)) e.seat seat comes.counted grown
-          (rows_joined f ds ∙ ap joined ran.rows))
+          (counted_more s.traffic e.ledger w.trace (rows_of ds) (joined (rows_in ran.results)) e.seat seat comes.counted
+          (rw e.session.network at grown) (rows_joined f ds ∙ ap joined ran.rows))
 
 -- ---- the beginning of a run
 
@@ -331,16 +331,16 @@ opened_counted s l links seat whole = grind (arith, replicate_zero, none_crossed
 
 -- what holds of an engine's run holds of the run that was asked for
 pub as_asked : {M : Type 0} (Q : Setting → (World → ℕ) → ℕ → Type 0) (e : WindowEngine M) (at : Session)
-    (c : Cutting) (asked : Windows) (seed : ℕ) → frame_of e ≡ (at, c.cut, c.ends) → TellsCutting at.scenario.now at.net.now asked (Ok c)
+    (c : Cutting) (asked : Windows) (seed : ℕ) → frame_of e ≡ (at, c.cut, c.ends) → TellsCutting at.scenario.now asked (Ok c)
     → Q (setting_by e seed) (rule_by e seed) e.groups.cut
-    → Q (setting_on at seed) (rule_of (setting_on at seed) at.net.now asked.width) asked.cut
+    → Q (setting_on at seed) (rule_of (setting_on at seed) at.scenario.now asked.width) asked.cut
 as_asked Q e at c asked seed same told h = grind arith
 
 -- what is told of what was asked for, where it is told why the run gave no outcome
-pub asked_told : (A : Type 0) (net : Network) (asked : Windows) (x : StreamFault) (e : RunFault) → run_fault_in x ≡ Some e
-    → TellsStreamAsked {A = A} net asked (Err x) → TellsRunAsked net asked (Err e)
-asked_told A net asked (Run f) e is h = subst (λ y. TellsRunAsked net asked (Err y)) (same_Some f e is) h
-asked_told A net asked (Stopped n) e is h = cc
+pub asked_told : (A : Type 0) (p : PlainScenario) (asked : Windows) (x : StreamFault) (e : RunFault) → run_fault_in x ≡ Some e
+    → TellsStreamAsked {A = A} p asked (Err x) → TellsRunAsked p asked (Err e)
+asked_told A p asked (Run f) e is h = subst (λ y. TellsRunAsked p asked (Err y)) (same_Some f e is) h
+asked_told A p asked (Stopped n) e is h = cc
 
 -- when a run in windows that hands its rows on is refused
 pub halts_refuse : {C S : Type 0} (took part : S → List Row → S → Type 0) (s : Setting) (rule : World → ℕ) (n : ℕ) (old : C) (from : S)
@@ -362,16 +362,16 @@ refused_at_window took part s rule n from (halt.Sink (sink.Stopped k)) to h = tt
 
 -- what was left undone where such a run is refused memory
 pub windows_undone : {S : Type 0} (took part : S → List Row → S → Type 0) (stage : S → Stage) (A : Type 0) (s : Setting)
-    (net : Network) (asked : Windows) (from : S) (x : Halt) (to : S)
-    → TellsHalt took part (MayCome s (rule_of s net asked.width) asked.cut) s from x to → stage to ≡ stage_after (sink_in {A = A} (Err x))
-    → UndoneAfter stage took part (MayLackWindow s net asked) s from (stream_fault_of x) to
-windows_undone took part stage A s net asked from (halt.Run fault.NoMemory) to h at e = inr (inl h)
-windows_undone took part stage A s net asked from (halt.Run fault.CountFull) to h at e = cc
-windows_undone took part stage A s net asked from (halt.Run fault.ShareFull) to h at e = cc
-windows_undone took part stage A s net asked from (halt.Run fault.BadCut) to h at e = cc
-windows_undone took part stage A s net asked from (halt.Run fault.BadWidth) to h at e = cc
-windows_undone took part stage A s net asked from (halt.Sink sink.NoMemory) to h at e = inr (inr (at, h))
-windows_undone took part stage A s net asked from (halt.Sink (sink.Stopped k)) to h at e = cc
+    (p : PlainScenario) (asked : Windows) (from : S) (x : Halt) (to : S)
+    → TellsHalt took part (MayCome s (rule_of s p asked.width) asked.cut) s from x to → stage to ≡ stage_after (sink_in {A = A} (Err x))
+    → UndoneAfter stage took part (MayLackWindow s p asked) s from (stream_fault_of x) to
+windows_undone took part stage A s p asked from (halt.Run fault.NoMemory) to h at e = inr (inl h)
+windows_undone took part stage A s p asked from (halt.Run fault.CountFull) to h at e = cc
+windows_undone took part stage A s p asked from (halt.Run fault.ShareFull) to h at e = cc
+windows_undone took part stage A s p asked from (halt.Run fault.BadCut) to h at e = cc
+windows_undone took part stage A s p asked from (halt.Run fault.BadWidth) to h at e = cc
+windows_undone took part stage A s p asked from (halt.Sink sink.NoMemory) to h at e = inr (inr (at, h))
+windows_undone took part stage A s p asked from (halt.Sink (sink.Stopped k)) to h at e = cc
 
 -- ---- its end
 
@@ -397,4 +397,4 @@ pub counted_words : {M : Type 0} (f : M → Record) (e : WindowEngine M) → IsU
 counted_words f e is seed begins w comes totals long words =
     let t = (setting_by e seed).traffic in
     total_words totals e.seat.shares (crossings t w.trace) words
-    (long ∙ ap (λ n. 5 * n) is.links ∙ sym (crossings_long t w.trace)) comes.counted.shares
+    (long ∙ ap (λ n. 5 * n) (rw e.session.network at is.links) ∙ sym (crossings_long t w.trace)) comes.counted.shares

@@ -1,6 +1,7 @@
 -- What is seen of the engine, and what its calls tell.
 use Rattle.std.specs.Prelude.{◌≡◌, ◌<◌, ◌+◌, ◌^◌, ℕ, List, [], ◌∷◌, ◌++◌, length, Option, Some, None, Result, Ok, Err}
 use Rattle.srm_net.specs.declared.packet.Packet.{Packet}
+use Rattle.srm_scenario.specs.Plain.{network_of}
 use Rattle.srm_member.specs.declared.row.Row.{Row}
 use Rattle.srm_member.specs.Record.{Record}
 use Rattle.srm_cell.specs.Setting.{Traffic, Setting, traffic_of, setting_of}
@@ -24,13 +25,13 @@ MayRefuseStep o fault.CountFull = o ≡ Full
 MayRefuseStep o e = ⊥
 
 module _ {M : Type 0} where
-  -- the traffic of an engine's scenario and network
+  -- the traffic of an engine's scenario
   abbrev pub traffic_in : Simulation M → Traffic
-  traffic_in e = traffic_of e.session.scenario.now e.session.net.now
+  traffic_in e = traffic_of e.session.scenario.now (network_of e.session.scenario.now)
 
-  -- their setting with a seed
+  -- its setting with a seed
   abbrev pub setting_in : Simulation M → ℕ → Setting
-  setting_in e seed = setting_of e.session.scenario.now e.session.net.now seed
+  setting_in e seed = setting_of e.session.scenario.now seed
 
   -- the engine has counted these packets
   abbrev pub HasCounted : Simulation M → List Packet → Type 0

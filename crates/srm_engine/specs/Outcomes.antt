@@ -1,17 +1,14 @@
 -- What a run is given, and what it tells.
-use Rattle.std.specs.Prelude.{◌≡◌, ◌≢◌, ◌⊎◌, ℕ, All, List, map, Option, Some, None, Result, MatchResult}
-use Rattle.srm_net.specs.Network.{Network}
-use Rattle.srm_scenario.specs.Plain.{PlainScenario}
+use Rattle.std.specs.Prelude.{◌≡◌, ◌≢◌, ◌⊎◌, All, List, map, Option, Some, None, Result, MatchResult}
 use Rattle.srm_member.specs.declared.exit.Exit.{Exit}
 use Rattle.srm_member.specs.Record.{Record, MemberState}
 use Rattle.srm_cell.specs.declared.cell.Cell.{Cell}
-use Rattle.srm_cell.specs.Setting.{Setting, setting_of}
+use Rattle.srm_cell.specs.Setting.{Setting}
 use Rattle.srm_cell.specs.Cells.{PlainCell}
 use Rattle.srm_cell.specs.Views.{plain_cell}
 use Rattle.srm_engine.specs.declared.fault.RunFault.{RunFault}
 use Rattle.srm_engine.specs.declared.fault.RunFault.TheVariants as fault
 use Rattle.srm_engine.specs.declared.outcome.Outcome.{Outcome}
-pub use Rattle.srm_engine.specs.Openings.{records_from, HoldOpeningRecords}
 use Rattle.srm_model.specs.World.{IsOutcome, RunMeetsFull, exit_at}
 
 -- when the sequential run may be refused: for memory; or where it meets a step for which the packet count is used up
@@ -21,10 +18,6 @@ MayRefuseRun s e = (e ≡ fault.NoMemory) ⊎ ((e ≡ fault.CountFull) × RunMee
 -- what a run tells: the outcome of the sequential run, or why it is refused
 abbrev pub TellsOutcome : Setting → Result Outcome RunFault → Type 0
 TellsOutcome s r = MatchResult r (λ v. IsOutcome s v.trace.items v.exits.items v.totals) (MayRefuseRun s)
-
--- so for every seed whose opening records the boxes hold
-abbrev pub RunsFrom : PlainScenario → Network → List Record → Result Outcome RunFault → Type 0
-RunsFrom p net rs r = (seed : ℕ) → HoldOpeningRecords p net seed rs → TellsOutcome (setting_of p net seed) r
 
 -- a member that is gone has left its exit
 abbrev pub HasEnd : Option MemberState → Option Exit → Type 0

@@ -1,6 +1,6 @@
 -- Runs that hand their rows to a sink and are asked for no exits: what they tell, and when memory is refused to them.
 use Rattle.std.specs.Prelude.{◌≡◌, ◌⊎◌, ℕ, List, Result, Ok, Err, IfErr}
-use Rattle.srm_net.specs.Network.{Network}
+use Rattle.srm_scenario.specs.Plain.{PlainScenario}
 use Rattle.srm_engine.specs.declared.width.Windows.{Windows}
 use Rattle.srm_member.specs.declared.row.Row.{Row}
 use Rattle.srm_member.specs.declared.exit.Exit.{Exit}
@@ -34,8 +34,8 @@ module _ {S : Type 0} (took part : S → List Row → S → Type 0) where
 -- ---- memory
 
 -- memory may be refused to the window that begins in a world of a run, where windows end so and jobs are so large
-abbrev pub MayLackWindow : Setting → Network → Windows → World → Type 0
-MayLackWindow s net asked w = MayCome s (rule_of s net asked.width) asked.cut w fault.NoMemory
+abbrev pub MayLackWindow : Setting → PlainScenario → Windows → World → Type 0
+MayLackWindow s p asked w = MayCome s (rule_of s p asked.width) asked.cut w fault.NoMemory
 
 module _ {S : Type 0} (stage : S → Stage) (took part : S → List Row → S → Type 0) where
   -- where memory is refused to a run that hands its rows to a sink, it left something undone: the sink is as it was; or

@@ -47,7 +47,7 @@ module _ {M : Type 0} where
   pub record IsUnderWay (f : M → Record) (e : WindowEngine M) : Type 0 where
     pub accepted : IsAccepted e.session.scenario.now
     pub links : e.ledger.links ≡ length e.session.net.now.links
-    pub ends : MayEnd e.session.net.now e.ends
+    pub ends : MayEnd e.session.scenario.now e.ends
     pub seed : ℕ
     pub begins : List World
     pub world : World

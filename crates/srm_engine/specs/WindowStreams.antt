@@ -1,6 +1,6 @@
 -- Runs in windows that hand their rows to a sink, and what they tell.
 use Rattle.std.specs.Prelude.{◌≡◌, ◌⊎◌, ℕ, List, Result, Ok, Err, IfErr, IfSome}
-use Rattle.srm_net.specs.Network.{Network}
+use Rattle.srm_scenario.specs.Plain.{PlainScenario}
 use Rattle.srm_member.specs.declared.row.Row.{Row}
 use Rattle.srm_cell.specs.Setting.{Setting}
 use Rattle.srm_cell.specs.Jobs as cell
@@ -15,9 +15,9 @@ use Rattle.srm_engine.specs.Windowed.{rule_of, IsCut, IsHandedWindows, MayBeWide
 -- ---- what is asked for
 
 -- whether what was asked for is refused, and when: as that of a run whose rows are kept
-abbrev pub TellsStreamAsked : {A : Type 0} → Network → Windows → Result A StreamFault → Type 0
-TellsStreamAsked net asked (Err (Run e)) = TellsRunAsked net asked (Err e)
-TellsStreamAsked net asked r = IsCut asked.cut × MayBeWide net asked.width
+abbrev pub TellsStreamAsked : {A : Type 0} → PlainScenario → Windows → Result A StreamFault → Type 0
+TellsStreamAsked p asked (Err (Run e)) = TellsRunAsked p asked (Err e)
+TellsStreamAsked p asked r = IsCut asked.cut × MayBeWide p asked.width
 
 -- a sink is left as it was where the cut or the width is refused
 abbrev pub IsLeft : {A S : Type 0} → S → Result A StreamFault → S → Type 0
@@ -37,9 +37,8 @@ module _ {S : Type 0} (took part : S → List Row → S → Type 0) where
   RefusedAtWindow s rule cut old (Stopped n) new = Unit {0}
 
   -- so of what a run answers that is asked for so
-  abbrev pub RefusedInWindows : {A : Type 0} → Setting → Network → Windows → S → Result A StreamFault → S → Type 0
-  RefusedInWindows s net asked old r new = IfErr r (λ x. RefusedAtWindow s
-      (rule_of s net asked.width) asked.cut old x new)
+  abbrev pub RefusedInWindows : {A : Type 0} → Setting → PlainScenario → Windows → S → Result A StreamFault → S → Type 0
+  RefusedInWindows s p asked old r new = IfErr r (λ x. RefusedAtWindow s (rule_of s p asked.width) asked.cut old x new)
 
 -- ---- calls of a crew
 
@@ -54,5 +53,5 @@ module _ {C : Type 0} (handed : C → List (List cell.PlainJob) → C → Type 0
   TellsCalls s rule cut old (Err e) new = MeetsWindowRefusal s rule cut old e new
 
   -- so of a run that is asked for so
-  abbrev pub CallsInWindows : {A : Type 0} → Setting → Network → Windows → C → Result A StreamFault → C → Type 0
-  CallsInWindows s net asked old r new = TellsCalls s (rule_of s net asked.width) asked.cut old r new
+  abbrev pub CallsInWindows : {A : Type 0} → Setting → PlainScenario → Windows → C → Result A StreamFault → C → Type 0
+  CallsInWindows s p asked old r new = TellsCalls s (rule_of s p asked.width) asked.cut old r new

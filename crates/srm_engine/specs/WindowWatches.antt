@@ -1,7 +1,7 @@
 -- Runs in windows of whose rows is kept what a watch keeps, and what they tell.
 use Rattle.std.specs.Prelude.{◌≡◌, ℕ, List, length, Result, Ok, Err, IfOk}
 use Rattle.std.specs.Global.{Vec}
-use Rattle.srm_net.specs.Network.{Network}
+use Rattle.srm_scenario.specs.Plain.{PlainScenario}
 use Rattle.srm_member.specs.declared.row.Row.{Row}
 use Rattle.srm_member.specs.declared.exit.Exit.{Exit}
 use Rattle.srm_cell.specs.Setting.{Setting}
@@ -15,9 +15,9 @@ use Rattle.srm_interfaces.specs.Watches.{KeepMembers}
 use Rattle.srm_engine.specs.Windowed.{IsCut, MayBeWide, MayCome, TellsRunAsked, rule_of}
 
 -- whether what was asked for is refused, and when: as that of a run whose rows are kept
-abbrev pub TellsWatchAsked : {A : Type 0} → Network → Windows → Result A RunFault → Type 0
-TellsWatchAsked net asked (Ok v) = IsCut asked.cut × MayBeWide net asked.width
-TellsWatchAsked net asked (Err e) = TellsRunAsked net asked (Err e)
+abbrev pub TellsWatchAsked : {A : Type 0} → PlainScenario → Windows → Result A RunFault → Type 0
+TellsWatchAsked p asked (Ok v) = IsCut asked.cut × MayBeWide p asked.width
+TellsWatchAsked p asked (Err e) = TellsRunAsked p asked (Err e)
 
 -- what is kept of each member, in order of their numbers, keeps its rows of the sequential run, and the totals are that
 -- run's
@@ -43,5 +43,5 @@ module _ {C : Type 0} (handed : C → List (List cell.PlainJob) → C → Type 0
   TellsWatchCalls s rule cut old (Err e) new = MeetsWatchRefusal s rule cut old e new
 
   -- so of a run that is asked for so
-  abbrev pub CallsOfWatch : {A : Type 0} → Setting → Network → Windows → C → Result A RunFault → C → Type 0
-  CallsOfWatch s net asked old r new = TellsWatchCalls s (rule_of s net asked.width) asked.cut old r new
+  abbrev pub CallsOfWatch : {A : Type 0} → Setting → PlainScenario → Windows → C → Result A RunFault → C → Type 0
+  CallsOfWatch s p asked old r new = TellsWatchCalls s (rule_of s p asked.width) asked.cut old r new

@@ -1,6 +1,6 @@
 -- What the windowed engine is given, and what it tells.
 use Rattle.std.specs.Prelude.{◌≡◌, ◌<◌, ◌+◌, ◌^◌, ℕ, List, slice_index, Result, Err}
-use Rattle.srm_net.specs.Network.{Network}
+use Rattle.srm_scenario.specs.Plain.{PlainScenario}
 use Rattle.srm_member.specs.declared.row.Row.{Row}
 use Rattle.srm_ledger.specs.Seats.{LedgerView, SeatView}
 use Rattle.srm_ledger.specs.Weights.{whole_weight}
@@ -23,17 +23,17 @@ pub use Rattle.srm_engine.specs.Groups.{IsCut}
 
 -- ---- what is given
 
--- windows may be so wide in this network
-abbrev pub MayBeWide : Network → Width → Type 0
-MayBeWide net (width.Ticks n) = (0 < n) × IsWidth net n
-MayBeWide net width.Least = Unit {0}
-MayBeWide net width.Promise = Unit {0}
+-- windows may be so wide in runs of this scenario
+abbrev pub MayBeWide : PlainScenario → Width → Type 0
+MayBeWide p (width.Ticks n) = (0 < n) × IsWidth p n
+MayBeWide p width.Least = Unit {0}
+MayBeWide p width.Promise = Unit {0}
 
 -- where the windows of a run end
-abbrev pub rule_of : Setting → Network → Width → World → ℕ
-rule_of s net (width.Ticks n) = width_rule s n
-rule_of s net width.Least = width_rule s (least_width s net)
-rule_of s net width.Promise = promise_end s
+abbrev pub rule_of : Setting → PlainScenario → Width → World → ℕ
+rule_of s p (width.Ticks n) = width_rule s n
+rule_of s p width.Least = width_rule s (least_width p)
+rule_of s p width.Promise = promise_end s
 
 -- ---- what is counted
 
@@ -82,10 +82,10 @@ MayRefuse s rule cut old fault.BadWidth new = new ≡ old
 -- ---- a run
 
 -- whether what was asked for is refused, and when
-abbrev pub TellsRunAsked : Network → Windows → Result Outcome RunFault → Type 0
-TellsRunAsked net asked (Err fault.BadCut) = ¬ IsCut asked.cut
-TellsRunAsked net asked (Err fault.BadWidth) = IsCut asked.cut × ¬ MayBeWide net asked.width
-TellsRunAsked net asked r = IsCut asked.cut × MayBeWide net asked.width
+abbrev pub TellsRunAsked : PlainScenario → Windows → Result Outcome RunFault → Type 0
+TellsRunAsked p asked (Err fault.BadCut) = ¬ IsCut asked.cut
+TellsRunAsked p asked (Err fault.BadWidth) = IsCut asked.cut × ¬ MayBeWide p asked.width
+TellsRunAsked p asked r = IsCut asked.cut × MayBeWide p asked.width
 
 module _ {C : Type 0} (handed : C → List (List cell.PlainJob) → C → Type 0) where
   -- the crew was handed exactly the jobs of the windows of a whole run, window after window

@@ -21,7 +21,7 @@ impl Cutting {
     /// # Errors
     /// `BadCut` comes before `BadWidth`.
     pub(crate) fn of(session: Session, asked: Windows) -> Result<Cutting, RunFault>
-        ensures { TellsCutting session.entry.scenario.now session.entry.net.now asked result }
+        ensures { TellsCutting session.entry.scenario.now asked result }
     {
         if asked.cut == 0 || asked.cut > 1024 {
             return Err(RunFault::BadCut);

@@ -1,6 +1,5 @@
 //! Where windows end.
 ghost use Rattle.std.specs.Prelude.{◌≡◌, ◌<◌, ◌+◌, ◌↔◌, ℕ, IsTrue, min, length};
-ghost use Rattle.srm_cell.specs.Setting.{setting_of};
 ghost use Rattle.srm_model.specs.Windows.{IsWidth, way_of};
 ghost use Rattle.srm_model.specs.WindowChains.{least_width};
 ghost use Rattle.srm_engine.specs.Starts.{setting_on};
@@ -8,9 +7,7 @@ ghost use Rattle.srm_engine.specs.Ends.{end_from, TellsRule};
 
 use crate::soonest::{Soonest, least_promise};
 use crate::width::Width;
-use srm_net::net::Net;
 use srm_net::role::Role;
-use srm_scenario::scenario::Scenario;
 use srm_scenario::session::Session;
 
 /// Where the windows of a run end.
@@ -25,12 +22,12 @@ pub(crate) enum Ends {
 impl Ends {
     /// Where windows of this width end, if they may be so wide.
     pub(crate) fn of(session: Session, width: Width) -> Option<Ends>
-        ensures { TellsRule session.entry.scenario.now session.entry.net.now width result }
+        ensures { TellsRule session.entry.scenario.now width result }
     {
         match width {
-            Width::Least => Some(Ends::After(widest(session.scenario, session.net))),
+            Width::Least => Some(Ends::After(widest(session))),
             Width::Ticks(ticks) => {
-                if may_be_wide(session.net, ticks) {
+                if may_be_wide(session, ticks) {
                     Some(Ends::After(ticks))
                 } else {
                     None
@@ -65,22 +62,22 @@ fn after(begin: u64, width: u64, until: u64) -> u64
 }
 
 // The widest width: the least delay of a link, or, where there is no link, that of the run.
-fn widest(scenario: &Scenario, net: &Net) -> u64
+fn widest(session: Session) -> u64
     ensures some { 0 < result }
-    ensures width { IsWidth net.now result }
-    ensures least { (seed : ℕ) → result ≡ least_width (setting_of scenario.now net.now seed) net.now }
+    ensures width { IsWidth session.entry.scenario.now result }
+    ensures least { result ≡ least_width session.entry.scenario.now }
 {
-    match net.least_delay() {
+    match session.net.least_delay() {
         Some(delay) => delay,
-        None => scenario.until(),
+        None => session.scenario.until(),
     }
 }
 
 // Whether windows may be so many ticks wide.
-fn may_be_wide(net: &Net, ticks: u64) -> bool
-    ensures { IsTrue result ↔ ((0 < ticks) × IsWidth net.now ticks) }
+fn may_be_wide(session: Session, ticks: u64) -> bool
+    ensures { IsTrue result ↔ ((0 < ticks) × IsWidth session.entry.scenario.now ticks) }
 {
-    match net.least_delay() {
+    match session.net.least_delay() {
         Some(delay) => 0 < ticks && ticks <= delay,
         None => 0 < ticks,
     }

@@ -3,7 +3,7 @@ ghost use Rattle.std.specs.Prelude.{◌≡◌, ◌≤◌, ◌+◌, ℕ, IfOk, le
 ghost use Rattle.srm_net.specs.Scopes.{scope_of};
 ghost use Rattle.srm_net.specs.Spreads.{IsSpread};
 ghost use Rattle.srm_cell.specs.PutRows.{PutsStep};
-ghost use Rattle.srm_engine.specs.Starts.{AreOpening, InRunsOn};
+ghost use Rattle.srm_engine.specs.Openings.{InRuns, IsOpening};
 ghost use Rattle.srm_engine.specs.Engines.{MayStep, StepsOn, MaySendNow, Sends, MayDeliver, Delivers, IsOpened};
 ghost use Rattle.srm_engine.specs.Engines.{Shows};
 ghost use Rattle.srm_interfaces.specs.Sinks.{IsReady, stage_after, stops_in};
@@ -48,9 +48,10 @@ impl<'a, M: Participant> Simulation<'a, M> {
         session: Session<'a>,
         members: Vec<M>,
     ) -> Result<Simulation<'a, M>, AllocError>
-        requires boxes { AreOpening session (map M.plain members.items) }
+        requires boxes { IsOpening session.scenario.now (map M.plain members.items) }
         ensures session { IfOk result (λ e. e.session ≡ session.entry) }
-        ensures opened { IfOk result (λ e. InRunsOn session.entry (map M.plain members.items) (λ s. Shows M.plain e (opening s))) }
+        ensures opened { IfOk result (λ e. InRuns session.entry.scenario.now (map M.plain members.items)
+            (λ s. Shows M.plain e (opening s))) }
     {
         let tally = Tally::new(alloc, session.net.links().len() as u16)?;
         let cells = Cells::of(alloc, open_cells(alloc, session.scenario, members)?)?;
@@ -70,15 +71,15 @@ impl<'a, M: Participant> Simulation<'a, M> {
         members: Vec<M>,
         sink: &mut S,
     ) -> Result<Simulation<'a, M>, StreamFault>
-        requires boxes { AreOpening session (map M.plain members.items) }
+        requires boxes { IsOpening session.scenario.now (map M.plain members.items) }
         requires sink { IsReady (S.stage sink.old) (S.failures sink.old) }
         ensures session { IfOk result (λ e. e.session ≡ session.entry) }
         ensures sink { LeavesSink S.RowSink sink.old result sink.new }
-        ensures last { InRunsOn session.entry (map M.plain members.items)
+        ensures last { InRuns session.entry.scenario.now (map M.plain members.items)
             (λ s. TellsLast S.took S.part (Shows M.plain) s sink.old result sink.new) }
-        ensures refused { InRunsOn session.entry (map M.plain members.items)
+        ensures refused { InRuns session.entry.scenario.now (map M.plain members.items)
             (λ s. TellsRefusal S.took S.part s sink.old result sink.new) }
-        ensures undone { InRunsOn session.entry (map M.plain members.items)
+        ensures undone { InRuns session.entry.scenario.now (map M.plain members.items)
             (λ s. TellsUndone S.stage S.took S.part (MayLackSteps s) s sink.old result sink.new) }
     {
         let mut simulation = match Simulation::open(alloc, session, members) {

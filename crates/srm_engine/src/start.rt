@@ -12,5 +12,5 @@ pub struct Start<'a, M: Participant> {
     pub session: Session<'a>,
     /// The members, in order of their numbers.
     pub members: Vec<M>,
-    pub ghost opening: { IsOpening session.scenario.now session.net.now (map M.plain members.items) },
+    pub ghost opening: { IsOpening session.scenario.now (map M.plain members.items) },
 }

@@ -1,8 +1,8 @@
 //! The sequential run.
 ghost use Rattle.std.specs.Prelude.{◌≡◌, ℕ, map};
 ghost use Rattle.srm_scenario.specs.Plain.{network_of};
-ghost use Rattle.srm_engine.specs.Openings.{HoldOpeningRecords};
-ghost use Rattle.srm_engine.specs.Outcomes.{RunsFrom};
+ghost use Rattle.srm_engine.specs.Openings.{HoldOpeningRecords, InRuns};
+ghost use Rattle.srm_engine.specs.Outcomes.{TellsOutcome};
 
 use crate::fault::RunFault;
 use crate::kept_rows::KeptRows;
@@ -27,8 +27,8 @@ pub fn step_run(
     members: Vec<Box<dyn Member>>,
 ) -> Result<Outcome, RunFault>
     requires network { net.now ≡ network_of scenario.now }
-    requires boxes { (seed : ℕ) × HoldOpeningRecords scenario.now net.now seed (map (λ b. plain b) members.items) }
-    ensures { RunsFrom scenario.now net.now (map (λ b. plain b) members.items) result }
+    requires boxes { (seed : ℕ) × HoldOpeningRecords scenario.now seed (map (λ b. plain b) members.items) }
+    ensures { InRuns scenario.now (map (λ b. plain b) members.items) (λ s. TellsOutcome s result) }
 {
     let mut kept = KeptRows::new(alloc);
     match step_stream(alloc, scenario, net, members, &mut kept) {

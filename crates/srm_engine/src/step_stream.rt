@@ -38,12 +38,12 @@ pub fn step_stream<S: RowSink>(
     sink: &mut S,
 ) -> Result<(Vec<Exit>, Totals), StreamFault>
     requires network { net.now ≡ network_of scenario.now }
-    requires boxes { (seed : ℕ) × HoldOpeningRecords scenario.now net.now seed (map (λ b. plain b) members.items) }
+    requires boxes { (seed : ℕ) × HoldOpeningRecords scenario.now seed (map (λ b. plain b) members.items) }
     requires sink { IsReady (S.stage sink.old) (S.failures sink.old) }
     ensures sink { LeavesSink S.RowSink sink.old result sink.new }
-    ensures stream { InRuns scenario.now net.now (map (λ b. plain b) members.items)
+    ensures stream { InRuns scenario.now (map (λ b. plain b) members.items)
         (λ s. TellsStream S.took S.part s sink.old result sink.new) }
-    ensures refused { InRuns scenario.now net.now (map (λ b. plain b) members.items)
+    ensures refused { InRuns scenario.now (map (λ b. plain b) members.items)
         (λ s. TellsRefusal S.took S.part s sink.old result sink.new) }
 {
     let ran = match Simulation::run(alloc, Session { scenario, net }, members, sink) {

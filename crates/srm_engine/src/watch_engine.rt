@@ -47,7 +47,7 @@ impl<'a, M: Participant, K: Drop> WatchEngine<'a, M, K> {
         cutting: Cutting,
         watch: &W,
     ) -> Result<WatchEngine<'a, M, K>, AllocError>
-        requires cutting { MayCut start.session.net.now cutting }
+        requires cutting { MayCut start.session.scenario.now cutting }
         ensures frame { IfOk result (λ e. frame_of e.engine ≡ (start.entry.session, cutting.cut, cutting.ends)) }
         ensures stands { IfOk result (λ e. IsWatching M.plain e) }
         ensures opened { IfOk result (λ e. (seed : ℕ) → BeginsWith start.entry seed → OpensAt M.plain seed e.engine) }
@@ -76,15 +76,15 @@ impl<'a, M: Participant, K: Drop> WatchEngine<'a, M, K> {
         ensures same { C.same crew.old crew.new }
         ensures under_way { IfOk result (λ e. IsUnderWay M.plain e) }
         ensures sink { LeavesSink S.RowSink sink.old result sink.new }
-        ensures asked { TellsStreamAsked start.entry.session.net.now asked result }
+        ensures asked { TellsStreamAsked start.entry.session.scenario.now asked result }
         ensures left { IsLeft sink.old result sink.new }
         ensures last { InRunsOf start.entry (λ s. TellsLast S.took S.part (IsAt M.plain s) s sink.old result sink.new) }
-        ensures windows { InRunsOf start.entry (λ s. CallsInWindows C.handed s start.entry.session.net.now asked
+        ensures windows { InRunsOf start.entry (λ s. CallsInWindows C.handed s start.entry.session.scenario.now asked
             crew.old result crew.new) }
-        ensures refused { InRunsOf start.entry (λ s. RefusedInWindows S.took S.part s start.entry.session.net.now asked
+        ensures refused { InRunsOf start.entry (λ s. RefusedInWindows S.took S.part s start.entry.session.scenario.now asked
             sink.old result sink.new) }
         ensures undone { InRunsOf start.entry (λ s. TellsUndone S.stage S.took S.part
-            (MayLackWindow s start.entry.session.net.now asked) s sink.old result sink.new) }
+            (MayLackWindow s start.entry.session.scenario.now asked) s sink.old result sink.new) }
     {
         let cutting = match Cutting::of(start.session, asked) {
             Ok(cutting) => cutting,

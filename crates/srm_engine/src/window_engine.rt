@@ -38,7 +38,7 @@ impl<'a, M: Participant> WindowEngine<'a, M> {
         start: Start<'a, M>,
         cutting: Cutting,
     ) -> Result<WindowEngine<'a, M>, AllocError>
-        requires cutting { MayCut start.session.net.now cutting }
+        requires cutting { MayCut start.session.scenario.now cutting }
         ensures frame { IfOk result (λ e. frame_of e ≡ (start.entry.session, cutting.cut, cutting.ends)) }
         ensures stands { IfOk result (λ e. IsUnderWay M.plain e) }
         ensures opened { IfOk result (λ e. (seed : ℕ) → BeginsWith start.entry seed → OpensAt M.plain seed e) }

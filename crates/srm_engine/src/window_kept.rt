@@ -55,15 +55,15 @@ pub fn window_kept<
     requires sink { IsReady (S.stage sink.old) (S.failures sink.old) }
     ensures lead { MayLead C.ready C.serves crew.new start.entry.session }
     ensures sink { LeavesSink S.RowSink sink.old result sink.new }
-    ensures asked { TellsStreamAsked start.entry.session.net.now asked result }
+    ensures asked { TellsStreamAsked start.entry.session.scenario.now asked result }
     ensures left { IsLeft sink.old result sink.new }
     ensures totals { InRunsOf start.entry (λ s. TellsTotals S.took S.part s sink.old result sink.new) }
-    ensures windows { InRunsOf start.entry (λ s. CallsInWindows C.handed s start.entry.session.net.now asked
+    ensures windows { InRunsOf start.entry (λ s. CallsInWindows C.handed s start.entry.session.scenario.now asked
         crew.old result crew.new) }
-    ensures refused { InRunsOf start.entry (λ s. RefusedInWindows S.took S.part s start.entry.session.net.now asked
+    ensures refused { InRunsOf start.entry (λ s. RefusedInWindows S.took S.part s start.entry.session.scenario.now asked
         sink.old result sink.new) }
     ensures undone { InRunsOf start.entry (λ s. TellsUndone S.stage S.took S.part
-        (MayLackWindow s start.entry.session.net.now asked) s sink.old result sink.new) }
+        (MayLackWindow s start.entry.session.scenario.now asked) s sink.old result sink.new) }
 {
     match WatchEngine::run(alloc, start, crew, asked, watch, sink) {
         Ok(ran) => Ok(ran.into_totals()),

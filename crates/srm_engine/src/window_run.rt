@@ -40,15 +40,15 @@ pub fn window_run<M: Participant, C: Crew<M>>(
 ) -> Result<Outcome, RunFault>
     requires ready { C.ready crew.old }
     requires network { net.now ≡ network_of scenario.now }
-    requires boxes { (seed : ℕ) × HoldOpeningRecords scenario.now net.now seed (map M.plain members.items) }
+    requires boxes { (seed : ℕ) × HoldOpeningRecords scenario.now seed (map M.plain members.items) }
     ensures ready { C.ready crew.new }
-    ensures asked { TellsRunAsked net.now asked result }
-    ensures outcome { InRuns scenario.now net.now (map M.plain members.items)
+    ensures asked { TellsRunAsked scenario.now asked result }
+    ensures outcome { InRuns scenario.now (map M.plain members.items)
         (λ s. IfOk result (λ v. IsOutcome s v.trace.items v.exits.items v.totals)) }
-    ensures windows { InRuns scenario.now net.now (map M.plain members.items)
-        (λ s. OnOk result (IsHandedWindows C.handed s (rule_of s net.now asked.width) asked.cut crew.old crew.new)) }
-    ensures refused { InRuns scenario.now net.now (map M.plain members.items)
-        (λ s. IfErr result (λ e. MayRefuse s (rule_of s net.now asked.width) asked.cut crew.old e crew.new)) }
+    ensures windows { InRuns scenario.now (map M.plain members.items)
+        (λ s. OnOk result (IsHandedWindows C.handed s (rule_of s scenario.now asked.width) asked.cut crew.old crew.new)) }
+    ensures refused { InRuns scenario.now (map M.plain members.items)
+        (λ s. IfErr result (λ e. MayRefuse s (rule_of s scenario.now asked.width) asked.cut crew.old e crew.new)) }
 {
     let mut kept = KeptRows::new(alloc);
     match window_stream(alloc, scenario, net, members, crew, asked, &mut kept) {

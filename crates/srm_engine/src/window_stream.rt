@@ -52,18 +52,17 @@ pub fn window_stream<M: Participant, C: Crew<M>, S: RowSink>(
 ) -> Result<(Vec<Exit>, Totals), StreamFault>
     requires ready { C.ready crew.old }
     requires network { net.now ≡ network_of scenario.now }
-    requires boxes { (seed : ℕ) × HoldOpeningRecords scenario.now net.now seed (map M.plain members.items) }
+    requires boxes { (seed : ℕ) × HoldOpeningRecords scenario.now seed (map M.plain members.items) }
     requires sink { IsReady (S.stage sink.old) (S.failures sink.old) }
     ensures ready { C.ready crew.new }
     ensures sink { LeavesSink S.RowSink sink.old result sink.new }
-    ensures asked { TellsStreamAsked net.now asked result }
+    ensures asked { TellsStreamAsked scenario.now asked result }
     ensures left { IsLeft sink.old result sink.new }
-    ensures stream { InRuns scenario.now net.now (map M.plain members.items)
-        (λ s. TellsStream S.took S.part s sink.old result sink.new) }
-    ensures windows { InRuns scenario.now net.now (map M.plain members.items)
-        (λ s. CallsInWindows C.handed s net.now asked crew.old result crew.new) }
-    ensures refused { InRuns scenario.now net.now (map M.plain members.items)
-        (λ s. RefusedInWindows S.took S.part s net.now asked sink.old result sink.new) }
+    ensures stream { InRuns scenario.now (map M.plain members.items) (λ s. TellsStream S.took S.part s sink.old result sink.new) }
+    ensures windows { InRuns scenario.now (map M.plain members.items)
+        (λ s. CallsInWindows C.handed s scenario.now asked crew.old result crew.new) }
+    ensures refused { InRuns scenario.now (map M.plain members.items)
+        (λ s. RefusedInWindows S.took S.part s scenario.now asked sink.old result sink.new) }
 {
     let session = Session { scenario, net };
     let start = Start { session, members };

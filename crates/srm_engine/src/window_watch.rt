@@ -37,9 +37,9 @@ pub fn window_watch<M: Participant, K: Drop, W: MemberWatch<K> + Copy, C: WatchC
 ) -> Result<(Vec<K>, Totals), RunFault>
     requires lead { MayLead C.ready C.serves crew.old start.session }
     ensures lead { MayLead C.ready C.serves crew.new start.entry.session }
-    ensures asked { TellsWatchAsked start.entry.session.net.now asked result }
+    ensures asked { TellsWatchAsked start.entry.session.scenario.now asked result }
     ensures kept { InRunsOf start.entry (λ s. TellsKept (W.keeps watch) s result) }
-    ensures windows { InRunsOf start.entry (λ s. CallsOfWatch C.handed s start.entry.session.net.now asked
+    ensures windows { InRunsOf start.entry (λ s. CallsOfWatch C.handed s start.entry.session.scenario.now asked
         crew.old result crew.new) }
 {
     let cutting = Cutting::of(start.session, asked)?;

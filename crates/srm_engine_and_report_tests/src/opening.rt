@@ -53,7 +53,7 @@ fn member_of(
     requires member { m < length scenario.now.members }
     requires network { net.now ≡ network_of scenario.now }
     ensures { IfOk result (λ b. (⟦<dyn Member as Member>⟧ b.vtable).plain b.value
-        ≡ opening_record (fixed_of scenario.now net.now 0 m)) }
+        ≡ opening_record (fixed_of scenario.now 0 m)) }
 {
     match scenario.role(m) {
         Role::Sender => {
@@ -91,7 +91,7 @@ pub(crate) fn members_of(
     watch: &mut MemberWatch,
 ) -> Result<Vec<Box<dyn Member>>, AllocError>
     requires { net.now ≡ network_of scenario.now }
-    ensures { IfOk result (λ members. HoldOpeningRecords scenario.now net.now 0
+    ensures { IfOk result (λ members. HoldOpeningRecords scenario.now 0
         (map (λ b. (⟦<dyn Member as Member>⟧ b.vtable).plain b.value) members.items)) }
 {
     let mut members = Vec::new(alloc);

@@ -34,7 +34,7 @@ pub fn trace_of(alloc: Global, text: &[u8], seed: u64) -> Option<Vec<u8>>
 // The sequential run of a scenario's members, each made by its role and put into a box.
 fn outcome_of(alloc: Global, scenario: &Scenario, net: &Net, seed: u64) -> Option<Outcome>
     requires { net.now ≡ network_of scenario.now }
-    ensures { IfSome result (λ outcome. IsOutcome (setting_of scenario.now net.now seed)
+    ensures { IfSome result (λ outcome. IsOutcome (setting_of scenario.now seed)
         outcome.trace.items outcome.exits.items outcome.totals) }
 {
     let mut members: Vec<Box<dyn Member>> = Vec::new(alloc);

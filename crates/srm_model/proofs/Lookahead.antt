@@ -8,14 +8,14 @@ use Rattle.std.proofs.Math.Nat.{min-le_left, min-le_right}
 use Rattle.std.specs.List.{range_with_len}
 use Rattle.std.proofs.lemmas.Option.{same_Some}
 use Rattle.srm_net.specs.declared.link.LinkSpec.{LinkSpec}
-use Rattle.srm_net.specs.Network.{Network, IsNetwork, IsWalk}
+use Rattle.srm_net.specs.Network.{IsNetwork, IsWalk}
 use Rattle.srm_net.specs.Paths.{host, member_route, distance, delay_along}
 use Rattle.srm_net.specs.Least.{least, lesser_delay, least_delay}
 use Rattle.srm_net.proofs.RouteLemmas.{route_path}
 use Rattle.srm_net.proofs.LawProofs.{lesser_each}
 use Rattle.srm_net.proofs.PathLaws.{host_below, hosts_apart, along_first}
 use Rattle.srm_scenario.specs.declared.parts.MemberSpec.{MemberSpec}
-use Rattle.srm_scenario.specs.Plain.{network_of}
+use Rattle.srm_scenario.specs.Plain.{PlainScenario, network_of}
 use Rattle.srm_member.specs.Record.{MemberState}
 use Rattle.srm_member.specs.declared.fixed.Fixed.{Fixed as FixedPart}
 use Rattle.srm_model.proofs.FixedParts.{HasFixed, KeepFixed, kept_reached}
@@ -98,29 +98,30 @@ some_link (x ∷ xs) zero k h = let e : x ≡ k = cc in inl (ap lesser_delay e)
 some_link (x ∷ xs) (suc l) k h = inr (some_link xs l k h)
 
 -- a way between two nodes that differ takes as long as its first link
-walk_wide : (net : Network) (width : ℕ) → IsWidth net width → (u : ℕ) (ls : List ℕ) (v : ℕ) (ns : List ℕ) → IsWalk net.links u ls v ns
-    → u ≢ v → width ≤ delay_along net.links u ls
+walk_wide : (p : PlainScenario) (width : ℕ) → IsWidth p width → (u : ℕ) (ls : List ℕ) (v : ℕ) (ns : List ℕ) → IsWalk p.links u ls v ns
+    → u ≢ v → width ≤ delay_along p.links u ls
 unfolding least_delay
-walk_wide net width wide u [] v ns w ne = absurd (ne w.0)
-walk_wide net width wide u (l ∷ ls) v ns w ne =
-    let some = least_in (lesser_delay w.0) (map lesser_delay net.links) (some_link net.links l w.0 w.3) in
+walk_wide p width wide u [] v ns w ne = absurd (ne w.0)
+walk_wide p width wide u (l ∷ ls) v ns w ne =
+    let some = least_in (lesser_delay w.0) (map lesser_delay p.links) (some_link p.links l w.0 w.3) in
     let low = wide some.0 some.1 in
     let le = some.2 in
     let each = lesser_each u w.0 in
-    subst (λ n. width ≤ n) (sym (along_first net.links u l w.1 ls w.0 w.3 w.4)) (omega arith)
+    subst (λ n. width ≤ n) (sym (along_first p.links u l w.1 ls w.0 w.3 w.4)) (omega arith)
 
-distance_wide : (net : Network) → IsNetwork net → (width : ℕ) → IsWidth net width → (a b : ℕ) → a < length net.hosts → b < length net.hosts
-    → a ≢ b → width ≤ distance net a b
+distance_wide : (p : PlainScenario) → IsNetwork (network_of p) → (width : ℕ) → IsWidth p width → (a b : ℕ)
+    → a < length (network_of p).hosts → b < length (network_of p).hosts → a ≢ b → width ≤ distance (network_of p) a b
 unfolding distance
-distance_wide net n width wide a b ha hb ne =
+distance_wide p n width wide a b ha hb ne =
+    let net = network_of p in
     let r = route_path net n.tree (host net a) (host net b) (host_below net n a ha) (host_below net n b hb) in
-    walk_wide net width wide (host net a) (member_route net a b) (host net b) r.0 r.1.0 (hosts_apart net n a b ha hb ne)
+    walk_wide p width wide (host net a) (member_route net a b) (host net b) r.0 r.1.0 (hosts_apart net n a b ha hb ne)
 
 pub link_delays_are_safe : LinkDelaysAreSafe
 link_delays_are_safe p seed accepted w e width till reached least wide within =
     let hosts : length (network_of p).hosts ≡ length p.members = length-map p.members (λ (k : MemberSpec). k.node) in
-    windows_are_safe (setting_of p (network_of p) seed) w e width till (settings_are_fit p seed accepted) reached least
-    (λ a b ha hb ne. distance_wide (network_of p) accepted.network width wide a b (subst (λ n. a < n) (sym hosts) ha)
+    windows_are_safe (setting_of p seed) w e width till (settings_are_fit p seed accepted) reached least
+    (λ a b ha hb ne. distance_wide p accepted.network width wide a b (subst (λ n. a < n) (sym hosts) ha)
     (subst (λ n. b < n) (sym hosts) hb) ne)
     within
 

@@ -11,7 +11,7 @@ use Rattle.srm_net.specs.declared.packet.Packet.{Packet}
 use Rattle.srm_net.specs.Orders.{Ascends}
 use Rattle.srm_net.proofs.Lists.{get_below}
 use Rattle.srm_scenario.specs.declared.mark.Mark.{Mark}
-use Rattle.srm_scenario.specs.Plain.{PlainScenario, network_of, script_of}
+use Rattle.srm_scenario.specs.Plain.{PlainScenario, script_of}
 use Rattle.srm_scenario.specs.Accepted.{IsAccepted}
 use Rattle.srm_scenario.specs.Scripts.{IsMark}
 use Rattle.srm_scenario.proofs.ScriptLemmas.{scripts_fit}
@@ -391,7 +391,7 @@ module _ (s : Setting) (fit : IsFit s) (own : (j : ℕ) → j < s.traffic.member
 
 module _ (p : PlainScenario) (a : IsAccepted p) (seed : ℕ) where
   abbrev t : Traffic
-  t = (setting_of p (network_of p) seed).traffic
+  t = (setting_of p seed).traffic
 
   own_mark : (j : ℕ) (k : Mark) → IsMark p.until (member_at p j) k → IsOwnMark t j k
   own_mark j k h = grind arith
@@ -405,4 +405,4 @@ module _ (p : PlainScenario) (a : IsAccepted p) (seed : ℕ) where
 
 pub traces_are_orderly : TracesAreOrderly
 traces_are_orderly p seed a w reached before after parts =
-    first_orderly (setting_of p (network_of p) seed) (settings_are_fit p seed a) (own_marks p a seed) w reached before after parts
+    first_orderly (setting_of p seed) (settings_are_fit p seed a) (own_marks p a seed) w reached before after parts

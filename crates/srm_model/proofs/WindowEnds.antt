@@ -47,10 +47,10 @@ starts_after s till v quiet within = quiet_after s till v quiet (least_event 0 v
 
 -- ---- rules
 
-width_is_rule : (p : PlainScenario) (seed width : ℕ) → IsAccepted p → 0 < width → IsWidth (network_of p) width
-    → IsEndRule (setting_of p (network_of p) seed) (width_rule (setting_of p (network_of p) seed) width)
+width_is_rule : (p : PlainScenario) (seed width : ℕ) → IsAccepted p → 0 < width → IsWidth p width
+    → IsEndRule (setting_of p seed) (width_rule (setting_of p seed) width)
 width_is_rule p seed width accepted pos wide =
-    let s = setting_of p (network_of p) seed in
+    let s = setting_of p seed in
     record {
       later = λ w e reached h. let a = start_is s w e h in omega (arith, a.0, a.1);
       within = λ w. omega arith;
@@ -63,8 +63,7 @@ widths_are_rules p seed width accepted pos wide = width_is_rule p seed width acc
 
 pub least_is_a_rule : LeastIsARule
 least_is_a_rule p seed accepted = elim (least_delay (network_of p)) as
-    (λ o. least_delay (network_of p) ≡ o → IsEndRule (setting_of p (network_of p) seed)
-    (width_rule (setting_of p (network_of p) seed) (unwrap_or o p.until))) [
+    (λ o. least_delay (network_of p) ≡ o → IsEndRule (setting_of p seed) (width_rule (setting_of p seed) (unwrap_or o p.until))) [
       | None ↦ λ e. width_is_rule p seed p.until accepted accepted.some_ticks (λ d h. let x : None ≡ Some d = sym e ∙ h in cc)
       | Some d ↦ λ e. width_is_rule p seed d accepted (least_delay_fits (network_of p) accepted.network d e).0
           (λ k h. let x = same_Some d k (sym e ∙ h) in omega arith)

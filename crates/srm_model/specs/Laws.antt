@@ -4,7 +4,7 @@ use Rattle.std.specs.Prelude.{slice_get, length, drop, IsPermutation, Contains}
 use Rattle.srm_net.specs.Keys.{key_cmp}
 use Rattle.srm_net.specs.Orders.{ordered, Ascends, Rises, NoneBelow}
 use Rattle.srm_net.specs.declared.key.Key.{Key}
-use Rattle.srm_scenario.specs.Plain.{PlainScenario, network_of}
+use Rattle.srm_scenario.specs.Plain.{PlainScenario}
 use Rattle.srm_scenario.specs.Accepted.{IsAccepted}
 use Rattle.srm_member.specs.declared.row.Row.{Row}
 use Rattle.srm_member.specs.ByMember.{rows_of_member}
@@ -162,9 +162,9 @@ PromisesAreSafe =
 abbrev pub LinkDelaysAreSafe : Type 0
 LinkDelaysAreSafe =
     (p : PlainScenario) (seed : ℕ) → IsAccepted p
-    → (w : World) (e : Event) (width till : ℕ) → IsReached (setting_of p (network_of p) seed) w
-    → before p.until (least_event 0 w.cells) ≡ Some e → IsWidth (network_of p) width
-    → till ≤ e.key.time + width → IsSafe (setting_of p (network_of p) seed) till w
+    → (w : World) (e : Event) (width till : ℕ) → IsReached (setting_of p seed) w
+    → before p.until (least_event 0 w.cells) ≡ Some e → IsWidth p width
+    → till ≤ e.key.time + width → IsSafe (setting_of p seed) till w
 
 -- the end of a promise window is safe, and later than the least pending time
 abbrev pub PromiseEndsAreSafe : Type 0

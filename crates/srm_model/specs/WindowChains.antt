@@ -1,7 +1,7 @@
 -- Windows one after the other, from the beginning of a run to its end.
 use Rattle.std.specs.Prelude.{◌≡◌, ℕ, ◌<◌, ◌≤◌, List, [], ◌∷◌, ◌++◌, map, Some, None, unwrap_or, ◌+◌, min}
-use Rattle.srm_net.specs.Network.{Network}
 use Rattle.srm_net.specs.Least.{least_delay}
+use Rattle.srm_scenario.specs.Plain.{PlainScenario, network_of}
 use Rattle.srm_cell.specs.Setting.{Setting}
 use Rattle.srm_cell.specs.Cells.{Event, before, time_of}
 use Rattle.srm_cell.specs.Jobs.{PlainJob}
@@ -36,8 +36,8 @@ width_rule s width w = min (start_of s w + width) s.traffic.until
 
 -- the widest width: the least link delay, or, where there is no link, one that no window comes to the end of before
 -- `until`
-abbrev pub least_width : Setting → Network → ℕ
-least_width s net = unwrap_or (least_delay net) s.traffic.until
+abbrev pub least_width : PlainScenario → ℕ
+least_width p = unwrap_or (least_delay (network_of p)) p.until
 
 -- ---- the chain of windows
 

@@ -1,7 +1,7 @@
 -- The laws of windows.
 use Rattle.std.specs.Prelude.{◌≡◌, ◌⊎◌, ℕ, suc, ◌*◌, ◌<◌, ◌≤◌, List, [], ◌∷◌, ◌++◌, Some, All, length, map, take, drop}
 use Rattle.std.specs.Prelude.{slice_get, IsPermutation, IsSorted}
-use Rattle.srm_scenario.specs.Plain.{PlainScenario, network_of}
+use Rattle.srm_scenario.specs.Plain.{PlainScenario}
 use Rattle.srm_scenario.specs.Accepted.{IsAccepted}
 use Rattle.srm_member.specs.declared.row.Row.{Row}
 use Rattle.srm_cell.specs.Setting.{Setting, IsFit, setting_of}
@@ -118,15 +118,14 @@ CrossingsAreTotals =
 -- a width from 1 to the least link delay gives a rule; where there is no link, any width from 1 does
 abbrev pub WidthsAreRules : Type 0
 WidthsAreRules =
-    (p : PlainScenario) (seed width : ℕ) → IsAccepted p → 0 < width → IsWidth (network_of p) width
-    → IsEndRule (setting_of p (network_of p) seed) (width_rule (setting_of p (network_of p) seed) width)
+    (p : PlainScenario) (seed width : ℕ) → IsAccepted p → 0 < width → IsWidth p width
+    → IsEndRule (setting_of p seed) (width_rule (setting_of p seed) width)
 
 -- so does the widest width
 abbrev pub LeastIsARule : Type 0
 LeastIsARule =
     (p : PlainScenario) (seed : ℕ) → IsAccepted p
-    → IsEndRule (setting_of p (network_of p) seed) (width_rule (setting_of p (network_of p) seed) (least_width
-    (setting_of p (network_of p) seed) (network_of p)))
+    → IsEndRule (setting_of p seed) (width_rule (setting_of p seed) (least_width p))
 
 -- so do promises
 abbrev pub PromisesAreARule : Type 0

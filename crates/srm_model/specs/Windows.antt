@@ -2,9 +2,9 @@
 use Rattle.std.specs.Prelude.{◌≡◌, ℕ, ◌+◌, ◌<◌, ◌≤◌, not, min, List, [], ◌∷◌, map, filter, Option, Some, None, ◌==◌}
 use Rattle.std.specs.Prelude.{if◌then◌else◌}
 use Rattle.std.specs.List.{range_with_len}
-use Rattle.srm_net.specs.Network.{Network}
 use Rattle.srm_net.specs.Least.{least, least_delay}
 use Rattle.srm_net.specs.Roles.{is_listener}
+use Rattle.srm_scenario.specs.Plain.{PlainScenario, network_of}
 use Rattle.srm_cell.specs.Setting.{Setting}
 use Rattle.srm_cell.specs.Cells.{PlainCell, time_of, next_event, Done}
 use Rattle.srm_model.specs.World.{World, run}
@@ -21,8 +21,8 @@ least_distance s m =
     least (map (s.traffic.distance m) (filter (λ b. not (b == m)) (range_with_len 0 s.traffic.members)))
 
 -- a width that no link's delay falls short of. Any is one where there is no link
-abbrev pub IsWidth : Network → ℕ → Type 0
-IsWidth net width = (delay : ℕ) → least_delay net ≡ Some delay → width ≤ delay
+abbrev pub IsWidth : PlainScenario → ℕ → Type 0
+IsWidth p width = (delay : ℕ) → least_delay (network_of p) ≡ Some delay → width ≤ delay
 
 -- ---- promises
 

@@ -18,7 +18,7 @@ use Rattle.srm_options.specs.declared.options.Show.TheVariants.{Trace, Members, 
 use Rattle.srm_engine.specs.declared.fault.RunFault.{RunFault}
 use Rattle.srm_engine.specs.declared.fault.RunFault.TheVariants as fault
 use Rattle.srm_engine.specs.Openings.{seed_in}
-use Rattle.srm_engine.specs.Starts.{AreOpening}
+use Rattle.srm_engine.specs.Openings.{IsOpening}
 use Rattle.srm_engine.specs.Windowed.{rule_of}
 use Rattle.srm_engine.specs.WindowWatches.{TellsWatchAsked, MeetsWatchRefusal}
 use Rattle.srm_report.specs.declared.outlet.Outlet as outlet
@@ -33,22 +33,22 @@ use Rattle.srm_program.proofs.TableTexts.{asked_told, table_told}
 use Rattle.srm_program.proofs.Texts.{keeps-itself}
 
 -- the refusal of a run whose rows are watched
-pub kept_refused : (A T : Type 0) {C K : Type 0} (keeps : K → List Row → Type 0) (p : PlainScenario) (net : Network) (seed : ℕ)
+pub kept_refused : (A T : Type 0) {C K : Type 0} (keeps : K → List Row → Type 0) (p : PlainScenario) (seed : ℕ)
     (o : Options) (old new : C) (x : RunFault) → o.engine ≡ Window
-    → TellsWatchAsked {A = A} net (record { cut = o.cut; width = o.width }) (Err x)
-    → MeetsWatchRefusal (setting_of p net seed) (rule_of (setting_of p net seed) net o.width) o.cut old x new
-    → KeepsRows keeps (setting_of p net seed) (Err (fault_of_run x)) × TellsRefusedFor {T = T} p net seed o (Err (fault_of_run x))
-kept_refused A T keeps p net seed o old new fault.NoMemory window asked met = (tt, λ e. asked)
-kept_refused A T keeps p net seed o old new fault.CountFull window asked met = (met.1.2.0, λ e. asked)
-kept_refused A T keeps p net seed o old new fault.ShareFull window asked met =
+    → TellsWatchAsked {A = A} p (record { cut = o.cut; width = o.width }) (Err x)
+    → MeetsWatchRefusal (setting_of p seed) (rule_of (setting_of p seed) p o.width) o.cut old x new
+    → KeepsRows keeps (setting_of p seed) (Err (fault_of_run x)) × TellsRefusedFor {T = T} p seed o (Err (fault_of_run x))
+kept_refused A T keeps p seed o old new fault.NoMemory window asked met = (tt, λ e. asked)
+kept_refused A T keeps p seed o old new fault.CountFull window asked met = (met.1.2.0, λ e. asked)
+kept_refused A T keeps p seed o old new fault.ShareFull window asked met =
     (tt, (window, asked, (met.0, met.1.0, met.1.1, met.1.2)))
-kept_refused A T keeps p net seed o old new fault.BadCut window asked met = (tt, (window, asked))
-kept_refused A T keeps p net seed o old new fault.BadWidth window asked met = (tt, (window, asked.0, asked.1))
+kept_refused A T keeps p seed o old new fault.BadCut window asked met = (tt, (window, asked))
+kept_refused A T keeps p seed o old new fault.BadWidth window asked met = (tt, (window, asked.0, asked.1))
 
 -- what a sink took of the sequential run is kept; and where that was refused, nothing is told of it
 module _ {K W : Type 0} (keeps : W → K → List Row → Type 0) (watch : W) (task : Task) (rs : List Record) (a b : WatchSink K W) where
-  abbrev Took : Result (List ℕ) LabFault → PlainScenario → Network → ℕ → Type 0
-  Took r p net seed = TellsRows (TakesIn keeps) (λ a rows b. Unit {0}) p net seed task.options a r b
+  abbrev Took : Result (List ℕ) LabFault → PlainScenario → ℕ → Type 0
+  Took r p seed = TellsRows (TakesIn keeps) (λ a rows b. Unit {0}) p seed task.options a r b
 
   pub steps_kept : (v : Vec K) (totals : List ℕ) → watch_in a ≡ watch → length (kept_in a) ≡ length task.session.scenario.now.members
       → KeepMembers (keeps watch) 0 (kept_in a) [] → v.items ≡ kept_in b → ForEachSeed task rs (Took (Ok totals))
@@ -68,26 +68,26 @@ module _ {K W : Type 0} (keeps : W → K → List Row → Type 0) (watch : W) (t
   pub steps_refused : (f : LabFault) → 0 ≡ failures_after_run {T = List ℕ} (Err f) 0 → ForEachSeed task rs (Took (Err f))
       → IsKept (keeps watch) task rs (Err f)
   steps_refused f count told = record {
-    kept = λ seed h. (by task.session.scenario.now task.session.net.now seed f count (told seed h)).0;
-    refused = λ seed h. (by task.session.scenario.now task.session.net.now seed f count (told seed h)).1;
+    kept = λ seed h. (by task.session.scenario.now seed f count (told seed h)).0;
+    refused = λ seed h. (by task.session.scenario.now seed f count (told seed h)).1;
   }
     where
-      by : (p : PlainScenario) (net : Network) (seed : ℕ) (f : LabFault) → 0 ≡ failures_after_run {T = List ℕ} (Err f) 0
-          → Took (Err f) p net seed → KeepsRows (keeps watch) (setting_of p net seed) (Err f)
-          × TellsRefusedFor {T = Vec K × List ℕ} p net seed task.options (Err f)
-      by p net seed BadCut count t = (tt, t.1)
-      by p net seed BadWidth count t = (tt, t.1)
-      by p net seed ShareFull count t = (tt, t.1)
-      by p net seed NoMemory count t = (tt, t.1)
-      by p net seed CountFull count t = (t.0.0, t.1)
-      by p net seed (WriteFault n) count t = absurd (omega (arith, count))
+      by : (p : PlainScenario) (seed : ℕ) (f : LabFault) → 0 ≡ failures_after_run {T = List ℕ} (Err f) 0
+          → Took (Err f) p seed → KeepsRows (keeps watch) (setting_of p seed) (Err f)
+          × TellsRefusedFor {T = Vec K × List ℕ} p seed task.options (Err f)
+      by p seed BadCut count t = (tt, t.1)
+      by p seed BadWidth count t = (tt, t.1)
+      by p seed ShareFull count t = (tt, t.1)
+      by p seed NoMemory count t = (tt, t.1)
+      by p seed CountFull count t = (t.0.0, t.1)
+      by p seed (WriteFault n) count t = absurd (omega (arith, count))
 
-whole_report : (T : Type 0) (p : PlainScenario) (net : Network) (seed : ℕ) (asked show : Show) (old new : Option (List ℕ))
-    (r : Result T LabFault) → IsWhole show → asked ≡ show → TellsTable p net seed show old new r → TellsReport p net seed asked old new r
-whole_report T p net seed asked show old new r whole is told =
-    subst (λ (s : Show). TellsReport p net seed s old new r) (sym is) (by show whole told)
+whole_report : (T : Type 0) (p : PlainScenario) (seed : ℕ) (asked show : Show) (old new : Option (List ℕ))
+    (r : Result T LabFault) → IsWhole show → asked ≡ show → TellsTable p seed show old new r → TellsReport p seed asked old new r
+whole_report T p seed asked show old new r whole is told =
+    subst (λ (s : Show). TellsReport p seed s old new r) (sym is) (by show whole told)
   where
-    by : (s : Show) → IsWhole s → TellsTable p net seed s old new r → TellsReport p net seed s old new r
+    by : (s : Show) → IsWhole s → TellsTable p seed s old new r → TellsReport p seed s old new r
     by Trace whole told = absurd whole
     by Members whole told = told
     by Losses whole told = told
@@ -97,14 +97,14 @@ whole_report T p net seed asked show old new r whole is told =
     by Scopes whole told = told
 
 -- such a table is not left anywhere
-whole_left : (T : Type 0) (p : PlainScenario) (net : Network) (seed : ℕ) (o : Options) (show : Show) (old new : Option (List ℕ))
-    (r : Result T LabFault) → IsWhole show → o.show ≡ show → BreaksOff p net seed o old new r
-whole_left T p net seed o show old new r whole is =
-    subst (λ (s : Show). ByShow s (λ text. LeavesOff text (MayBreakOff p net seed o) (setting_of p net seed) old new r) (Unit {0}))
+whole_left : (T : Type 0) (p : PlainScenario) (seed : ℕ) (o : Options) (show : Show) (old new : Option (List ℕ))
+    (r : Result T LabFault) → IsWhole show → o.show ≡ show → BreaksOff p seed o old new r
+whole_left T p seed o show old new r whole is =
+    subst (λ (s : Show). ByShow s (λ text. LeavesOff text (MayBreakOff p seed o) (setting_of p seed) old new r) (Unit {0}))
     (sym is) (by show whole)
   where
     by : (s : Show) → IsWhole s
-        → ByShow s (λ text. LeavesOff text (MayBreakOff p net seed o) (setting_of p net seed) old new r) (Unit {0})
+        → ByShow s (λ text. LeavesOff text (MayBreakOff p seed o) (setting_of p seed) old new r) (Unit {0})
     by Trace whole = absurd whole
     by Members whole = tt
     by Losses whole = tt
@@ -115,28 +115,28 @@ whole_left T p net seed o show old new r whole is =
 
 module _ {K : Type 0} (keeps : K → List Row → Type 0) where
   -- nothing is told of a run that was refused
-  nothing_told : (A T : Type 0) (p : PlainScenario) (net : Network) (seed : ℕ) (o : Options) (show : Show) (at : Option (List ℕ))
-      (f : LabFault) → KeepsRows keeps (setting_of p net seed) (Err f) → TellsRefusedFor {T = A} p net seed o (Err f)
-      → TellsTable {T = T} p net seed show at at (Err f) × TellsRefusedFor {T = T} p net seed o (Err f)
-  nothing_told A T p net seed o show at BadCut kept asked = (keeps-itself at, asked)
-  nothing_told A T p net seed o show at BadWidth kept asked = (keeps-itself at, asked)
-  nothing_told A T p net seed o show at ShareFull kept asked = (keeps-itself at, asked)
-  nothing_told A T p net seed o show at NoMemory kept asked = (keeps-itself at, asked)
-  nothing_told A T p net seed o show at CountFull kept asked = ((kept, keeps-itself at), asked)
-  nothing_told A T p net seed o show at (WriteFault n) kept asked = absurd kept
+  nothing_told : (A T : Type 0) (p : PlainScenario) (seed : ℕ) (o : Options) (show : Show) (at : Option (List ℕ))
+      (f : LabFault) → KeepsRows keeps (setting_of p seed) (Err f) → TellsRefusedFor {T = A} p seed o (Err f)
+      → TellsTable {T = T} p seed show at at (Err f) × TellsRefusedFor {T = T} p seed o (Err f)
+  nothing_told A T p seed o show at BadCut kept asked = (keeps-itself at, asked)
+  nothing_told A T p seed o show at BadWidth kept asked = (keeps-itself at, asked)
+  nothing_told A T p seed o show at ShareFull kept asked = (keeps-itself at, asked)
+  nothing_told A T p seed o show at NoMemory kept asked = (keeps-itself at, asked)
+  nothing_told A T p seed o show at CountFull kept asked = ((kept, keeps-itself at), asked)
+  nothing_told A T p seed o show at (WriteFault n) kept asked = absurd kept
 
-  not_written : (T : Type 0) (p : PlainScenario) (net : Network) (seed n : ℕ) (f : LabFault)
-      → KeepsRows keeps (setting_of p net seed) (Err f) → n ≡ failures_after_run {T = T} (Err f) n
-  not_written T p net seed n BadCut kept = refl
-  not_written T p net seed n BadWidth kept = refl
-  not_written T p net seed n ShareFull kept = refl
-  not_written T p net seed n NoMemory kept = refl
-  not_written T p net seed n CountFull kept = refl
-  not_written T p net seed n (WriteFault written) kept = absurd kept
+  not_written : (T : Type 0) (p : PlainScenario) (seed n : ℕ) (f : LabFault)
+      → KeepsRows keeps (setting_of p seed) (Err f) → n ≡ failures_after_run {T = T} (Err f) n
+  not_written T p seed n BadCut kept = refl
+  not_written T p seed n BadWidth kept = refl
+  not_written T p seed n ShareFull kept = refl
+  not_written T p seed n NoMemory kept = refl
+  not_written T p seed n CountFull kept = refl
+  not_written T p seed n (WriteFault written) kept = absurd kept
 
   -- what was kept, seen as this list, is of each member
   pub rows_kept : (task : Task) (rs : List Record) (v : Vec K × List ℕ) (ks : List K) → ks ≡ v.0.items → IsKept keeps task rs (Ok v)
-      → ForEachSeed task rs (λ p net seed. (rows : List Row) × (exits : List Exit) × IsKeptOf keeps task.session seed ks v.1 rows exits)
+      → ForEachSeed task rs (λ p seed. (rows : List Row) × (exits : List Exit) × IsKeptOf keeps task.session seed ks v.1 rows exits)
   rows_kept task rs v ks are kept seed h =
       let k = kept.kept seed h in
       let p = task.session.scenario.now in
@@ -153,49 +153,43 @@ module _ {K : Type 0} (keeps : K → List Row → Type 0) where
   module _ {O : Type 0} (T : Type 0) (o : outlet.Ghosts O) (task : Task) (rs : List Record) (show : Show) (whole : IsWhole show)
       (is : task.options.show ≡ show) where
     -- the report of a run that was refused
-    pub refused_report : (at : O) (f : LabFault) → AreOpening task.session rs → IsKept keeps task rs (Err f)
+    pub refused_report : (at : O) (f : LabFault) → IsOpening task.session.scenario.now rs → IsKept keeps task rs (Err f)
         → Reports {T = T} o task rs at (Err f) at
     refused_report at f opening kept = record {
-      failures = not_written T task.session.scenario.now task.session.net.now (seed_in rs) (o.failures at) f
+      failures = not_written T task.session.scenario.now (seed_in rs) (o.failures at) f
           (kept.kept (seed_in rs) opening);
       report = λ seed h.
           let p = task.session.scenario.now in
-          let net = task.session.net.now in
-          let told = nothing_told (Vec K × List ℕ) T p net seed task.options show (o.taken at) f (kept.kept seed h) (kept.refused seed h) in
-          whole_report T p net seed task.options.show show (o.taken at) (o.taken at) (Err f) whole is told.0;
+          let told = nothing_told (Vec K × List ℕ) T p seed task.options show (o.taken at) f (kept.kept seed h) (kept.refused seed h) in
+          whole_report T p seed task.options.show show (o.taken at) (o.taken at) (Err f) whole is told.0;
       refusals = λ seed h.
           let p = task.session.scenario.now in
-          let net = task.session.net.now in
-          let told = nothing_told (Vec K × List ℕ) T p net seed task.options show (o.taken at) f (kept.kept seed h) (kept.refused seed h) in
-          (told.1, whole_left T p net seed task.options show (o.taken at) (o.taken at) (Err f) whole is);
+          let told = nothing_told (Vec K × List ℕ) T p seed task.options show (o.taken at) f (kept.kept seed h) (kept.refused seed h) in
+          (told.1, whole_left T p seed task.options show (o.taken at) (o.taken at) (Err f) whole is);
     }
 
     -- the report of a whole run, of which the outlet took the table
     pub kept_report : (old new : O) (v : Vec K × List ℕ) (ks : List K) (r : Result T LabFault) → ks ≡ v.0.items
         → IsKept keeps task rs (Ok v) → o.failures new ≡ failures_after_run r (o.failures old)
-        → ForEachSeed task rs (λ p net seed. (rows : List Row) (exits : List Exit)
-        → IsKeptOf keeps task.session seed ks v.1 rows exits → Writes (o.taken old) (o.taken new) (table_shown show p net rows v.1) r)
+        → ForEachSeed task rs (λ p seed. (rows : List Row) (exits : List Exit)
+        → IsKeptOf keeps task.session seed ks v.1 rows exits → Writes (o.taken old) (o.taken new) (table_shown show p rows v.1) r)
         → Reports o task rs old r new
     kept_report old new v ks r are kept failures writes = record {
       failures = failures;
       report = λ seed h.
           let p = task.session.scenario.now in
-          let net = task.session.net.now in
           let t = rows_kept task rs v ks are kept seed h in
-          whole_report T p net seed task.options.show show (o.taken old) (o.taken new) r whole is
-          (table_told p net seed show t.0 t.1 v.1 t.2.outcome (o.taken old) (o.taken new) r (writes seed h t.0 t.1 t.2));
+          whole_report T p seed task.options.show show (o.taken old) (o.taken new) r whole is
+          (table_told p seed show t.0 t.1 v.1 t.2.outcome (o.taken old) (o.taken new) r (writes seed h t.0 t.1 t.2));
       refusals = λ seed h.
           let p = task.session.scenario.now in
-          let net = task.session.net.now in
           let t = rows_kept task rs v ks are kept seed h in (
-            asked_told p net seed task.options (kept.refused seed h) (o.taken old) (o.taken new) (table_shown show p net t.0 v.1) r
+            asked_told p seed task.options (kept.refused seed h) (o.taken old) (o.taken new) (table_shown show p t.0 v.1) r
                 (writes seed h t.0 t.1 t.2),
-            whole_left T p net seed task.options show (o.taken old) (o.taken new) r whole is,
+            whole_left T p seed task.options show (o.taken old) (o.taken new) r whole is,
           );
     }
 
 -- a network has as many hosts as its scenario has members
-pub hosts_of : (p : PlainScenario) (net : Network) (n : ℕ) → net ≡ network_of p → length p.members ≤ n → length net.hosts ≤ n
-hosts_of p net n made many =
-    subst (λ (w : Network). length w.hosts ≤ n) (sym made)
-    (subst (λ (k : ℕ). k ≤ n) (sym (length-map p.members (λ m. m.node))) many)
+pub hosts_of : (p : PlainScenario) (net : Network) → net ≡ network_of p → length net.hosts ≡ length p.members
+hosts_of p net made = ap (λ (w : Network). length w.hosts) made ∙ length-map p.members (λ m. m.node)

@@ -4,7 +4,6 @@ use Rattle.std.proofs.Common.{append-nil, ◌<◌, IfOk, map, ap, subst}
 use Rattle.std.specs.List.{flat_map}
 use Rattle.std.specs.Io.KnownBytes.{Appends, Keeps}
 use Rattle.csv.specs.Writing.{default_writer, row_text}
-use Rattle.srm_net.specs.Network.{Network}
 use Rattle.srm_scenario.specs.Plain.{PlainScenario}
 use Rattle.srm_member.specs.declared.row.Row.{Row}
 use Rattle.srm_cell.specs.Setting.{Setting, setting_of}
@@ -76,33 +75,33 @@ timers_are : text_in timers_form ≡ (λ (rows : List Row). table_lines timers_c
 unfolding table_lines
 timers_are = λ i rows. row_text default_writer timers_columns ++ timed rows i
 
-pub trace_shown : {T : Type 0} (p : PlainScenario) (net : Network) (seed : ℕ) (show : Show) (old new : Option (List ℕ))
-    (r : Result T LabFault) → show ≡ Trace → TellsListing (text_in trace_form) (setting_of p net seed) old new r
-    → TellsReport p net seed show old new r
-trace_shown p net seed show old new r e h =
-    subst (λ s. TellsReport p net seed s old new r) (sym e)
-    (subst (λ text. TellsListing text (setting_of p net seed) old new r) trace_is h)
+pub trace_shown : {T : Type 0} (p : PlainScenario) (seed : ℕ) (show : Show) (old new : Option (List ℕ))
+    (r : Result T LabFault) → show ≡ Trace → TellsListing (text_in trace_form) (setting_of p seed) old new r
+    → TellsReport p seed show old new r
+trace_shown p seed show old new r e h =
+    subst (λ s. TellsReport p seed s old new r) (sym e)
+    (subst (λ text. TellsListing text (setting_of p seed) old new r) trace_is h)
 
-pub timers_shown : {T : Type 0} (p : PlainScenario) (net : Network) (seed : ℕ) (show : Show) (old new : Option (List ℕ))
-    (r : Result T LabFault) → show ≡ Timers → TellsListing (text_in timers_form) (setting_of p net seed) old new r
-    → TellsReport p net seed show old new r
-timers_shown p net seed show old new r e h =
-    subst (λ s. TellsReport p net seed s old new r) (sym e)
-    (subst (λ text. TellsListing text (setting_of p net seed) old new r) timers_are h)
+pub timers_shown : {T : Type 0} (p : PlainScenario) (seed : ℕ) (show : Show) (old new : Option (List ℕ))
+    (r : Result T LabFault) → show ≡ Timers → TellsListing (text_in timers_form) (setting_of p seed) old new r
+    → TellsReport p seed show old new r
+timers_shown p seed show old new r e h =
+    subst (λ s. TellsReport p seed s old new r) (sym e)
+    (subst (λ text. TellsListing text (setting_of p seed) old new r) timers_are h)
 
-pub trace_left : {T : Type 0} (p : PlainScenario) (net : Network) (seed : ℕ) (o : Options) (old new : Option (List ℕ))
+pub trace_left : {T : Type 0} (p : PlainScenario) (seed : ℕ) (o : Options) (old new : Option (List ℕ))
     (r : Result T LabFault) → o.show ≡ Trace
-    → LeavesOff (text_in trace_form) (MayBreakOff p net seed o) (setting_of p net seed) old new r → BreaksOff p net seed o old new r
-trace_left p net seed o old new r e h =
-    subst (λ s. ByShow s (λ text. LeavesOff text (MayBreakOff p net seed o) (setting_of p net seed) old new r) (Unit {0})) (sym e)
-    (subst (λ text. LeavesOff text (MayBreakOff p net seed o) (setting_of p net seed) old new r) trace_is h)
+    → LeavesOff (text_in trace_form) (MayBreakOff p seed o) (setting_of p seed) old new r → BreaksOff p seed o old new r
+trace_left p seed o old new r e h =
+    subst (λ s. ByShow s (λ text. LeavesOff text (MayBreakOff p seed o) (setting_of p seed) old new r) (Unit {0})) (sym e)
+    (subst (λ text. LeavesOff text (MayBreakOff p seed o) (setting_of p seed) old new r) trace_is h)
 
-pub timers_left : {T : Type 0} (p : PlainScenario) (net : Network) (seed : ℕ) (o : Options) (old new : Option (List ℕ))
+pub timers_left : {T : Type 0} (p : PlainScenario) (seed : ℕ) (o : Options) (old new : Option (List ℕ))
     (r : Result T LabFault) → o.show ≡ Timers
-    → LeavesOff (text_in timers_form) (MayBreakOff p net seed o) (setting_of p net seed) old new r → BreaksOff p net seed o old new r
-timers_left p net seed o old new r e h =
-    subst (λ s. ByShow s (λ text. LeavesOff text (MayBreakOff p net seed o) (setting_of p net seed) old new r) (Unit {0})) (sym e)
-    (subst (λ text. LeavesOff text (MayBreakOff p net seed o) (setting_of p net seed) old new r) timers_are h)
+    → LeavesOff (text_in timers_form) (MayBreakOff p seed o) (setting_of p seed) old new r → BreaksOff p seed o old new r
+timers_left p seed o old new r e h =
+    subst (λ s. ByShow s (λ text. LeavesOff text (MayBreakOff p seed o) (setting_of p seed) old new r) (Unit {0})) (sym e)
+    (subst (λ text. LeavesOff text (MayBreakOff p seed o) (setting_of p seed) old new r) timers_are h)
 
 -- ---- a run that broke off
 

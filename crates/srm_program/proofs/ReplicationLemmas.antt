@@ -9,9 +9,8 @@ use Rattle.std.specs.Io.KnownBytes.{Appends}
 use Rattle.std.proofs.KnownBytes.{Appends-trans}
 use Rattle.std.proofs.lemmas.Grind.{flat_map-append}
 use Rattle.csv.specs.Writing.{default_writer, fields_text, is_blank, row_text}
-use Rattle.srm_net.specs.Network.{Network}
 use Rattle.srm_scenario.specs.declared.parts.MemberSpec.{MemberSpec}
-use Rattle.srm_scenario.specs.Plain.{PlainScenario}
+use Rattle.srm_scenario.specs.Plain.{PlainScenario, network_of}
 use Rattle.srm_member.specs.declared.intervals.Intervals.{Intervals}
 use Rattle.srm_member.specs.declared.row.Row.{Row}
 use Rattle.srm_cell.specs.Setting.{setting_of}
@@ -69,27 +68,27 @@ all_timers : (rows : List Row) → AreLines (flat_map timers_rows rows)
 all_timers [] = tt
 all_timers (r ∷ rows) = more_lines (timers_rows r) (flat_map timers_rows rows) (timers_rows_are r r.adapted) (all_timers rows)
 
-pub rows_are_lines : (show : Show) (p : PlainScenario) (net : Network) (rows : List Row) (totals : List ℕ)
-    → AreLines (rows_shown show p net rows totals)
-rows_are_lines Trace p net rows totals =
+pub rows_are_lines : (show : Show) (p : PlainScenario) (rows : List Row) (totals : List ℕ)
+    → AreLines (rows_shown show p rows totals)
+rows_are_lines Trace p rows totals =
     let d = decimal_is_plain in
     mapped_lines _ (λ r. (d _, (d _, (cause_is_plain _, (ref_is_plain _, (told_is_plain _, (d _, (sent_is_plain _, tt)))))))) rows
-rows_are_lines Members p net rows totals = one_member rows 0 p.members
-rows_are_lines Losses p net rows totals =
+rows_are_lines Members p rows totals = one_member rows 0 p.members
+rows_are_lines Losses p rows totals =
     let d = decimal_is_plain in
     let t = time_is_plain in
-    mapped_lines _ (λ k. (d _, (d _, (d _, (d _, (t _, (t _, (delay_is_plain net _ _, tt)))))))) _
-rows_are_lines Operations p net rows totals =
+    mapped_lines _ (λ k. (d _, (d _, (d _, (d _, (t _, (t _, (delay_is_plain (network_of p) _ _, tt)))))))) _
+rows_are_lines Operations p rows totals =
     let d = decimal_is_plain in
     let t = time_is_plain in
     let l = last_is_plain in
-    let w = delay_is_plain net in
+    let w = delay_is_plain (network_of p) in
     mapped_lines _ (λ n. (d _, (d _, (d _, (d _, (d _, (d _, (t _, (t _, (d _, (d _, (l _, (w _ _, tt))))))))))))) _
-rows_are_lines Links p net rows totals =
+rows_are_lines Links p rows totals =
     let d = decimal_is_plain in
     mapped_lines _ (λ l. (d _, (d _, (d _, (d _, (d _, (d _, tt))))))) _
-rows_are_lines Timers p net rows totals = all_timers rows
-rows_are_lines Scopes p net rows totals =
+rows_are_lines Timers p rows totals = all_timers rows
+rows_are_lines Scopes p rows totals =
     let d = decimal_is_plain in
     let t = time_is_plain in
     let l = local_is_plain in
@@ -139,24 +138,24 @@ seed_first Scopes = refl
 
 -- ---- a run more
 
-module _ (show : Show) (p : PlainScenario) (net : Network) where
-  replicated_more : (ws : List World) (w : World) (seed : ℕ) → replicated_rows show p net seed (ws ++ w ∷ [])
-      ≡ replicated_rows show p net seed ws ++ rows_of_seed show p net (seed + length ws) w
+module _ (show : Show) (p : PlainScenario) where
+  replicated_more : (ws : List World) (w : World) (seed : ℕ) → replicated_rows show p seed (ws ++ w ∷ [])
+      ≡ replicated_rows show p seed ws ++ rows_of_seed show p (seed + length ws) w
   replicated_more [] w seed =
       let here : seed ≡ seed + 0 = omega arith in
-      append-nil (rows_of_seed show p net seed w) ∙ ap (λ n. rows_of_seed show p net n w) here
+      append-nil (rows_of_seed show p seed w) ∙ ap (λ n. rows_of_seed show p n w) here
   replicated_more (v ∷ ws) w seed =
       let far : seed + 1 + length ws ≡ seed + length (v ∷ ws) = omega arith in
-      ap (λ l. rows_of_seed show p net seed v ++ l) (replicated_more ws w (seed + 1))
-      ∙ sym (append_assoc (rows_of_seed show p net seed v) (replicated_rows show p net (seed + 1) ws) _)
-      ∙ ap (λ n. replicated_rows show p net seed (v ∷ ws) ++ rows_of_seed show p net n w) far
+      ap (λ l. rows_of_seed show p seed v ++ l) (replicated_more ws w (seed + 1))
+      ∙ sym (append_assoc (rows_of_seed show p seed v) (replicated_rows show p (seed + 1) ws) _)
+      ∙ ap (λ n. replicated_rows show p seed (v ∷ ws) ++ rows_of_seed show p n w) far
 
-  pub ends_more : (ws : List World) (w : World) (seed : ℕ) → EndInTurn p net seed ws → EndsOfSeed p net (seed + length ws) w
-      → EndInTurn p net seed (ws ++ w ∷ [])
-  ends_more [] w seed h k = (let here : seed + 0 ≡ seed = omega arith in subst (λ n. EndsOfSeed p net n w) here k, tt)
+  pub ends_more : (ws : List World) (w : World) (seed : ℕ) → EndInTurn p seed ws → EndsOfSeed p (seed + length ws) w
+      → EndInTurn p seed (ws ++ w ∷ [])
+  ends_more [] w seed h k = (let here : seed + 0 ≡ seed = omega arith in subst (λ n. EndsOfSeed p n w) here k, tt)
   ends_more (v ∷ ws) w seed h k =
       let far : seed + length (v ∷ ws) ≡ seed + 1 + length ws = omega arith in
-      (h.0, ends_more ws w (seed + 1) h.1 (subst (λ n. EndsOfSeed p net n w) far k))
+      (h.0, ends_more ws w (seed + 1) h.1 (subst (λ n. EndsOfSeed p n w) far k))
 
 module _ (a : Series) where
   -- the table of no run is the line of the columns
@@ -166,36 +165,36 @@ module _ (a : Series) where
   no_run old new h = (tt, subst (λ t. Appends old new t) (sym (append-nil _)) h)
 
   pub table_grown : (ws : List World) (w : World) → replications_of a (ws ++ w ∷ [])
-      ≡ replications_of a ws ++ lines_of (rows_of_seed a.show a.scenario a.network (a.first + length ws) w)
+      ≡ replications_of a ws ++ lines_of (rows_of_seed a.show a.scenario (a.first + length ws) w)
   unfolding table_lines
   table_grown ws w =
       let header = row_text default_writer (codes "seed" ∷ columns_shown a.show) in
-      let rows = replicated_rows a.show a.scenario a.network a.first ws in
-      ap (λ rs. header ++ lines_of rs) (replicated_more a.show a.scenario a.network ws w a.first)
-      ∙ ap (λ l. header ++ l) (lines_joined rows (rows_of_seed a.show a.scenario a.network (a.first + length ws) w))
+      let rows = replicated_rows a.show a.scenario a.first ws in
+      ap (λ rs. header ++ lines_of rs) (replicated_more a.show a.scenario ws w a.first)
+      ∙ ap (λ l. header ++ l) (lines_joined rows (rows_of_seed a.show a.scenario (a.first + length ws) w))
       ∙ sym (append_assoc header (lines_of rows) _)
 
   pub one_run_more : (ws : List World) (w : World) (old mid new : Option (List ℕ)) → TakesRuns a ws old mid
-      → EndsOfSeed a.scenario a.network (a.first + length ws) w
-      → Appends mid new (lines_of (rows_of_seed a.show a.scenario a.network (a.first + length ws) w))
+      → EndsOfSeed a.scenario (a.first + length ws) w
+      → Appends mid new (lines_of (rows_of_seed a.show a.scenario (a.first + length ws) w))
       → TakesRuns a (ws ++ w ∷ []) old new
   one_run_more ws w old mid new h k grown = (
-    ends_more a.show a.scenario a.network ws w a.first h.0 k,
+    ends_more a.show a.scenario ws w a.first h.0 k,
     subst (λ t. Appends old new t) (sym (table_grown ws w)) (Appends-trans old mid new _ _ h.1 grown),
   )
 
 -- ---- what a run of one seed tells
 
-pub whole_told : (T : Type 0) (v : T) (p : PlainScenario) (net : Network) (seed : ℕ) (show : Show)
-    (old new : Option (List ℕ)) → TellsReport {T = T} p net seed show old new (Ok v)
-    → (w : World) × IsLast (setting_of p net seed) w × Appends old new (report_of show p net w)
-whole_told T v p net seed Trace old new h = h
-whole_told T v p net seed Members old new h = h
-whole_told T v p net seed Losses old new h = h
-whole_told T v p net seed Operations old new h = h
-whole_told T v p net seed Links old new h = h
-whole_told T v p net seed Timers old new h = h
-whole_told T v p net seed Scopes old new h = h
+pub whole_told : (T : Type 0) (v : T) (p : PlainScenario) (seed : ℕ) (show : Show)
+    (old new : Option (List ℕ)) → TellsReport {T = T} p seed show old new (Ok v)
+    → (w : World) × IsLast (setting_of p seed) w × Appends old new (report_of show p w)
+whole_told T v p seed Trace old new h = h
+whole_told T v p seed Members old new h = h
+whole_told T v p seed Losses old new h = h
+whole_told T v p seed Operations old new h = h
+whole_told T v p seed Links old new h = h
+whole_told T v p seed Timers old new h = h
+whole_told T v p seed Scopes old new h = h
 
 -- ---- runs under way
 
@@ -253,20 +252,20 @@ module _ (a : Series) where
     here : seed ≡ a.first + length ws
     here = omega (arith, at)
 
-    grown : (w : World) (text : List ℕ) → text ≡ lines_of (rows_of_seed a.show a.scenario a.network seed w)
+    grown : (w : World) (text : List ℕ) → text ≡ lines_of (rows_of_seed a.show a.scenario seed w)
         → replications_of a (ws ++ w ∷ []) ≡ replications_of a ws ++ text
     grown w text is = table_grown a ws w ∙ ap (λ l. replications_of a ws ++ l)
-        (ap (λ k. lines_of (rows_of_seed a.show a.scenario a.network k w)) (sym here) ∙ sym is)
+        (ap (λ k. lines_of (rows_of_seed a.show a.scenario k w)) (sym here) ∙ sym is)
 
     pub run_put : (T : Type 0) (v : T) (lines : Vec ℕ) (new : Option (List ℕ)) (m : ℕ)
-        → MakesLines a.scenario a.network a.show seed (Ok lines) → PutsNext mid n lines.items (Ok v) new m
+        → MakesLines a.scenario a.show seed (Ok lines) → PutsNext mid n lines.items (Ok v) new m
         → (vs : List World) × (length vs ≡ seed + 1 - a.first) × HasRuns vs old new m
     run_put T v lines new m made put = (
       ws ++ made.0 ∷ [],
       omega (arith, length-append ws (made.0 ∷ []), at),
       record {
-        taken = one_run_more a ws made.0 old mid new has.taken (subst (λ k. EndsOfSeed a.scenario a.network k made.0) here made.1)
-            (subst (Appends mid new) (made.2 ∙ ap (λ k. lines_of (rows_of_seed a.show a.scenario a.network k made.0)) here) put.0);
+        taken = one_run_more a ws made.0 old mid new has.taken (subst (λ k. EndsOfSeed a.scenario k made.0) here made.1)
+            (subst (Appends mid new) (made.2 ∙ ap (λ k. lines_of (rows_of_seed a.show a.scenario k made.0)) here) put.0);
         counted = subst (λ k. GrewBy 0 k m)
             (sym (ap length (grown made.0 lines.items made.2) ∙ length-append (replications_of a ws) lines.items))
             (count_more 0 (length (replications_of a ws)) n (length lines.items) m has.counted put.1);
@@ -274,15 +273,15 @@ module _ (a : Series) where
     )
 
     pub run_failed : (T U : Type 0) (lines : Vec ℕ) (new : Option (List ℕ)) (m : ℕ) (f : LabFault)
-        → MakesLines a.scenario a.network a.show seed (Ok lines) → PutsNext {T = T} mid n lines.items (Err f) new m
+        → MakesLines a.scenario a.show seed (Ok lines) → PutsNext {T = T} mid n lines.items (Err f) new m
         → TellsReplications {T = U} a old new (Err f)
     run_failed T U lines new m (WriteFault k) made put =
         let all = replications_of a ws in (
           ws ++ made.0 ∷ [],
           omega (arith, length-append ws (made.0 ∷ []), at, before),
           (
-            ends_more a.show a.scenario a.network ws made.0 a.first has.taken.0
-                (subst (λ k. EndsOfSeed a.scenario a.network k made.0) here made.1),
+            ends_more a.show a.scenario ws made.0 a.first has.taken.0
+                (subst (λ k. EndsOfSeed a.scenario k made.0) here made.1),
             (
               all ++ put.0,
               put.1,
@@ -299,10 +298,10 @@ module _ (a : Series) where
     run_failed T U lines new m NoMemory made put = absurd put
     run_failed T U lines new m CountFull made put = absurd put
 
-    pub run_refused : (U : Type 0) (f : LabFault) → MakesLines a.scenario a.network a.show seed (Err f)
+    pub run_refused : (U : Type 0) (f : LabFault) → MakesLines a.scenario a.show seed (Err f)
         → TellsReplications {T = U} a old mid (Err f)
     run_refused U CountFull made =
-        (ws, omega (arith, at, before), has.taken, subst (λ k. MeetsFullOfSeed a.scenario a.network k) here made)
+        (ws, omega (arith, at, before), has.taken, subst (λ k. MeetsFullOfSeed a.scenario k) here made)
     run_refused U NoMemory made = inr (ws, omega (arith, at, before), has.taken)
     run_refused U BadCut made = absurd made
     run_refused U BadWidth made = absurd made
@@ -310,11 +309,11 @@ module _ (a : Series) where
     run_refused U (WriteFault n) made = absurd made
 
 -- the run of a seed is refused for no reason of the outlet's
-pub not_written : (T : Type 0) (p : PlainScenario) (net : Network) (show : Show) (seed : ℕ) (f : LabFault) (n m : ℕ)
-    → MakesLines p net show seed (Err f) → m ≡ n → m ≡ failures_after_run {T = T} (Err f) n
-not_written T p net show seed CountFull n m made e = e
-not_written T p net show seed NoMemory n m made e = e
-not_written T p net show seed BadCut n m made e = absurd made
-not_written T p net show seed BadWidth n m made e = absurd made
-not_written T p net show seed ShareFull n m made e = absurd made
-not_written T p net show seed (WriteFault k) n m made e = absurd made
+pub not_written : (T : Type 0) (p : PlainScenario) (show : Show) (seed : ℕ) (f : LabFault) (n m : ℕ)
+    → MakesLines p show seed (Err f) → m ≡ n → m ≡ failures_after_run {T = T} (Err f) n
+not_written T p show seed CountFull n m made e = e
+not_written T p show seed NoMemory n m made e = e
+not_written T p show seed BadCut n m made e = absurd made
+not_written T p show seed BadWidth n m made e = absurd made
+not_written T p show seed ShareFull n m made e = absurd made
+not_written T p show seed (WriteFault k) n m made e = absurd made

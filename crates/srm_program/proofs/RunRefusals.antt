@@ -1,6 +1,5 @@
 -- What the refusal of an engine is to the program, and what its sink took.
 use Rattle.std.proofs.Common.{◌≡◌, ◌∙◌, ◌+◌, add-zero, ℕ, List, Err, inl, inr, refl, sym, subst}
-use Rattle.srm_net.specs.Network.{Network}
 use Rattle.srm_scenario.specs.Plain.{PlainScenario}
 use Rattle.srm_member.specs.declared.row.Row.{Row}
 use Rattle.srm_cell.specs.Setting.{setting_of}
@@ -24,24 +23,24 @@ use Rattle.srm_program.specs.Runs.{fault_of_stream, MayBreakOffBy, StandsAfter, 
 no_window : (e : Engine) (P : Type 0) → e ≡ Step → e ≡ Window → P
 no_window e P step window = cc
 
-module _ {S : Type 0} (took part : S → List Row → S → Type 0) (p : PlainScenario) (net : Network) (seed : ℕ) (o : Options)
+module _ {S : Type 0} (took part : S → List Row → S → Type 0) (p : PlainScenario) (seed : ℕ) (o : Options)
     (old : S) (x : StreamFault) (new : S) where
   -- one event after the other
-  pub steps_refused : o.engine ≡ Step → MeetsRefusal took part (setting_of p net seed) old x new
-      → TakesTraceFront took part (setting_of p net seed) old new → TellsRows took part p net seed o old (Err (fault_of_stream x)) new
+  pub steps_refused : o.engine ≡ Step → MeetsRefusal took part (setting_of p seed) old x new
+      → TakesTraceFront took part (setting_of p seed) old new → TellsRows took part p seed o old (Err (fault_of_stream x)) new
   steps_refused step why front = by x why
     where
-      by : (x : StreamFault) → MeetsRefusal took part (setting_of p net seed) old x new
-          → TellsRows took part p net seed o old (Err (fault_of_stream x)) new
+      by : (x : StreamFault) → MeetsRefusal took part (setting_of p seed) old x new
+          → TellsRows took part p seed o old (Err (fault_of_stream x)) new
       by (Run fault.NoMemory) why = (front, no_window o.engine _ step)
       by (Run fault.CountFull) why = (
         (
-          meets_full (setting_of p net seed) why.3.0 why.3.2 why.3.5,
+          meets_full (setting_of p seed) why.3.0 why.3.2 why.3.5,
           (
             why.0,
             why.1,
             why.2,
-            subst (λ (e : Engine). MayBreakOffBy e (setting_of p net seed) net o CountFull why.0) (sym step) why.3,
+            subst (λ (e : Engine). MayBreakOffBy e (setting_of p seed) p o CountFull why.0) (sym step) why.3,
           ),
         ),
         no_window o.engine _ step,
@@ -52,22 +51,22 @@ module _ {S : Type 0} (took part : S → List Row → S → Type 0) (p : PlainSc
       by (Stopped n) why = (front, no_window o.engine _ step)
 
   -- in windows of time
-  pub windows_refused : (A : Type 0) → o.engine ≡ Window → TellsStreamAsked {A = A} net (record { cut = o.cut; width = o.width }) (Err x)
+  pub windows_refused : (A : Type 0) → o.engine ≡ Window → TellsStreamAsked {A = A} p (record { cut = o.cut; width = o.width }) (Err x)
       → IsLeft {A = A} old (Err x) new
-      → RefusedAtWindow took part (setting_of p net seed) (rule_of (setting_of p net seed) net o.width) o.cut old x new
-      → TakesTraceFront took part (setting_of p net seed) old new → TellsRows took part p net seed o old (Err (fault_of_stream x)) new
+      → RefusedAtWindow took part (setting_of p seed) (rule_of (setting_of p seed) p o.width) o.cut old x new
+      → TakesTraceFront took part (setting_of p seed) old new → TellsRows took part p seed o old (Err (fault_of_stream x)) new
   windows_refused A window asked left refused front = by x asked left refused
     where
       broken_off : (f : LabFault)
-          → TakesUpTo took part (setting_of p net seed) (MayBreakOffBy Window (setting_of p net seed) net o f) old new
-          → TakesUpTo took part (setting_of p net seed) (MayBreakOffBy o.engine (setting_of p net seed) net o f) old new
-      broken_off f h = subst (λ (e : Engine). TakesUpTo took part (setting_of p net seed)
-          (MayBreakOffBy e (setting_of p net seed) net o f) old new) (sym window) h
+          → TakesUpTo took part (setting_of p seed) (MayBreakOffBy Window (setting_of p seed) p o f) old new
+          → TakesUpTo took part (setting_of p seed) (MayBreakOffBy o.engine (setting_of p seed) p o f) old new
+      broken_off f h = subst (λ (e : Engine). TakesUpTo took part (setting_of p seed)
+          (MayBreakOffBy e (setting_of p seed) p o f) old new) (sym window) h
 
-      by : (x : StreamFault) → TellsStreamAsked {A = A} net (record { cut = o.cut; width = o.width }) (Err x)
+      by : (x : StreamFault) → TellsStreamAsked {A = A} p (record { cut = o.cut; width = o.width }) (Err x)
           → IsLeft {A = A} old (Err x) new
-          → RefusedAtWindow took part (setting_of p net seed) (rule_of (setting_of p net seed) net o.width) o.cut old x new
-          → TellsRows took part p net seed o old (Err (fault_of_stream x)) new
+          → RefusedAtWindow took part (setting_of p seed) (rule_of (setting_of p seed) p o.width) o.cut old x new
+          → TellsRows took part p seed o old (Err (fault_of_stream x)) new
       by (Run fault.NoMemory) asked left refused = (front, λ e. asked)
       by (Run fault.CountFull) asked left refused = ((refused.3.2.0, broken_off CountFull refused), λ e. asked)
       by (Run fault.ShareFull) asked left refused =

@@ -3,12 +3,11 @@ use Rattle.std.proofs.Common.{◌≡◌, ℕ, ◌+◌, ◌≤◌, Bool, false, L
 use Rattle.std.proofs.Common.{arith}
 use Rattle.std.specs.Prelude.{IfSome}
 use Rattle.std.specs.Io.KnownBytes.{Keeps}
-use Rattle.srm_net.specs.Network.{Network}
 use Rattle.srm_scenario.specs.declared.fault.ScenarioFault.{ScenarioFault}
 use Rattle.srm_scenario.specs.declared.fault.ScenarioFault.TheVariants as scenario
 use Rattle.srm_scenario.specs.declared.fault.ScenarioFault.TheVariants.{ReadFault, TooLong, NotToml, BadKey, NotTree, BadMember}
 use Rattle.srm_scenario.specs.declared.fault.ScenarioFault.TheVariants.{BadDraw, BadSession, BadDrop, BadOutage, BadLoss}
-use Rattle.srm_scenario.specs.Plain.{PlainScenario, network_of, with_seed}
+use Rattle.srm_scenario.specs.Plain.{PlainScenario, with_seed}
 use Rattle.srm_scenario.specs.Faults.{scenario_of_text, AnswersText, RefusesText}
 use Rattle.srm_scenario.proofs.Texts.{count_stays}
 use Rattle.srm_program.specs.declared.fault.Fault.{Fault}
@@ -25,35 +24,25 @@ run_of o checked replicated ran runs one h =
     subst (λ (b : Bool). ByTask b o.replications checked replicated ran) (sym runs)
     (subst (λ (k : Option ℕ). ByTask false k checked replicated ran) (sym one) h)
 
-module _ (p : PlainScenario) (net : Network) (text : List ℕ) (seed : ℕ) (o : Options) (old new : Option (List ℕ))
-    (is : scenario_of_text text ≡ Ok p) (runs : o.check ≡ false) (one : o.replications ≡ None)
-    (made : net ≡ network_of (with_seed p seed)) where
+module _ (p : PlainScenario) (text : List ℕ) (seed : ℕ) (o : Options) (old new : Option (List ℕ))
+    (is : scenario_of_text text ≡ Ok p) (runs : o.check ≡ false) (one : o.replications ≡ None) where
   -- the session of a text is that of the scenario that it describes, with the seed of its losses
-  pub session_of_text : {T : Type 0} (r : Result T Fault) → TellsSession (with_seed p seed) net seed o.show old new r
+  pub session_of_text : {T : Type 0} (r : Result T Fault) → TellsSession (with_seed p seed) seed o.show old new r
       → TellsText seed o text old new r
-  session_of_text {T} r told = describes r (subst (λ (w : Network). TellsSession (with_seed p seed) w seed o.show old new r) made told)
-    where
-      describes : (r : Result T Fault) → TellsSession (with_seed p seed) (network_of p) seed o.show old new r
-          → TellsText seed o text old new r
-      describes (Ok v) told = (p, is, run_of o _ _ _ runs one told)
-      describes (Err (Lab f)) told = (p, is, run_of o _ _ _ runs one told)
-      describes (Err (Line f)) told = absurd told
-      describes (Err (Scenario f)) told = absurd told
-      describes (Err NoMemory) told = told
+  session_of_text (Ok v) told = (p, is, run_of o _ _ _ runs one told)
+  session_of_text (Err (Lab f)) told = (p, is, run_of o _ _ _ runs one told)
+  session_of_text (Err (Line f)) told = absurd told
+  session_of_text (Err (Scenario f)) told = absurd told
+  session_of_text (Err NoMemory) told = told
 
   -- and so are its refusals
-  pub refusals_of_text : {T : Type 0} (r : Result T Fault) → OfRun (TellsRefusals (with_seed p seed) net seed o old new) r
+  pub refusals_of_text : {T : Type 0} (r : Result T Fault) → OfRun (TellsRefusals (with_seed p seed) seed o old new) r
       → TellsTextRefusals seed o text old new r
-  refusals_of_text {T} r told =
-      describes r (subst (λ (w : Network). OfRun (TellsRefusals (with_seed p seed) w seed o old new) r) made told)
-    where
-      describes : (r : Result T Fault) → OfRun (TellsRefusals (with_seed p seed) (network_of (with_seed p seed)) seed o old new) r
-          → TellsTextRefusals seed o text old new r
-      describes (Ok v) told = run_of o _ _ _ runs one (p, is, told)
-      describes (Err (Lab f)) told = run_of o _ _ _ runs one (p, is, told)
-      describes (Err (Line f)) told = tt
-      describes (Err (Scenario f)) told = tt
-      describes (Err NoMemory) told = tt
+  refusals_of_text (Ok v) told = run_of o _ _ _ runs one (p, is, told)
+  refusals_of_text (Err (Lab f)) told = run_of o _ _ _ runs one (p, is, told)
+  refusals_of_text (Err (Line f)) told = tt
+  refusals_of_text (Err (Scenario f)) told = tt
+  refusals_of_text (Err NoMemory) told = tt
 
 -- what is told of a text counts no failure of the feed
 pub text_read : {T : Type 0} (text : List ℕ) (seed : ℕ) (o : Options) (old new : Option (List ℕ)) (r : Result T Fault) (n : ℕ)

@@ -1,7 +1,6 @@
 -- What is asked of a run, and what comes of it.
 use Rattle.std.specs.Prelude.{◌≡◌, ◌<◌, ◌-◌, ◌^◌, ℕ, List, [], Result}
 use Rattle.std.specs.Global.{Vec}
-use Rattle.srm_net.specs.Network.{Network}
 use Rattle.srm_scenario.specs.Plain.{PlainScenario}
 use Rattle.srm_member.specs.Record.{Record}
 use Rattle.srm_member.specs.declared.row.Row.{Row}
@@ -21,11 +20,11 @@ use Rattle.srm_program.specs.Reports.{failures_after_run, TellsListing, TellsRep
 use Rattle.srm_program.specs.Runs.{most_gathered, KeepsRows, LeavesOff, MayBreakOff, StandsAfter, TellsRefusals}
 use Rattle.srm_program.specs.Runs.{TellsRefusedFor, TellsRows}
 
--- this holds of a task's scenario on its network, for each seed whose opening records these are
-abbrev pub ForEachSeed : Task → List Record → (PlainScenario → Network → ℕ → Type 0) → Type 0
+-- this holds of a task's scenario, for each seed whose opening records these are
+abbrev pub ForEachSeed : Task → List Record → (PlainScenario → ℕ → Type 0) → Type 0
 ForEachSeed task rs holds =
-    (seed : ℕ) → HoldOpeningRecords task.session.scenario.now task.session.net.now seed rs
-    → holds task.session.scenario.now task.session.net.now seed
+    (seed : ℕ) → HoldOpeningRecords task.session.scenario.now seed rs
+    → holds task.session.scenario.now seed
 
 -- a table of a run of one event after the other may be written: it is asked for, and one more failure of the outlet can
 -- be counted
@@ -46,14 +45,14 @@ pub record HandsOn {S : Type 0} (s : sink.Ghosts S) (task : Task) (rs : List Rec
   pub device : s.same old new
   pub stands : StandsAfter r (s.stage new)
   pub failures : s.failures new ≡ failures_after_run r (s.failures old)
-  pub rows : ForEachSeed task rs (λ p net seed. TellsRows s.took s.part p net seed task.options old r new)
+  pub rows : ForEachSeed task rs (λ p seed. TellsRows s.took s.part p seed task.options old r new)
 
 -- what comes of a task, of members with these records, of whose rows a watch keeps something: what is kept of each
 -- member and the totals, or the refusal
 pub record IsKept {K : Type 0} (keeps : K → List Row → Type 0) (task : Task) (rs : List Record)
     (r : Result (Vec K × List ℕ) LabFault) : Type 0 where
-  pub kept : ForEachSeed task rs (λ p net seed. KeepsRows keeps (setting_of p net seed) r)
-  pub refused : ForEachSeed task rs (λ p net seed. TellsRefusedFor p net seed task.options r)
+  pub kept : ForEachSeed task rs (λ p seed. KeepsRows keeps (setting_of p seed) r)
+  pub refused : ForEachSeed task rs (λ p seed. TellsRefusedFor p seed task.options r)
 
 -- a sink was handed nothing yet, and gathers as much as one of the program's does
 pub record IsFresh {L O : Type 0} (s : ListingSink L O) : Type 0 where
@@ -68,16 +67,16 @@ module _ {O T : Type 0} (o : outlet.Ghosts O) where
   pub record IsListed (form : Form) (task : Task) (rs : List Record) (old : O) (r : Result T LabFault) (new : O)
       : Type 0 where
     pub failures : o.failures new ≡ failures_after_run r (o.failures old)
-    pub table : ForEachSeed task rs (λ p net seed. TellsListing (text_in form) (setting_of p net seed)
+    pub table : ForEachSeed task rs (λ p seed. TellsListing (text_in form) (setting_of p seed)
         (o.taken old) (o.taken new) r)
-    pub refused : ForEachSeed task rs (λ p net seed. TellsRefusedFor p net seed task.options r)
-    pub left : ForEachSeed task rs (λ p net seed. LeavesOff (text_in form) (MayBreakOff p net seed task.options)
-        (setting_of p net seed) (o.taken old) (o.taken new) r)
+    pub refused : ForEachSeed task rs (λ p seed. TellsRefusedFor p seed task.options r)
+    pub left : ForEachSeed task rs (λ p seed. LeavesOff (text_in form) (MayBreakOff p seed task.options)
+        (setting_of p seed) (o.taken old) (o.taken new) r)
 
   -- what comes of a report: how often its outlet failed, what it took, and the refusals
   pub record Reports (task : Task) (rs : List Record) (old : O) (r : Result T LabFault) (new : O) : Type 0 where
     pub failures : o.failures new ≡ failures_after_run r (o.failures old)
-    pub report : ForEachSeed task rs (λ p net seed. TellsReport p net seed task.options.show
+    pub report : ForEachSeed task rs (λ p seed. TellsReport p seed task.options.show
         (o.taken old) (o.taken new) r)
-    pub refusals : ForEachSeed task rs (λ p net seed. TellsRefusals p net seed task.options
+    pub refusals : ForEachSeed task rs (λ p seed. TellsRefusals p seed task.options
         (o.taken old) (o.taken new) r)

@@ -11,6 +11,6 @@ use Rattle.srm_model.specs.World.{IsOutcome}
 -- members
 pub record IsKeptOf {K : Type 0} (keeps : K → List Row → Type 0) (of : Session) (seed : ℕ) (kept : List K)
     (totals : List ℕ) (rows : List Row) (exits : List Exit) : Type 0 where
-  pub outcome : IsOutcome (setting_of of.scenario.now of.net.now seed) rows exits totals
+  pub outcome : IsOutcome (setting_of of.scenario.now seed) rows exits totals
   pub many : length of.scenario.now.members ≤ length kept
   pub are : KeepMembers keeps 0 kept rows

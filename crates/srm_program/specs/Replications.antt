@@ -3,7 +3,6 @@ use Rattle.std.specs.Prelude.{◌≡◌, ◌⊎◌, ℕ, ◌+◌, ◌≤◌, ◌
 use Rattle.std.specs.Prelude.{Result, Ok, Err}
 use Rattle.std.specs.Global.{Vec}
 use Rattle.std.specs.Io.KnownBytes.{Appends, Keeps}
-use Rattle.srm_net.specs.Network.{Network}
 use Rattle.srm_scenario.specs.Plain.{PlainScenario}
 use Rattle.srm_scenario.specs.Plain as plain
 use Rattle.srm_cell.specs.Setting.{setting_of}
@@ -23,54 +22,52 @@ use Rattle.srm_program.specs.Runs.{MayShareBag}
 
 -- ---- replications
 
--- runs of a scenario on its network, so many, the first with this seed and each other with the next, and the table that
--- is shown of each
+-- runs of a scenario, so many, the first with this seed and each other with the next, and the table that is shown of
+-- each
 pub record Series : Type 0 where
   pub scenario : PlainScenario
-  pub network : Network
   pub first : ℕ
   pub count : ℕ
   pub show : Show
 
--- the run of a scenario on its network with this seed, which is that of its losses too, ends in this world
-abbrev pub EndsOfSeed : PlainScenario → Network → ℕ → World → Type 0
-EndsOfSeed p net seed w = IsLast (setting_of (plain.with_seed p seed) net seed) w
+-- the run of a scenario with this seed, which is that of its losses too, ends in this world
+abbrev pub EndsOfSeed : PlainScenario → ℕ → World → Type 0
+EndsOfSeed p seed w = IsLast (setting_of (plain.with_seed p seed) seed) w
 
 -- the rows of the table of such a run, with the seed in front
-abbrev pub rows_of_seed : Show → PlainScenario → Network → ℕ → World → List (List (List ℕ))
-rows_of_seed show p net seed w = with_seed seed (rows_of_run show (plain.with_seed p seed) net w)
+abbrev pub rows_of_seed : Show → PlainScenario → ℕ → World → List (List (List ℕ))
+rows_of_seed show p seed w = with_seed seed (rows_of_run show (plain.with_seed p seed) w)
 
 -- the run with this seed meets a step for which the packet count is used up
-abbrev pub MeetsFullOfSeed : PlainScenario → Network → ℕ → Type 0
-MeetsFullOfSeed p net seed = RunMeetsFull (setting_of (plain.with_seed p seed) net seed)
+abbrev pub MeetsFullOfSeed : PlainScenario → ℕ → Type 0
+MeetsFullOfSeed p seed = RunMeetsFull (setting_of (plain.with_seed p seed) seed)
 
 -- the rows of runs that ended in these worlds, the first with this seed and each other with the next: those of the
 -- run's table, with the seed in front
-abbrev pub replicated_rows : Show → PlainScenario → Network → ℕ → List World → List (List (List ℕ))
-replicated_rows show p net seed [] = []
-replicated_rows show p net seed (w ∷ ws) =
-    rows_of_seed show p net seed w ++ replicated_rows show p net (seed + 1) ws
+abbrev pub replicated_rows : Show → PlainScenario → ℕ → List World → List (List (List ℕ))
+replicated_rows show p seed [] = []
+replicated_rows show p seed (w ∷ ws) =
+    rows_of_seed show p seed w ++ replicated_rows show p (seed + 1) ws
 
 -- the table of the first runs of a series, which ended in these worlds: the columns are the seed and those of the
 -- run's table
 abbrev pub replications_of : Series → List World → List ℕ
 replications_of a ws =
-    table_lines (codes "seed" ∷ columns_shown a.show) (replicated_rows a.show a.scenario a.network a.first ws)
+    table_lines (codes "seed" ∷ columns_shown a.show) (replicated_rows a.show a.scenario a.first ws)
 
--- the sequential runs of a scenario on its network, the first with this seed and each other with the next, end in
--- these worlds
-abbrev pub EndInTurn : PlainScenario → Network → ℕ → List World → Type 0
-EndInTurn p net seed [] = Unit {0}
-EndInTurn p net seed (w ∷ ws) = EndsOfSeed p net seed w × EndInTurn p net (seed + 1) ws
+-- the sequential runs of a scenario, the first with this seed and each other with the next, end in these worlds
+abbrev pub EndInTurn : PlainScenario → ℕ → List World → Type 0
+EndInTurn p seed [] = Unit {0}
+EndInTurn p seed (w ∷ ws) = EndsOfSeed p seed w × EndInTurn p (seed + 1) ws
 
 -- an outlet took the table of the first runs of a series, which end in these worlds
 abbrev pub TakesRuns : Series → List World → Option (List ℕ) → Option (List ℕ) → Type 0
-TakesRuns a ws old new = EndInTurn a.scenario a.network a.first ws × Appends old new (replications_of a ws)
+TakesRuns a ws old new = EndInTurn a.scenario a.first ws × Appends old new (replications_of a ws)
 
 -- an outlet took a front of that table, but not all of it, and as many bytes as are told, up to 2^64 - 1
 abbrev pub TakesFrontOfRuns : Series → List World → Option (List ℕ) → Option (List ℕ) → ℕ → Type 0
 TakesFrontOfRuns a ws old new written =
-    EndInTurn a.scenario a.network a.first ws
+    EndInTurn a.scenario a.first ws
     × ((out rest : List ℕ) × (replications_of a ws ≡ out ++ rest) × (0 < length rest)
     × Appends old new out × GrewBy 0 (length out) written)
 
@@ -84,16 +81,15 @@ TellsReplications a old new (Err (WriteFault written)) =
     (ws : List World) × (length ws ≤ a.count) × TakesFrontOfRuns a ws old new written
 TellsReplications a old new (Err CountFull) =
     (ws : List World) × (length ws < a.count) × TakesRuns a ws old new
-    × MeetsFullOfSeed a.scenario a.network (a.first + length ws)
+    × MeetsFullOfSeed a.scenario (a.first + length ws)
 TellsReplications a old new (Err NoMemory) =
     Keeps old new ⊎ ((ws : List World) × (length ws ≤ a.count) × TakesRuns a ws old new)
 TellsReplications a old new (Err f) = ⊥
 
--- the runs of a scenario on its network that a span asks for
-abbrev pub series_of : PlainScenario → Network → ShownRuns → Series
-series_of p net span = record {
+-- the runs of a scenario that a span asks for
+abbrev pub series_of : PlainScenario → ShownRuns → Series
+series_of p span = record {
   scenario = p;
-  network = net;
   first = span.first;
   count = span.end - span.first;
   show = span.show;
@@ -119,21 +115,21 @@ PutsNext old n text (Err f) new m = ⊥
 
 -- what comes of the run of a scenario, as it is, with words of this seed: the lines of its rows, each with the seed in
 -- front; or a refusal
-abbrev pub GivesLines : PlainScenario → Network → Show → ℕ → Result (Vec ℕ) LabFault → Type 0
-GivesLines p net show seed (Ok text) =
-    (w : World) × IsLast (setting_of p net seed) w × (text.items ≡ lines_of (with_seed seed (rows_of_run show p net w)))
-GivesLines p net show seed (Err CountFull) = RunMeetsFull (setting_of p net seed)
-GivesLines p net show seed (Err NoMemory) = Unit {0}
-GivesLines p net show seed (Err f) = ⊥
+abbrev pub GivesLines : PlainScenario → Show → ℕ → Result (Vec ℕ) LabFault → Type 0
+GivesLines p show seed (Ok text) =
+    (w : World) × IsLast (setting_of p seed) w × (text.items ≡ lines_of (with_seed seed (rows_of_run show p w)))
+GivesLines p show seed (Err CountFull) = RunMeetsFull (setting_of p seed)
+GivesLines p show seed (Err NoMemory) = Unit {0}
+GivesLines p show seed (Err f) = ⊥
 
 -- what comes of the run of one seed, which is that of its losses too
-abbrev pub MakesLines : PlainScenario → Network → Show → ℕ → Result (Vec ℕ) LabFault → Type 0
-MakesLines p net show seed r = GivesLines (plain.with_seed p seed) net show seed r
+abbrev pub MakesLines : PlainScenario → Show → ℕ → Result (Vec ℕ) LabFault → Type 0
+MakesLines p show seed r = GivesLines (plain.with_seed p seed) show seed r
 
 -- what comes of each seed is that of its run
 abbrev pub MakesEach :
-    (ℕ → Result (Vec ℕ) LabFault → Type 0) → PlainScenario → Network → Show → Type 0
-MakesEach gives p net show = (seed : ℕ) (r : Result (Vec ℕ) LabFault) → gives seed r → MakesLines p net show seed r
+    (ℕ → Result (Vec ℕ) LabFault → Type 0) → PlainScenario → Show → Type 0
+MakesEach gives p show = (seed : ℕ) (r : Result (Vec ℕ) LabFault) → gives seed r → MakesLines p show seed r
 
 -- runs may be replicated so
 abbrev pub MayReplicate : Options → Type 0

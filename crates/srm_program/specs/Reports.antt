@@ -2,9 +2,8 @@
 use Rattle.std.specs.Prelude.{◌≡◌, ℕ, ◌+◌, ◌<◌, List, ◌++◌, length, map, take, Option, Result, Ok, Err}
 use Rattle.std.specs.List.{flat_map}
 use Rattle.std.specs.Io.KnownBytes.{Appends, Keeps}
-use Rattle.srm_net.specs.Network.{Network}
 use Rattle.srm_net.specs.Orders.{ordered}
-use Rattle.srm_scenario.specs.Plain.{PlainScenario}
+use Rattle.srm_scenario.specs.Plain.{PlainScenario, network_of}
 use Rattle.srm_member.specs.declared.row.Row.{Row}
 use Rattle.srm_cell.specs.Crossings.{crossings}
 use Rattle.srm_cell.specs.Setting.{Setting, setting_of, traffic_of}
@@ -35,27 +34,27 @@ columns_shown Links = link_columns
 columns_shown Timers = timers_columns
 columns_shown Scopes = scope_columns
 
--- the rows of a table, each as its fields, of a run of a scenario on its network that left these rows and totals
-abbrev pub rows_shown : Show → PlainScenario → Network → List Row → List ℕ → List (List (List ℕ))
-rows_shown Trace p net rows totals = map trace_fields rows
-rows_shown Members p net rows totals = member_rows rows 0 p.members
-rows_shown Losses p net rows totals = map (loss_row net rows) (ordered loss_cmp (losses_in rows))
-rows_shown Operations p net rows totals = map (operation_row net rows) (names_lost rows)
-rows_shown Links p net rows totals = link_rows totals
-rows_shown Timers p net rows totals = flat_map timers_rows rows
-rows_shown Scopes p net rows totals = scope_rows rows
+-- the rows of a table, each as its fields, of a run of a scenario that left these rows and totals
+abbrev pub rows_shown : Show → PlainScenario → List Row → List ℕ → List (List (List ℕ))
+rows_shown Trace p rows totals = map trace_fields rows
+rows_shown Members p rows totals = member_rows rows 0 p.members
+rows_shown Losses p rows totals = map (loss_row (network_of p) rows) (ordered loss_cmp (losses_in rows))
+rows_shown Operations p rows totals = map (operation_row (network_of p) rows) (names_lost rows)
+rows_shown Links p rows totals = link_rows totals
+rows_shown Timers p rows totals = flat_map timers_rows rows
+rows_shown Scopes p rows totals = scope_rows rows
 
 -- the table of a run that left these rows and totals
-abbrev pub table_shown : Show → PlainScenario → Network → List Row → List ℕ → List ℕ
-table_shown show p net rows totals = table_lines (columns_shown show) (rows_shown show p net rows totals)
+abbrev pub table_shown : Show → PlainScenario → List Row → List ℕ → List ℕ
+table_shown show p rows totals = table_lines (columns_shown show) (rows_shown show p rows totals)
 
 -- the rows of a run that ended in this world: its totals are the crossings of its packets
-abbrev pub rows_of_run : Show → PlainScenario → Network → World → List (List (List ℕ))
-rows_of_run show p net w = rows_shown show p net w.trace (crossings (traffic_of p net) w.trace)
+abbrev pub rows_of_run : Show → PlainScenario → World → List (List (List ℕ))
+rows_of_run show p w = rows_shown show p w.trace (crossings (traffic_of p (network_of p)) w.trace)
 
 -- the report of such a run: the line of its table's columns, and then the lines of its rows
-abbrev pub report_of : Show → PlainScenario → Network → World → List ℕ
-report_of show p net w = table_lines (columns_shown show) (rows_of_run show p net w)
+abbrev pub report_of : Show → PlainScenario → World → List ℕ
+report_of show p w = table_lines (columns_shown show) (rows_of_run show p w)
 
 -- the count of an outlet's failures after a report was written to it: one more exactly where the answer is that it
 -- failed
@@ -73,15 +72,15 @@ Writes old new report (Err f) = ⊥
 -- what an outlet took of a table of a scenario's sequential run with random words of this seed, which ends in a world:
 -- all of it, or as many bytes as the fault tells; and nothing after another refusal, of which CountFull says that the
 -- run meets a step for which the packet count is used up
-abbrev pub TellsTable : {T : Type 0} → PlainScenario → Network → ℕ → Show
+abbrev pub TellsTable : {T : Type 0} → PlainScenario → ℕ → Show
     → Option (List ℕ) → Option (List ℕ) → Result T LabFault → Type 0
-TellsTable p net seed show old new (Ok v) =
-    (w : World) × IsLast (setting_of p net seed) w × Appends old new (report_of show p net w)
-TellsTable p net seed show old new (Err (WriteFault written)) =
-    (w : World) × IsLast (setting_of p net seed) w
-    × Appends old new (take written (report_of show p net w)) × (written < length (report_of show p net w))
-TellsTable p net seed show old new (Err CountFull) = RunMeetsFull (setting_of p net seed) × Keeps old new
-TellsTable p net seed show old new (Err f) = Keeps old new
+TellsTable p seed show old new (Ok v) =
+    (w : World) × IsLast (setting_of p seed) w × Appends old new (report_of show p w)
+TellsTable p seed show old new (Err (WriteFault written)) =
+    (w : World) × IsLast (setting_of p seed) w
+    × Appends old new (take written (report_of show p w)) × (written < length (report_of show p w))
+TellsTable p seed show old new (Err CountFull) = RunMeetsFull (setting_of p seed) × Keeps old new
+TellsTable p seed show old new (Err f) = Keeps old new
 
 -- ---- tables that list rows
 
@@ -118,7 +117,7 @@ IsWhole show = ByShow show (λ text. ⊥) (Unit {0})
 
 -- what an outlet took of the report of a run: that of the sequential run, for the seed and the table alone. After a
 -- refusal it is of the trace and the table of timers a front, and of another table nothing but where the outlet failed
-abbrev pub TellsReport : {T : Type 0} → PlainScenario → Network → ℕ → Show
+abbrev pub TellsReport : {T : Type 0} → PlainScenario → ℕ → Show
     → Option (List ℕ) → Option (List ℕ) → Result T LabFault → Type 0
-TellsReport p net seed show old new r =
-    ByShow show (λ text. TellsListing text (setting_of p net seed) old new r) (TellsTable p net seed show old new r)
+TellsReport p seed show old new r =
+    ByShow show (λ text. TellsListing text (setting_of p seed) old new r) (TellsTable p seed show old new r)

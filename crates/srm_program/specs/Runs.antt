@@ -2,7 +2,6 @@
 use Rattle.std.specs.Prelude.{◌≡◌, ℕ, ◌≤◌, List, ◌++◌, length, Option, Result, Ok, Err}
 use Rattle.std.specs.Io.KnownBytes.{Appends}
 use Rattle.std.specs.Global.{Vec}
-use Rattle.srm_net.specs.Network.{Network}
 use Rattle.srm_scenario.specs.Plain.{PlainScenario}
 use Rattle.srm_cell.specs.Setting.{Setting, setting_of}
 use Rattle.srm_member.specs.declared.row.Row.{Row}
@@ -29,30 +28,30 @@ use Rattle.srm_program.specs.Reports.{ByShow}
 pub use Rattle.srm_options.specs.Asked.{MayShareBag}
 
 -- the run may be cut into windows and jobs as is asked for
-abbrev pub MayBeCut : Network → Options → Type 0
-MayBeCut net o = IsCut o.cut × MayBeWide net o.width
+abbrev pub MayBeCut : PlainScenario → Options → Type 0
+MayBeCut p o = IsCut o.cut × MayBeWide p o.width
 
 -- the refusals that the engine brings: a cut and a width that may not be are refused by a run in windows, the cut
 -- first, and by no other run; and only a run in windows is refused for a share
-abbrev pub TellsRefusedFor : {T : Type 0} → PlainScenario → Network → ℕ → Options → Result T LabFault → Type 0
-TellsRefusedFor p net seed o (Err BadCut) = (o.engine ≡ Window) × ¬ IsCut o.cut
-TellsRefusedFor p net seed o (Err BadWidth) = (o.engine ≡ Window) × IsCut o.cut × ¬ MayBeWide net o.width
-TellsRefusedFor p net seed o (Err ShareFull) =
-    let s = setting_of p net seed in
-    (o.engine ≡ Window) × MayBeCut net o × PassesShareAtWindow s (rule_of s net o.width) o.cut
-TellsRefusedFor p net seed o r = o.engine ≡ Window → MayBeCut net o
+abbrev pub TellsRefusedFor : {T : Type 0} → PlainScenario → ℕ → Options → Result T LabFault → Type 0
+TellsRefusedFor p seed o (Err BadCut) = (o.engine ≡ Window) × ¬ IsCut o.cut
+TellsRefusedFor p seed o (Err BadWidth) = (o.engine ≡ Window) × IsCut o.cut × ¬ MayBeWide p o.width
+TellsRefusedFor p seed o (Err ShareFull) =
+    let s = setting_of p seed in
+    (o.engine ≡ Window) × MayBeCut p o × PassesShareAtWindow s (rule_of s p o.width) o.cut
+TellsRefusedFor p seed o r = o.engine ≡ Window → MayBeCut p o
 
 -- in this world of a run this engine may break off for what is counted: one event after the other where the packet
 -- count is used up for a step fewer than 32 rows later; and in windows where one begins that may be refused so
-abbrev pub MayBreakOffBy : Engine → Setting → Network → Options → LabFault → World → Type 0
-MayBreakOffBy Step s net o CountFull w = MeetsFullWithin most_rows s w
-MayBreakOffBy Window s net o CountFull w = MayCome s (rule_of s net o.width) o.cut w fault.CountFull
-MayBreakOffBy Window s net o ShareFull w = MayCome s (rule_of s net o.width) o.cut w fault.ShareFull
-MayBreakOffBy engine s net o f w = ⊥
+abbrev pub MayBreakOffBy : Engine → Setting → PlainScenario → Options → LabFault → World → Type 0
+MayBreakOffBy Step s p o CountFull w = MeetsFullWithin most_rows s w
+MayBreakOffBy Window s p o CountFull w = MayCome s (rule_of s p o.width) o.cut w fault.CountFull
+MayBreakOffBy Window s p o ShareFull w = MayCome s (rule_of s p o.width) o.cut w fault.ShareFull
+MayBreakOffBy engine s p o f w = ⊥
 
--- the same, of the run of a scenario on its network with random words of this seed
-abbrev pub MayBreakOff : PlainScenario → Network → ℕ → Options → LabFault → World → Type 0
-MayBreakOff p net seed o f w = MayBreakOffBy o.engine (setting_of p net seed) net o f w
+-- the same, of the run of a scenario with random words of this seed
+abbrev pub MayBreakOff : PlainScenario → ℕ → Options → LabFault → World → Type 0
+MayBreakOff p seed o f w = MayBreakOffBy o.engine (setting_of p seed) p o f w
 
 -- up to how many bytes of a table that lists rows are gathered before they are written
 abbrev pub most_gathered : ℕ
@@ -75,15 +74,15 @@ LeavesOff text breaks s old new (Err ShareFull) = TakesAllBut text (breaks Share
 LeavesOff text breaks s old new r = Unit {0}
 
 -- so of the table that is shown of a run
-abbrev pub BreaksOff : {T : Type 0} → PlainScenario → Network → ℕ → Options
+abbrev pub BreaksOff : {T : Type 0} → PlainScenario → ℕ → Options
     → Option (List ℕ) → Option (List ℕ) → Result T LabFault → Type 0
-BreaksOff p net seed o old new r =
-    ByShow o.show (λ text. LeavesOff text (MayBreakOff p net seed o) (setting_of p net seed) old new r) (Unit {0})
+BreaksOff p seed o old new r =
+    ByShow o.show (λ text. LeavesOff text (MayBreakOff p seed o) (setting_of p seed) old new r) (Unit {0})
 
 -- when a run is refused, and where a run that breaks off left the table that is shown
-abbrev pub TellsRefusals : {T : Type 0} → PlainScenario → Network → ℕ → Options
+abbrev pub TellsRefusals : {T : Type 0} → PlainScenario → ℕ → Options
     → Option (List ℕ) → Option (List ℕ) → Result T LabFault → Type 0
-TellsRefusals p net seed o old new r = TellsRefusedFor p net seed o r × BreaksOff p net seed o old new r
+TellsRefusals p seed o old new r = TellsRefusedFor p seed o r × BreaksOff p seed o old new r
 
 -- ---- rows of which a watch keeps something
 
@@ -135,6 +134,6 @@ module _ {S : Type 0} (took part : S → List Row → S → Type 0) where
   HandsRows breaks s old (Err (WriteFault written)) new = TakesTraceFront took part s old new
 
   -- what the engine that is asked for hands on, and refuses
-  abbrev pub TellsRows : PlainScenario → Network → ℕ → Options → S → Result (List ℕ) LabFault → S → Type 0
-  TellsRows p net seed o old r new =
-      HandsRows (MayBreakOff p net seed o) (setting_of p net seed) old r new × TellsRefusedFor p net seed o r
+  abbrev pub TellsRows : PlainScenario → ℕ → Options → S → Result (List ℕ) LabFault → S → Type 0
+  TellsRows p seed o old r new =
+      HandsRows (MayBreakOff p seed o) (setting_of p seed) old r new × TellsRefusedFor p seed o r

@@ -1,10 +1,9 @@
 -- What comes of a session, from a scenario to its report.
 use Rattle.std.specs.Prelude.{⊤, ◌≡◌, ℕ, Bool, true, false, List, Option, Some, None, Result, Ok, Err, MatchResult}
 use Rattle.std.specs.Io.KnownBytes.{IsAtEnd, Keeps}
-use Rattle.srm_net.specs.Network.{Network}
 use Rattle.srm_scenario.specs.declared.fault.ScenarioFault.{ScenarioFault}
 use Rattle.srm_scenario.specs.declared.fault.ScenarioFault.TheVariants.{ReadFault}
-use Rattle.srm_scenario.specs.Plain.{PlainScenario, network_of, with_seed}
+use Rattle.srm_scenario.specs.Plain.{PlainScenario, with_seed}
 use Rattle.srm_scenario.specs.Faults as faults
 use Rattle.srm_program.specs.declared.fault.LabFault.{LabFault}
 use Rattle.srm_program.specs.declared.fault.Fault.{Fault}
@@ -25,15 +24,15 @@ session_failures (Err fault.NoMemory) n = n
 
 -- what an outlet took of the session of an accepted scenario: what its run tells, and nothing where memory ran out
 -- before
-abbrev pub TellsSession : {T : Type 0} → PlainScenario → Network → ℕ → Show
+abbrev pub TellsSession : {T : Type 0} → PlainScenario → ℕ → Show
     → Option (List ℕ) → Option (List ℕ) → Result T Fault → Type 0
-TellsSession p net seed show old new (Ok v) =
-    TellsReport p net seed show old new (let r : Result _ LabFault = Ok v in r)
-TellsSession {T} p net seed show old new (Err (fault.Lab f)) =
-    TellsReport p net seed show old new (let r : Result T LabFault = Err f in r)
-TellsSession p net seed show old new (Err (fault.Line f)) = ⊥
-TellsSession p net seed show old new (Err (fault.Scenario f)) = ⊥
-TellsSession p net seed show old new (Err fault.NoMemory) = Keeps old new
+TellsSession p seed show old new (Ok v) =
+    TellsReport p seed show old new (let r : Result _ LabFault = Ok v in r)
+TellsSession {T} p seed show old new (Err (fault.Lab f)) =
+    TellsReport p seed show old new (let r : Result T LabFault = Err f in r)
+TellsSession p seed show old new (Err (fault.Line f)) = ⊥
+TellsSession p seed show old new (Err (fault.Scenario f)) = ⊥
+TellsSession p seed show old new (Err fault.NoMemory) = Keeps old new
 
 -- this holds of what comes of a run, where the session came so far
 abbrev pub OfRun : {T : Type 0} → (Result T LabFault → Type 0) → Result T Fault → Type 0
@@ -63,9 +62,8 @@ abbrev pub TellsTask : {T : Type 0} → PlainScenario → ℕ → Options
     → Option (List ℕ) → Option (List ℕ) → Result T LabFault → Type 0
 TellsTask p seed o old new r =
     ByTask o.check o.replications (MatchResult r (λ v. Keeps old new) (λ f. ⊥))
-    (λ count. TellsReplications
-    (record { scenario = p; network = network_of p; first = seed; count = count; show = o.show }) old new r)
-    (TellsReport p (network_of p) seed o.show old new r)
+    (λ count. TellsReplications (record { scenario = p; first = seed; count = count; show = o.show }) old new r)
+    (TellsReport p seed o.show old new r)
 
 -- what an outlet took of the session of a text, with random words and losses of this seed: what the run of its scenario
 -- tells; nothing where the text is refused, by its first fault, and nothing where memory ran out before the run
@@ -87,7 +85,7 @@ abbrev pub TellsTextRefusals : {T : Type 0} → ℕ → Options → List ℕ
 TellsTextRefusals seed o text old new r =
     OfRun (λ ran. ByTask o.check o.replications (Unit {0}) (λ count. Unit {0})
     ((p : PlainScenario) × (faults.scenario_of_text text ≡ Ok p)
-    × TellsRefusals (with_seed p seed) (network_of (with_seed p seed)) seed o old new ran)) r
+    × TellsRefusals (with_seed p seed) seed o old new ran)) r
 
 -- what an outlet took of the session of a feed that gave this text: nothing where the feed failed, and else what its
 -- text tells

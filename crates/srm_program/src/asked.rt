@@ -1,6 +1,6 @@
 //! What is asked of a run.
 ghost use Rattle.std.specs.Prelude.{map};
-ghost use Rattle.srm_engine.specs.Starts.{AreOpening};
+ghost use Rattle.srm_engine.specs.Openings.{IsOpening};
 
 use crate::task::Task;
 use srm_member::participant::Participant;
@@ -12,5 +12,5 @@ pub(crate) struct Asked<'a, M: Participant> {
     pub task: Task<'a>,
     /// The members, in order of their numbers.
     pub members: Vec<M>,
-    pub ghost opening: { AreOpening task.session (map M.plain members.items) },
+    pub ghost opening: { IsOpening task.session.scenario.now (map M.plain members.items) },
 }

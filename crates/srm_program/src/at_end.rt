@@ -1,7 +1,7 @@
 //! Tables written at the end of a run.
 ghost use Rattle.std.specs.Prelude.{◌≡◌, ◌<◌, ◌-◌, ◌^◌, List, map};
 ghost use Rattle.srm_member.specs.Record.{Record};
-ghost use Rattle.srm_engine.specs.Starts.{AreOpening};
+ghost use Rattle.srm_engine.specs.Openings.{IsOpening};
 ghost use Rattle.srm_options.specs.declared.options.Engine.TheVariants.{Window};
 ghost use Rattle.srm_interfaces.specs.Watches.{MayLead};
 ghost use Rattle.srm_program.specs.Askings.{IsKept, MayStep, Reports};
@@ -27,7 +27,7 @@ pub(crate) fn write_steps<M: Participant, K: Drop, T: EndTable<K> + Copy, O: Out
     table: T,
     outlet: &mut O,
 ) -> Result<(), LabFault>
-    requires opening { AreOpening task.session (map M.plain members.items) }
+    requires opening { IsOpening task.session.scenario.now (map M.plain members.items) }
     requires may { MayStep O.Outlet task outlet.old }
     requires shown { task.options.show ≡ T.table }
     ensures { Reports O.Outlet task.entry (map M.plain members.items) outlet.old result outlet.new }
@@ -63,10 +63,10 @@ fn write_kept<K: Drop, T: EndTable<K> + Copy, O: Outlet>(
     kept: Result<(Vec<K>, Totals), LabFault>,
     outlet: &mut O,
 ) -> Result<(), LabFault>
-    requires kept { (rs : List Record) × AreOpening task.session rs × IsKept (T.keeps table) task rs kept }
+    requires kept { (rs : List Record) × IsOpening task.session.scenario.now rs × IsKept (T.keeps table) task rs kept }
     requires count { O.failures outlet.old < 2 ^ 64 - 1 }
     requires shown { task.options.show ≡ T.table }
-    ensures { (rs : List Record) → AreOpening task.entry.session rs → IsKept (T.keeps table) task.entry rs kept
+    ensures { (rs : List Record) → IsOpening task.entry.session.scenario.now rs → IsKept (T.keeps table) task.entry rs kept
         → Reports O.Outlet task.entry rs outlet.old result outlet.new }
 {
     let (kept, totals) = kept?;

@@ -1,6 +1,6 @@
 //! The run in windows of time, by a team of threads that live as long as it and keep of rows what a watch keeps.
 ghost use Rattle.std.specs.Prelude.{◌≡◌, Some, map};
-ghost use Rattle.srm_engine.specs.Starts.{AreOpening};
+ghost use Rattle.srm_engine.specs.Openings.{IsOpening};
 ghost use Rattle.srm_interfaces.specs.Watches.{MayLead};
 ghost use Rattle.srm_program.specs.Askings.{MayTabulate, Reports};
 
@@ -49,7 +49,7 @@ fn lead<
     outlet: &mut O,
 ) -> Result<(), LabFault>
     requires waiting { (l : _) × (waiting.old ≡ Some l) × MayLead C.ready C.serves l.0 task.now.session
-        × AreOpening task.now.session (map M.plain l.1.items) }
+        × IsOpening task.now.session.scenario.now (map M.plain l.1.items) }
     requires may { MayTabulate O.Outlet W.show task.now outlet.old }
     ensures { (l : _) → waiting.old ≡ Some l
         → Reports O.Outlet task.now (map M.plain l.1.items) outlet.old result outlet.new }
@@ -83,7 +83,7 @@ fn lead_beside<
     waiting: (C, Vec<M>),
     outlet: &mut O,
 ) -> Result<(), LabFault>
-    requires opening { AreOpening task.now.session (map M.plain waiting.1.items) }
+    requires opening { IsOpening task.now.session.scenario.now (map M.plain waiting.1.items) }
     requires lead { MayLead C.ready C.serves waiting.0 task.now.session }
     requires may { MayTabulate O.Outlet W.show task.now outlet.old }
     ensures { Reports O.Outlet task.now (map M.plain waiting.1.items) outlet.old result outlet.new }
@@ -100,7 +100,7 @@ fn lead_beside<
         &mut || serve_all(rt, alloc, threads, bench),
         &mut ||
             requires { (l : _) × (waiting ≡ Some l) × MayLead C.ready C.serves l.0 task.now.session
-                × AreOpening task.now.session (map M.plain l.1.items) × MayTabulate O.Outlet W.show task.now outlet.now }
+                × IsOpening task.now.session.scenario.now (map M.plain l.1.items) × MayTabulate O.Outlet W.show task.now outlet.now }
             ensures { (l : _) → waiting.entry ≡ Some l
                 → Reports O.Outlet task.entry.now (map M.plain l.1.items) outlet.entry.now result outlet.exit.now }
         { lead(own, task, watch, &mut waiting, outlet) },
@@ -161,7 +161,7 @@ pub(crate) fn by_watch<
     watch: W,
     outlet: &mut O,
 ) -> Result<(), LabFault>
-    requires opening { AreOpening task.session (map M.plain members.items) }
+    requires opening { IsOpening task.session.scenario.now (map M.plain members.items) }
     requires may { MayTabulate O.Outlet W.show task outlet.old }
     ensures { Reports O.Outlet task.entry (map M.plain members.items) outlet.old result outlet.new }
 {

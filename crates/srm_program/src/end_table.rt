@@ -35,5 +35,5 @@ pub(crate) trait EndTable<K>: MemberWatch<K> {
         ensures { (seed : ℕ) (rows : List OneRow) (exits : List AnExit)
             → IsKeptOf (Self.keeps self.now) session.entry seed kept.now totals.now rows exits
             → IfOk result (λ text. text.items
-            ≡ table_shown table session.entry.scenario.now session.entry.net.now rows totals.now) };
+            ≡ table_shown table session.entry.scenario.now rows totals.now) };
 }

@@ -1,6 +1,6 @@
 //! The table of a run in windows of time, of what a watch keeps of each member's rows, by the crew that is asked for.
 ghost use Rattle.std.specs.Prelude.{◌≡◌, ◌<◌, ◌-◌, ◌^◌, map};
-ghost use Rattle.srm_engine.specs.Starts.{AreOpening};
+ghost use Rattle.srm_engine.specs.Openings.{IsOpening};
 ghost use Rattle.srm_options.specs.declared.options.Engine.TheVariants.{Window};
 ghost use Rattle.srm_program.specs.Askings.{MayTabulate, Reports};
 
@@ -40,7 +40,7 @@ pub(crate) fn in_windows<R: Threads + Wait + Sync, O: Outlet>(
     members: Vec<Box<dyn Member>>,
     outlet: &mut O,
 ) -> Result<(), LabFault>
-    requires opening { AreOpening task.session (map (λ b. plain b) members.items) }
+    requires opening { IsOpening task.session.scenario.now (map (λ b. plain b) members.items) }
     requires windows { task.options.engine ≡ Window }
     requires count { O.failures outlet.old < 2 ^ 64 - 1 }
     ensures { Reports O.Outlet task.entry (map (λ b. plain b) members.items) outlet.old result outlet.new }
@@ -90,7 +90,7 @@ fn by_crew<
     watch: W,
     outlet: &mut O,
 ) -> Result<(), LabFault>
-    requires opening { AreOpening task.session (map (λ b. plain b) members.items) }
+    requires opening { IsOpening task.session.scenario.now (map (λ b. plain b) members.items) }
     requires may { MayTabulate O.Outlet W.show task outlet.old }
     ensures { Reports O.Outlet task.entry (map (λ b. plain b) members.items) outlet.old result outlet.new }
 {
@@ -120,7 +120,7 @@ pub(crate) fn by_row_crew<
     watch: W,
     outlet: &mut O,
 ) -> Result<(), LabFault>
-    requires opening { AreOpening task.session (map M.plain members.items) }
+    requires opening { IsOpening task.session.scenario.now (map M.plain members.items) }
     requires ready { C.ready crew }
     requires may { MayTabulate O.Outlet W.show task outlet.old }
     ensures { Reports O.Outlet task.entry (map M.plain members.items) outlet.old result outlet.new }

@@ -5,7 +5,7 @@ ghost use Rattle.srm_interfaces.specs.Sinks.{IsOpen};
 ghost use Rattle.srm_options.specs.declared.options.Engine.TheVariants.{Window};
 ghost use Rattle.srm_report.specs.declared.listing.listing_sink.ListingSink.{ListingSink as ASink};
 ghost use Rattle.srm_report.specs.ListingSinks.{stage_of, outlet_under, AreOverOne};
-ghost use Rattle.srm_engine.specs.Starts.{AreOpening};
+ghost use Rattle.srm_engine.specs.Openings.{IsOpening};
 ghost use Rattle.srm_program.specs.declared.task.Task.{Task as ATask};
 ghost use Rattle.srm_interfaces.specs.Watches.{MayLead};
 ghost use Rattle.srm_program.specs.Askings.{HandsOn, IsFresh, IsListed, MayStep};
@@ -62,7 +62,7 @@ pub(crate) fn write_listing<M: Participant, L: Listing, O: Outlet>(
     listing: L,
     outlet: &mut O,
 ) -> Result<(), LabFault>
-    requires opening { AreOpening task.session (map M.plain members.items) }
+    requires opening { IsOpening task.session.scenario.now (map M.plain members.items) }
     requires may { MayStep O.Outlet task outlet.old }
     ensures { IsListed O.Outlet L.form task.entry (map M.plain members.items) outlet.old result outlet.new }
 {

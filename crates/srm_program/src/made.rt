@@ -36,7 +36,7 @@ impl Made {
     ) -> Result<Made, MemberFault>
         requires { m < length session.scenario.now.members }
         ensures { MatchResult result
-            (λ made. record_made made ≡ opening_record (fixed_of session.entry.scenario.now session.entry.net.now seed m))
+            (λ made. record_made made ≡ opening_record (fixed_of session.entry.scenario.now seed m))
             (λ e. e ≡ NoMemory) }
     {
         let Session { scenario, net } = session;
@@ -53,7 +53,7 @@ impl Made {
 // All members of a scenario, in order of their numbers.
 pub(crate) fn made_members(alloc: Global, session: Session, seed: u64) -> Result<Vec<Made>, Fault>
     ensures { MatchResult result
-        (λ all. HoldOpeningRecords session.entry.scenario.now session.entry.net.now seed (map record_made all.items))
+        (λ all. HoldOpeningRecords session.entry.scenario.now seed (map record_made all.items))
         (λ e. e ≡ fault.NoMemory) }
 {
     let mut all = Vec::with_capacity(alloc, usize::from(session.scenario.members()))?;

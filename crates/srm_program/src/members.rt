@@ -30,9 +30,8 @@ pub(crate) fn run_members<E: Runner + Drop, O: Outlet>(
     requires ready { E.ready runner options }
     requires count { O.failures outlet.old < 2 ^ 64 - 1 }
     ensures failures { O.failures outlet.new ≡ session_failures result (O.failures outlet.old) }
-    ensures report { TellsSession session.entry.scenario.now session.entry.net.now seed options.show
-        (O.taken outlet.old) (O.taken outlet.new) result }
-    ensures refusals { OfRun (TellsRefusals session.entry.scenario.now session.entry.net.now seed options
+    ensures report { TellsSession session.entry.scenario.now seed options.show (O.taken outlet.old) (O.taken outlet.new) result }
+    ensures refusals { OfRun (TellsRefusals session.entry.scenario.now seed options
         (O.taken outlet.old) (O.taken outlet.new)) result }
 {
     let mut members: Vec<Box<dyn Member>> = Vec::with_capacity(

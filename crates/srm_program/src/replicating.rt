@@ -28,7 +28,7 @@ impl<'a> Work<u64, Result<Vec<u8>, LabFault>> for Replicating<'a> {
 
     ghost ready = { λ w _. MayReplicate w.options };
 
-    ghost gives = { λ w seed r. MakesLines w.session.scenario.now w.session.net.now w.options.show seed r };
+    ghost gives = { λ w seed r. MakesLines w.session.scenario.now w.options.show seed r };
 
     fn work(&self, seed: u64) -> Result<Vec<u8>, LabFault> {
         lines_of_seed(self.alloc, self.session, seed, self.options)
@@ -47,7 +47,7 @@ fn lines_of_seed(
     options: Options,
 ) -> Result<Vec<u8>, LabFault>
     requires { MayReplicate options }
-    ensures { MakesLines session.entry.scenario.now session.entry.net.now options.show seed result }
+    ensures { MakesLines session.entry.scenario.now options.show seed result }
 {
     let Ok(shared) = session.scenario.share() else {
         return Err(LabFault::NoMemory);
@@ -71,7 +71,7 @@ fn lines_of_run(
     options: Options,
 ) -> Result<Vec<u8>, LabFault>
     requires { MayReplicate options }
-    ensures { GivesLines session.entry.scenario.now session.entry.net.now options.show seed result }
+    ensures { GivesLines session.entry.scenario.now options.show seed result }
 {
     let mut outlet = WriteOutlet::new(Vec::new(alloc));
     match run_members(BySteps {}, alloc, session, seed, options, &mut outlet) {

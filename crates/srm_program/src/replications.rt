@@ -3,7 +3,6 @@ ghost use Rattle.std.specs.Prelude.{◌≡◌, ◌<◌, ◌≤◌, ◌+◌, ◌-
 ghost use Rattle.std.specs.List.{range_with_len};
 ghost use Rattle.csv.specs.Writing.{default_writer, row_text};
 ghost use Rattle.srm_program.specs.Reports.{columns_shown, failures_after_run};
-ghost use Rattle.srm_net.specs.Network.{Network};
 ghost use Rattle.srm_options.specs.declared.options.Show.{Show as AShow};
 ghost use Rattle.srm_scenario.specs.Plain.{PlainScenario};
 ghost use Rattle.srm_program.specs.Runs.{MayShareBag};
@@ -133,8 +132,8 @@ fn next_lines<W: Work<u64, Result<Vec<u8>, LabFault>> + Copy, J: Naming, R: Wait
     ensures work { relay.new.work ≡ relay.old.work }
     ensures under_way { IfOk result (λ r. (seed + 1 ≤ r.1) × (r.1 ≤ end)
         × (relay.new.under_way ≡ range_with_len (seed + 1) (r.1 - (seed + 1)))) }
-    ensures lines { (p : PlainScenario) (net : Network) (show : AShow) → MakesEach (W.gives relay.old.work) p net show
-        → MatchResult result (λ r. MakesLines p net show seed (Ok r.0)) (λ e. MakesLines p net show seed (Err e)) }
+    ensures lines { (p : PlainScenario) (show : AShow) → MakesEach (W.gives relay.old.work) p show
+        → MatchResult result (λ r. MakesLines p show seed (Ok r.0)) (λ e. MakesLines p show seed (Err e)) }
 {
     let next = match begin_runs(rt, alloc, relay, next, end) {
         Ok(next) => next,
@@ -161,8 +160,8 @@ fn lead<W: Work<u64, Result<Vec<u8>, LabFault>> + Copy, J: Naming, R: Wait, O: O
     requires fresh { relay.under_way ≡ [] }
     requires seeds { span.first ≤ span.end }
     requires count { O.failures outlet.old < 2 ^ 64 - 1 }
-    ensures { (p : PlainScenario) (net : Network) → MakesEach (W.gives relay.work) p net span.show
-        → AreReplicated O.Outlet (series_of p net span) outlet.old result outlet.new }
+    ensures { (p : PlainScenario) → MakesEach (W.gives relay.work) p span.show
+        → AreReplicated O.Outlet (series_of p span) outlet.old result outlet.new }
 {
     let mut relay = relay;
     let mut written = 0;
@@ -202,8 +201,8 @@ fn lead_waiting<W: Work<u64, Result<Vec<u8>, LabFault>> + Copy, J: Naming, R: Wa
     requires seeds { span.first ≤ span.end }
     requires count { O.failures outlet.old < 2 ^ 64 - 1 }
     ensures { (l : _) → waiting.old ≡ Some l
-        → (p : PlainScenario) (net : Network) → MakesEach (W.gives l.work) p net span.show
-        → AreReplicated O.Outlet (series_of p net span) outlet.old result outlet.new }
+        → (p : PlainScenario) → MakesEach (W.gives l.work) p span.show
+        → AreReplicated O.Outlet (series_of p span) outlet.old result outlet.new }
 {
     let relay = waiting.take().unwrap();
     lead(rt, alloc, relay, span, outlet)
@@ -228,8 +227,8 @@ fn lead_beside<
     requires fresh { relay.under_way ≡ [] }
     requires seeds { span.first ≤ span.end }
     requires count { O.failures outlet.old < 2 ^ 64 - 1 }
-    ensures { (p : PlainScenario) (net : Network) → MakesEach (W.gives relay.work) p net span.show
-        → AreReplicated O.Outlet (series_of p net span) outlet.old result outlet.new }
+    ensures { (p : PlainScenario) → MakesEach (W.gives relay.work) p span.show
+        → AreReplicated O.Outlet (series_of p span) outlet.old result outlet.new }
 {
     if threads == 0 {
         return lead(rt, alloc, relay, span, outlet);
@@ -245,8 +244,8 @@ fn lead_beside<
             requires { (l : _) × (waiting ≡ Some l) × ((seed : ℕ) → W.ready l.work seed)
                 × (l.under_way ≡ []) × (span.first ≤ span.end) × (O.failures outlet.now < 2 ^ 64 - 1) }
             ensures { (l : _) → waiting.entry ≡ Some l
-                → (p : PlainScenario) (net : Network) → MakesEach (W.gives l.work) p net span.show
-                → AreReplicated O.Outlet (series_of p net span) outlet.entry.now result outlet.exit.now }
+                → (p : PlainScenario) → MakesEach (W.gives l.work) p span.show
+                → AreReplicated O.Outlet (series_of p span) outlet.entry.now result outlet.exit.now }
         { lead_waiting(own_rt, own, &mut waiting, span, outlet) },
     );
     answer
@@ -272,8 +271,8 @@ fn by_team<
     requires workers { MayShareBag workers }
     requires seeds { span.first ≤ span.end }
     requires count { O.failures outlet.old < 2 ^ 64 - 1 }
-    ensures { (p : PlainScenario) (net : Network) → MakesEach (W.gives work) p net span.show
-        → AreReplicated O.Outlet (series_of p net span) outlet.old result outlet.new }
+    ensures { (p : PlainScenario) → MakesEach (W.gives work) p span.show
+        → AreReplicated O.Outlet (series_of p span) outlet.old result outlet.new }
 {
     let workers = usize::from(workers);
     match open_relay::<W, u64, Result<Vec<u8>, LabFault>, J>(alloc, opened, work, RUNS * workers) {
@@ -307,7 +306,6 @@ pub fn replicate<R: Threads + Wait + Sync, O: Outlet>(
     ensures failures { O.failures outlet.new ≡ failures_after_run result (O.failures outlet.old) }
     ensures report { TellsReplications (record {
       scenario = session.entry.scenario.now;
-      network = session.entry.net.now;
       first = seeds.first;
       count = seeds.count;
       show = options.show;

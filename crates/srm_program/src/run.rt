@@ -76,15 +76,15 @@ pub fn run<R: Threads + Wait + Sync, O: Outlet>(
     outlet: &mut O,
 ) -> Result<(), LabFault>
     requires network { net.now ≡ network_of scenario.now }
-    requires boxes { (seed : ℕ) × HoldOpeningRecords scenario.now net.now seed (map (λ b. plain b) members.items) }
+    requires boxes { (seed : ℕ) × HoldOpeningRecords scenario.now seed (map (λ b. plain b) members.items) }
     requires workers { MayShareBag options.workers }
     requires count { O.failures outlet.old < 2 ^ 64 - 1 }
     // The count rises exactly where the answer is `WriteFault`, and then by one.
     ensures failures { O.failures outlet.new ≡ failures_after_run result (O.failures outlet.old) }
-    ensures report { (seed : ℕ) → HoldOpeningRecords scenario.now net.now seed (map (λ b. plain b) members.items)
-        → TellsReport scenario.now net.now seed options.show (O.taken outlet.old) (O.taken outlet.new) result }
-    ensures refusals { (seed : ℕ) → HoldOpeningRecords scenario.now net.now seed (map (λ b. plain b) members.items)
-        → TellsRefusals scenario.now net.now seed options (O.taken outlet.old) (O.taken outlet.new) result }
+    ensures report { (seed : ℕ) → HoldOpeningRecords scenario.now seed (map (λ b. plain b) members.items)
+        → TellsReport scenario.now seed options.show (O.taken outlet.old) (O.taken outlet.new) result }
+    ensures refusals { (seed : ℕ) → HoldOpeningRecords scenario.now seed (map (λ b. plain b) members.items)
+        → TellsRefusals scenario.now seed options (O.taken outlet.old) (O.taken outlet.new) result }
 {
     let session = Session { scenario, net };
     let task = Task { session, options };

@@ -28,8 +28,7 @@ pub(crate) trait Runner {
         outlet: &mut O,
     ) -> Result<(), LabFault>
         requires ready { ready self task.options }
-        requires boxes { (seed : ℕ) × HoldOpeningRecords task.session.scenario.now task.session.net.now seed
-            (map (λ b. plain b) members.items) }
+        requires boxes { (seed : ℕ) × HoldOpeningRecords task.session.scenario.now seed (map (λ b. plain b) members.items) }
         requires count { O.failures outlet.old < 2 ^ 64 - 1 }
         ensures { Reports O.Outlet task.entry (map (λ b. plain b) members.items) outlet.old result outlet.new };
 }

@@ -19,7 +19,6 @@ use Rattle.srm_cell.proofs.FitSettings.{settings_are_fit}
 use Rattle.srm_model.specs.SentForLost.{IsForLost}
 use Rattle.srm_model.proofs.OrderlyRuns.{traces_are_orderly}
 use Rattle.srm_model.proofs.SentForLost.{sendings_are_for_losses}
-use Rattle.srm_scenario.specs.Plain.{network_of}
 use Rattle.srm_report.specs.declared.losses.loss.Loss.{Loss}
 use Rattle.srm_report.specs.Losses.{loss_cmp, losses_in}
 use Rattle.srm_report.specs.Members.{counts_of}
@@ -111,4 +110,4 @@ pub sendings_add_up : SendingsAddUp
 sendings_add_up p seed w a reached =
     rows_add_up (length p.members) w.trace
     (traces_are_orderly p seed a w reached w.trace [] (sym (append-nil w.trace)))
-    (sendings_are_for_losses (setting_of p (network_of p) seed) w (settings_are_fit p seed a) reached)
+    (sendings_are_for_losses (setting_of p seed) w (settings_are_fit p seed a) reached)

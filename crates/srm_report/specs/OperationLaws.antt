@@ -9,7 +9,7 @@ use Rattle.srm_member.specs.Orderly.{IsOrderly}
 use Rattle.srm_cell.specs.Setting.{setting_of}
 use Rattle.srm_model.specs.World.{IsReached, World}
 use Rattle.srm_scenario.specs.Accepted.{IsAccepted}
-use Rattle.srm_scenario.specs.Plain.{network_of, PlainScenario}
+use Rattle.srm_scenario.specs.Plain.{PlainScenario}
 use Rattle.srm_report.specs.Members.{counts_of}
 use Rattle.srm_report.specs.Operations.{is_open, losses_of, names_lost, sending_of, sends_for, tally_of}
 use Rattle.srm_report.specs.Rows.{is_name, time_of_first}
@@ -34,7 +34,7 @@ AddUp members rows =
 -- so it is in each run of an accepted scenario, and in each part of it up to a row
 abbrev pub SendingsAddUp : Type 0
 SendingsAddUp = (p : PlainScenario) (seed : ℕ) (w : World) → IsAccepted p
-    → IsReached (setting_of p (network_of p) seed) w → AddUp (length p.members) w.trace
+    → IsReached (setting_of p seed) w → AddUp (length p.members) w.trace
 
 -- ---- the first to detect, and to ask
 

@@ -18,7 +18,7 @@ use srm_scenario::parts::Room;
 use srm_scenario::scenario::Scenario;
 use std::alloc::{AllocError, Global};
 
-/// The part of member m's record that never changes, of a scenario, its network and a seed.
+/// The part of member m's record that never changes, of a scenario and a seed.
 ///
 /// # Errors
 ///
@@ -32,7 +32,7 @@ pub fn fixed_of(
 ) -> Result<Fixed, AllocError>
     requires member { m < length scenario.now.members }
     requires network { net.now ≡ network_of scenario.now }
-    ensures value { IfOk result (λ f. f ≡ fixed_of scenario.now net.now seed m) }
+    ensures value { IfOk result (λ f. f ≡ fixed_of scenario.now seed m) }
     ensures fit { IfOk result IsBounded }
 {
     let dist = Distances::from(net.half_rounds(m)?);

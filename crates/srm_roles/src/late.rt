@@ -47,7 +47,7 @@ impl Late {
         m: u16,
     ) -> Result<Self, MemberFault>
         requires { HasRole scenario.now net.now m role.Late }
-        ensures { MatchResult result (λ s. s ≡ opening_record (fixed_of scenario.now net.now seed m))
+        ensures { MatchResult result (λ s. s ≡ opening_record (fixed_of scenario.now seed m))
             (λ e. e ≡ NoMemory) }
     {
         let fixed = fixed_of(alloc, scenario, net, seed, m)?;

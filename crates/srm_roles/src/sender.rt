@@ -46,7 +46,7 @@ impl Sender {
         m: u16,
     ) -> Result<Self, MemberFault>
         requires { HasRole scenario.now net.now m role.Sender }
-        ensures { MatchResult result (λ s. s ≡ opening_record (fixed_of scenario.now net.now seed m))
+        ensures { MatchResult result (λ s. s ≡ opening_record (fixed_of scenario.now seed m))
             (λ e. e ≡ NoMemory) }
     {
         let fixed = fixed_of(alloc, scenario, net, seed, m)?;

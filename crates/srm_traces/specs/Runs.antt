@@ -5,7 +5,7 @@ use Rattle.srm_net.specs.declared.packet.PacketId.{PacketId}
 use Rattle.srm_net.specs.declared.packet.Name.{Name}
 use Rattle.srm_net.specs.declared.packet.Packet.{Packet}
 use Rattle.srm_scenario.specs.declared.parts.Constants.{Constants}
-use Rattle.srm_scenario.specs.Plain.{PlainScenario, network_of}
+use Rattle.srm_scenario.specs.Plain.{PlainScenario}
 use Rattle.srm_member.specs.declared.row.Word.{Word}
 use Rattle.srm_member.specs.declared.row.About.{About}
 use Rattle.srm_member.specs.declared.row.About.TheVariants as about
@@ -15,7 +15,7 @@ use Rattle.srm_member.specs.declared.exit.Exit.{Exit}
 use Rattle.srm_member.specs.Record.{MemberState}
 use Rattle.srm_member.specs.AdaptingLaws.{is_of_recovery}
 use Rattle.srm_member.specs.declared.fixed.Fixed.{Fixed}
-use Rattle.srm_cell.specs.Setting.{Setting, traffic_of, setting_of}
+use Rattle.srm_cell.specs.Setting.{Setting, setting_of}
 use Rattle.srm_cell.specs.Cells.{PlainCell, Idle}
 use Rattle.srm_cell.specs.Crossings.{crossings, packets_of}
 use Rattle.srm_model.specs.Handed.{is_about}
@@ -68,11 +68,11 @@ brief r = handled r.key.time r.key.member r.cause (subject_of r.about) r.told (l
 
 -- the world in which the sequential run of a scenario and a seed ends, if it does within a hundred steps
 unfoldable pub world_at_end : PlainScenario → ℕ → World
-world_at_end p seed = let s = setting_of p (network_of p) seed in last_world s 100 (opening s)
+world_at_end p seed = let s = setting_of p seed in last_world s 100 (opening s)
 
 -- nothing is pending in it: the run is whole
 abbrev pub IsWhole : PlainScenario → ℕ → Type 0
-IsWhole p seed = step (setting_of p (network_of p) seed) (world_at_end p seed) ≡ Idle
+IsWhole p seed = step (setting_of p seed) (world_at_end p seed) ≡ Idle
 
 -- its trace, in short
 unfoldable pub whole_trace : PlainScenario → ℕ → List Brief
@@ -80,7 +80,7 @@ whole_trace p seed = map brief (world_at_end p seed).trace
 
 -- the crossings of its trace
 unfoldable pub whole_totals : PlainScenario → ℕ → List ℕ
-whole_totals p seed = crossings (traffic_of p (network_of p)) (world_at_end p seed).trace
+whole_totals p seed = crossings (setting_of p seed).traffic (world_at_end p seed).trace
 
 -- how often a packet was heard, by its arrivals in these rows
 abbrev pub heard_count : PacketId → List Row → ℕ
@@ -115,4 +115,4 @@ constants_from s m (c ∷ cs) = constants_at (s.fixed m) c.holds ∷ constants_f
 
 -- those of the members of a run at its end
 unfoldable pub whole_constants : PlainScenario → ℕ → List Constants
-whole_constants p seed = constants_from (setting_of p (network_of p) seed) 0 (world_at_end p seed).cells
+whole_constants p seed = constants_from (setting_of p seed) 0 (world_at_end p seed).cells

@@ -14,10 +14,10 @@ loop-member-init g c =
     let second = ap (λ it. into_iter_items (zip_second it)) same ∙ c.zip-member-items.ensures.second.0 in (
       (tt, tt),
       tt,
-      λ net seed h.
-          subst (λ cs. OpenSoFar plain c.args.scenario.now net seed (into_iter_items (zip_first c.into_iter-member-iterator.result))
+      λ seed h.
+          subst (λ cs. OpenSoFar plain c.args.scenario.now seed (into_iter_items (zip_first c.into_iter-member-iterator.result))
           (into_iter_items (zip_second c.into_iter-member-iterator.result)) cs) (sym c.in_ok-cells.ensures.items)
-          (open_none plain c.args.scenario.now net seed _ _ (ap (map plain) first ∙ h)
+          (open_none plain c.args.scenario.now seed _ _ (ap (map plain) first ∙ h)
           (ap (map (λ marks. marks.items)) second ∙ c.in-Ok.ensures.scripts)),
     )
 
@@ -25,24 +25,24 @@ pub loop-member-preserved : goal.loop-member-preserved
 loop-member-preserved g c = (
   (tt, tt),
   tt,
-  λ net seed h.
-      subst (λ cs. OpenSoFar g.M.Participant.plain c.args.scenario.now net seed (into_iter_items (zip_first c.next.new.self))
+  λ seed h.
+      subst (λ cs. OpenSoFar g.M.Participant.plain c.args.scenario.now seed (into_iter_items (zip_first c.next.new.self))
       (into_iter_items (zip_second c.next.new.self)) cs) (sym c.in_ok-push.ensures.items)
-      (open_next g.M.Participant.plain c.args.scenario.now net seed c.in-Some.member _ _ c.in-Some.script _ _ c.loop-member.cells.items
-      c.new.result c.in-Some.ensures.steps.0.0 c.in-Some.ensures.steps.1.0 (c.loop-member.invariant.2 net seed h) c.new.ensures),
+      (open_next g.M.Participant.plain c.args.scenario.now seed c.in-Some.member _ _ c.in-Some.script _ _ c.loop-member.cells.items
+      c.new.result c.in-Some.ensures.steps.0.0 c.in-Some.ensures.steps.1.0 (c.loop-member.invariant.2 seed h) c.new.ensures),
 )
 
 pub returns-clause-few : goal.returns-clause-few
 returns-clause-few g c =
-    let o = c.loop-member.invariant.2 c.requires.0 c.requires.1 c.requires.2 in
+    let o = c.loop-member.invariant.2 c.requires.0 c.requires.1 in
     let all = o.all in
     omega (arith, c.members.ensures, all)
 
 pub returns-clause-opened : goal.returns-clause-opened
-returns-clause-opened g c = λ net seed h.
+returns-clause-opened g c = λ seed h.
     let it = c.loop-member.member-iterator in
-    open_all g.M.Participant.plain c.args.scenario.now net seed (into_iter_items (zip_first it)) (into_iter_items (zip_second it))
-    c.loop-member.cells.items (c.loop-member.invariant.2 net seed h)
+    open_all g.M.Participant.plain c.args.scenario.now seed (into_iter_items (zip_first it)) (into_iter_items (zip_second it))
+    c.loop-member.cells.items (c.loop-member.invariant.2 seed h)
     (elim c.in-None.ensures.steps [
       | inl w ↦ inl (no_items (zip_first it) w.1.0)
       | inr w ↦ inr (no_items (zip_second it) w.1.0)

@@ -12,7 +12,7 @@ unwrap-requires g c = rw c.run_fault.ensures (told_why (Vec Exit × List ℕ) 0 
 
 pub returns-in-Err : goal.returns-in-Err
 returns-in-Err g c = λ seed h.
-    subst (λ o. IfSome o (MayRefuseRun (setting_of c.args.scenario.now c.args.net.now seed)))
+    subst (λ o. IfSome o (MayRefuseRun (setting_of c.args.scenario.now seed)))
     (sym c.run_fault.ensures ∙ c.unwrap.ensures)
-    (run_refused Keeps KeepsFront (setting_of c.args.scenario.now c.args.net.now seed) c.new-kept.result c.in-Err.fault
+    (run_refused Keeps KeepsFront (setting_of c.args.scenario.now seed) c.new-kept.result c.in-Err.fault
     c.step_stream.new.sink (c.in-Err.ensures.refused seed h))

@@ -12,7 +12,7 @@ pub finish_cells-requires : goal.finish_cells-requires
 finish_cells-requires g c =
     let seed = c.requires.boxes.0 in
     let t = c.in-Ok.ensures.last seed c.requires.boxes.1 in
-    all_end _ (setting_of c.args.scenario.now c.args.net.now seed) c.in-Ok.ran.cells.cells.items t.0 t.1.reached
+    all_end _ (setting_of c.args.scenario.now seed) c.in-Ok.ran.cells.cells.items t.0 t.1.reached
     (t.3.seen.0.order, t.3.seen.1)
 
 pub into_totals-requires : goal.into_totals-requires

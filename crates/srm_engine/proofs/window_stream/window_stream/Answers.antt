@@ -1,7 +1,7 @@
 use Rattle.std.proofs.Common.{rules, false, ◌≡◌, ◌∙◌, refl, sym, ap, subst}
 use Rattle.srm_cell.specs.Setting.{Setting, setting_of}
 use Rattle.srm_cell.specs.Crossings.{crossings}
-use Rattle.srm_engine.specs.Windowed.{rule_of}
+use Rattle.srm_engine.specs.Windowed.{rule_of, IsHandedWindows}
 use Rattle.srm_engine.specs.WindowStreams.{RefusedAtWindow}
 use Rattle.srm_engine.proofs.MergedSinks.{refused_under}
 use Rattle.srm_engine.proofs.StreamLemmas.{front_taken}
@@ -9,8 +9,8 @@ use Rattle.srm_engine.proofs.window_stream.window_stream.Goals as goal
 
 pub returns-in-Err-clause-refused : goal.returns-in-Err-clause-refused
 returns-in-Err-clause-refused g c = λ seed h.
-    let s = setting_of c.args.scenario.now c.args.net.now seed in
-    let rule = rule_of s c.args.net.now c.args.asked.width in
+    let s = setting_of c.args.scenario.now seed in
+    let rule = rule_of s c.args.scenario.now c.args.asked.width in
     let x = c.in-Err.fault in
     let end : c.run-ran.new.sink.sink.now ≡ c.sink-1.given.0 = search rules in
     subst (λ n. RefusedAtWindow g.S.RowSink.took g.S.RowSink.part s rule c.args.asked.cut c.args.sink.now x n) end
@@ -42,3 +42,10 @@ returns-in-Ok-finish-clause-stream g c = λ seed h.
       },
       subst (g.S.RowSink.took c.args.sink.now t.0.trace) end t.2,
     )
+
+pub returns-in-Ok-finish-clause-windows : goal.returns-in-Ok-finish-clause-windows
+returns-in-Ok-finish-clause-windows g c = λ seed h.
+    let s = setting_of c.args.scenario.now seed in
+    let rule = rule_of s c.args.scenario.now c.args.asked.width in
+    let end : c.run-ran.new.crew.crew.now ≡ c.crew-1.given.0 = search rules in
+    subst (λ n. IsHandedWindows g.C.Crew.handed s rule c.args.asked.cut c.args.crew.now n) end (c.in-Ok.ensures.windows seed h)

@@ -19,7 +19,7 @@ returns-in_err-ran-clause-windows g c = λ seed h.
     let told = err_from_is_err_and c.from_residual-in_err-ran.result c.from_residual-in_err-ran.ensures.1 in
     let e = c.in_err-ran.field-0.0 in
     rw (told.1, told.2)
-    (refused_so s (rule_of s c.args.start.session.net.now c.args.asked.width) c.args.asked.cut c.args.crew.now c.windows.new.crew e
+    (refused_so s (rule_of s c.args.start.session.scenario.now c.args.asked.width) c.args.asked.cut c.args.crew.now c.windows.new.crew e
     (as_asked (λ s rule cut. (w : World) × MayCome s rule cut w e) c.in_ok-engine.engine.engine c.args.start.session
     c.in_ok-cutting.cutting c.args.asked seed c.in_ok-engine.ensures.frame c.in_ok-cutting.ensures
     (c.in_err-ran.ensures.windows seed (c.in_ok-engine.ensures.opened seed h) c.in_ok-engine.ensures.none)))

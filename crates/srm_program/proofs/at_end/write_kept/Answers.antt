@@ -21,7 +21,7 @@ returns g c rs opening kept =
     c.args.outlet.now c.write_text.new.outlet _ c.as_slice.result.now c.write_text.result c.as_slice.ensures.value
     (subst (IsKept keeps c.args.task rs) c.in_ok-kept.was kept) c.write_text.ensures.failures
     (λ seed h rows exits of. c.write_text.ensures.taken
-    (table_shown g.T.EndTable.table c.args.task.session.scenario.now c.args.task.session.net.now rows _)
+    (table_shown g.T.EndTable.table c.args.task.session.scenario.now rows _)
     (c.text.ensures seed rows exits of))
 
 pub returns-in_err-kept : goal.returns-in_err-kept

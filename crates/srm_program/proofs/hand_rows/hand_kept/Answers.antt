@@ -12,7 +12,7 @@ returns-in-Err g c =
       failures = rw named (failures_after (List ℕ) (List ℕ) fault _ _ told.sink.failures);
       rows = λ seed h.
           rw named
-          (windows_refused g.S.RowSink.took g.S.RowSink.part c.args.asked.task.session.scenario.now c.args.asked.task.session.net.now seed
+          (windows_refused g.S.RowSink.took g.S.RowSink.part c.args.asked.task.session.scenario.now seed
           c.args.asked.task.options c.args.sink.now fault c.window_kept.new.sink (List ℕ) c.requires.windows
           told.asked told.left (told.refused seed h) (told.totals seed h));
     }

@@ -9,7 +9,7 @@ returns-in-Err g c = record {
   failures = rw c.lab_fault.ensures (failures_after (List ℕ) (List ℕ) c.in-Err.fault _ _ c.in-Err.ensures.sink.failures);
   rows = λ seed h.
       rw c.lab_fault.ensures
-      (steps_refused g.S.RowSink.took g.S.RowSink.part c.args.asked.task.session.scenario.now c.args.asked.task.session.net.now seed
+      (steps_refused g.S.RowSink.took g.S.RowSink.part c.args.asked.task.session.scenario.now seed
       c.args.asked.task.options c.args.sink.now c.in-Err.fault c.step_rows.new.sink c.requires.steps
       (c.in-Err.ensures.refused seed h) (c.in-Err.ensures.totals seed h));
 }

@@ -10,5 +10,5 @@ abbrev pub invariant-loop-made : goal.invariant-loop-made
 invariant-loop-made g l =
     (goal.iterator-loop-made g).can_next l.made-iterator
     × (goal.iterator-loop-made g).is_finite l.made-iterator
-    × HoldOpeningRecords l.session.scenario.now l.session.net.now l.seed
+    × HoldOpeningRecords l.session.scenario.now l.seed
     (map (λ b. (own-1.entry b.vtable).1.plain b.value) l.members.items ++ map record_made (into_iter_items l.made-iterator))

@@ -7,9 +7,9 @@ use Rattle.srm_program.proofs.ReplicationLemmas.{header_put, header_failed, run_
 use Rattle.srm_program.proofs.replications.lead.Goals as goal
 
 pub returns-in-Err : goal.returns-in-Err
-returns-in-Err g c = λ p net each. (
+returns-in-Err g c = λ p each. (
   c.in-Err.ensures.failures,
-  header_failed (series_of p net c.args.span) (Unit {0}) (Unit {0}) (g.O.Outlet.taken c.args.outlet.now)
+  header_failed (series_of p c.args.span) (Unit {0}) (Unit {0}) (g.O.Outlet.taken c.args.outlet.now)
       (g.O.Outlet.taken c.put.new.outlet) c.put.new.written c.as_slice.result.now c.in-Err.fault
       (c.as_slice.ensures.value ∙ c.in-Ok.ensures) c.in-Err.ensures.taken,
 )
@@ -27,10 +27,10 @@ loop-seed-init g c =
       under_way = c.requires.fresh ∙ ap (range_with_len first) none;
       unfailed = c.in-Ok-put.ensures.failures;
       below = c.requires.count;
-      runs = λ p net each. (
+      runs = λ p each. (
         [],
         omega arith,
-        header_put (series_of p net c.args.span) (Unit {0}) tt (g.O.Outlet.taken c.args.outlet.now) (g.O.Outlet.taken c.put.new.outlet)
+        header_put (series_of p c.args.span) (Unit {0}) tt (g.O.Outlet.taken c.args.outlet.now) (g.O.Outlet.taken c.put.new.outlet)
             c.put.new.written c.as_slice.result.now (c.as_slice.ensures.value ∙ c.in-Ok.ensures) c.in-Ok-put.ensures.taken,
       );
     }
@@ -46,15 +46,15 @@ pub next_lines-requires-clause-under_way : goal.next_lines-requires-clause-under
 next_lines-requires-clause-under_way g c = c.loop-seed.invariant.under_way
 
 pub returns-in-Err-next_lines : goal.returns-in-Err-next_lines
-returns-in-Err-next_lines g c = λ p net each.
+returns-in-Err-next_lines g c = λ p each.
     let was = c.loop-seed.invariant in
-    let runs = was.runs p net each in
+    let runs = was.runs p each in
     let show = c.args.span.show in
     let seed = c.loop-seed.seed in
-    let each_here = subst (λ w. MakesEach (g.W.Work.gives w) p net show) (sym was.work) each in
-    let made = c.in-Err-next_lines.ensures.lines p net show each_here in (
-      not_written (Unit {0}) p net show seed c.in-Err-next_lines.fault _ _ made was.unfailed,
-      run_refused (series_of p net c.args.span) runs.0 (g.O.Outlet.taken c.args.outlet.now) (g.O.Outlet.taken c.loop-seed.outlet)
+    let each_here = subst (λ w. MakesEach (g.W.Work.gives w) p show) (sym was.work) each in
+    let made = c.in-Err-next_lines.ensures.lines p show each_here in (
+      not_written (Unit {0}) p show seed c.in-Err-next_lines.fault _ _ made was.unfailed,
+      run_refused (series_of p c.args.span) runs.0 (g.O.Outlet.taken c.args.outlet.now) (g.O.Outlet.taken c.loop-seed.outlet)
           c.loop-seed.written runs.2 seed runs.1 was.from
           (omega (arith, was.from, c.loop-seed-test.true)) (Unit {0}) c.in-Err-next_lines.fault made,
     )
@@ -63,20 +63,20 @@ pub put-requires-in-loop-seed : goal.put-requires-in-loop-seed
 put-requires-in-loop-seed g c = rw c.loop-seed.invariant.unfailed c.loop-seed.invariant.below
 
 pub returns-in-Err-put : goal.returns-in-Err-put
-returns-in-Err-put g c = λ p net each.
+returns-in-Err-put g c = λ p each.
     let was = c.loop-seed.invariant in
-    let runs = was.runs p net each in
+    let runs = was.runs p each in
     let show = c.args.span.show in
     let seed = c.loop-seed.seed in
-    let each_here = subst (λ w. MakesEach (g.W.Work.gives w) p net show) (sym was.work) each in
-    let made = c.in-Ok-next_lines.ensures.lines p net show each_here in
+    let each_here = subst (λ w. MakesEach (g.W.Work.gives w) p show) (sym was.work) each in
+    let made = c.in-Ok-next_lines.ensures.lines p show each_here in
     let mid = g.O.Outlet.taken c.loop-seed.outlet in
     let new = g.O.Outlet.taken c.put-in-loop-seed.new.outlet in
     let fault : Result (Unit {0}) LabFault = Err c.in-Err-put.fault in
     let put = subst (λ t. PutsNext mid c.loop-seed.written t fault new c.put-in-loop-seed.new.written)
     c.as_slice-in-loop-seed.ensures.value c.in-Err-put.ensures.taken in (
       c.in-Err-put.ensures.failures ∙ ap (failures_after_run fault) was.unfailed,
-      run_failed (series_of p net c.args.span) runs.0 (g.O.Outlet.taken c.args.outlet.now) mid
+      run_failed (series_of p c.args.span) runs.0 (g.O.Outlet.taken c.args.outlet.now) mid
           c.loop-seed.written runs.2 seed runs.1 was.from
           (omega (arith, was.from, c.loop-seed-test.true)) (Unit {0}) (Unit {0}) c.in-Ok-next_lines.lines new
           c.put-in-loop-seed.new.written c.in-Err-put.fault made put,
@@ -102,18 +102,18 @@ loop-seed-preserved g c =
       under_way = ahead.2;
       unfailed = c.in-Ok-put-2.ensures.failures ∙ was.unfailed;
       below = was.below;
-      runs = λ p net each.
-          let runs = was.runs p net each in
-          let each_here = subst (λ w. MakesEach (g.W.Work.gives w) p net show) (sym was.work) each in
-          let made = c.in-Ok-next_lines.ensures.lines p net show each_here in
-          run_put (series_of p net c.args.span) runs.0 (g.O.Outlet.taken c.args.outlet.now) mid
+      runs = λ p each.
+          let runs = was.runs p each in
+          let each_here = subst (λ w. MakesEach (g.W.Work.gives w) p show) (sym was.work) each in
+          let made = c.in-Ok-next_lines.ensures.lines p show each_here in
+          run_put (series_of p c.args.span) runs.0 (g.O.Outlet.taken c.args.outlet.now) mid
           c.loop-seed.written runs.2 seed runs.1 was.from
           (omega (arith, was.from, c.loop-seed-test.true)) (Unit {0}) tt c.in-Ok-next_lines.lines new
           c.put-in-loop-seed.new.written made put;
     }
 
 pub returns : goal.returns
-returns g c = λ p net each.
+returns g c = λ p each.
     let was = c.loop-seed.invariant in
-    let runs = was.runs p net each in
+    let runs = was.runs p each in
     (was.unfailed, (runs.0, omega (arith, runs.1, was.from, was.ahead, was.within, c.loop-seed-test.false), runs.2.taken))

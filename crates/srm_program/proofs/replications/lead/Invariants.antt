@@ -1,6 +1,5 @@
 use Rattle.std.proofs.Common.{◌≡◌, ◌<◌, ◌≤◌, ◌-◌, ◌^◌, List, length}
 use Rattle.std.specs.List.{range_with_len}
-use Rattle.srm_net.specs.Network.{Network}
 use Rattle.srm_scenario.specs.Plain.{PlainScenario}
 use Rattle.srm_model.specs.World.{World}
 use Rattle.srm_program.specs.Replications.{series_of, MakesEach}
@@ -18,7 +17,7 @@ invariant-loop-seed g l = record {
   under_way : l.relay.under_way ≡ range_with_len l.seed (l.next - l.seed);
   unfailed : g.O.Outlet.failures l.outlet ≡ g.O.Outlet.failures l.fn.outlet;
   below : g.O.Outlet.failures l.fn.outlet < 2 ^ 64 - 1;
-  runs : (p : PlainScenario) (net : Network) → MakesEach (g.W.Work.gives l.fn.relay.work) p net l.span.show
+  runs : (p : PlainScenario) → MakesEach (g.W.Work.gives l.fn.relay.work) p l.span.show
       → (ws : List World) × (length ws ≡ l.seed - l.span.first)
-      × HasRuns (series_of p net l.span) ws (g.O.Outlet.taken l.fn.outlet) (g.O.Outlet.taken l.outlet) l.written;
+      × HasRuns (series_of p l.span) ws (g.O.Outlet.taken l.fn.outlet) (g.O.Outlet.taken l.outlet) l.written;
 }

@@ -24,7 +24,7 @@ returns-in-Ok-made-clause-under_way g c =
     (first.1, begun.1, first.2)
 
 pub returns-in-Ok-made-clause-lines : goal.returns-in-Ok-made-clause-lines
-returns-in-Ok-made-clause-lines g c = λ p net show each.
+returns-in-Ok-made-clause-lines g c = λ p show each.
     let begun = c.in-Ok.ensures.begun in
     let given = c.in-Ok-next.ensures.given in
     let first = first_run c.args.seed c.args.next c.args.end c.in-Ok.next given.0 c.args.relay.now.under_way
@@ -32,7 +32,7 @@ returns-in-Ok-made-clause-lines g c = λ p net show each.
     each c.args.seed (Ok c.in-Ok-made.lines) (rw (← c.in-Ok-made.is, ← first.0, ← c.begin_runs.ensures.work) given.2)
 
 pub returns-in-Err-made-clause-lines : goal.returns-in-Err-made-clause-lines
-returns-in-Err-made-clause-lines g c = λ p net show each.
+returns-in-Err-made-clause-lines g c = λ p show each.
     let begun = c.in-Ok.ensures.begun in
     let given = c.in-Ok-next.ensures.given in
     let first = first_run c.args.seed c.args.next c.args.end c.in-Ok.next given.0 c.args.relay.now.under_way

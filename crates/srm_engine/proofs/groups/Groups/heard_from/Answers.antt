@@ -50,8 +50,9 @@ hear-requires-clause-groups g c =
     let may = c.requires.may.3 in
     let s = setting_on c.args.session c.requires.may.0 in
     let others = in_order c.requires.may.1 (all_in c.args.sent.items) c.in_ok-sent.sent.items c.requires.may.2 c.in_ok-sent.ensures in
-    subst (λ ps. GroupsMayHear g.M.Participant.plain s.traffic ps c.args.self.groups.items) others.2
-    (groups_may g.M.Participant.plain s others.0 c.args.self.groups.items may.kept.grouped.order may.members (may.new others.0 others.1))
+    rw c.args.session.network
+    (subst (λ ps. GroupsMayHear g.M.Participant.plain s.traffic ps c.args.self.groups.items) others.2
+    (groups_may g.M.Participant.plain s others.0 c.args.self.groups.items may.kept.grouped.order may.members (may.new others.0 others.1)))
 
 pub soonest_of_each-requires-clause-cut : goal.soonest_of_each-requires-clause-cut
 soonest_of_each-requires-clause-cut g c = c.requires.may.3.kept.cut.0
@@ -89,7 +90,8 @@ returns-clause-heard g c = λ seed from is.
     let cut = c.args.self.cut in
     let others = in_order from (all_in c.args.sent.items) c.in_ok-sent.sent.items is c.in_ok-sent.ensures in
     let rows = others.0 in
-    let heard = subst (λ (ps : List Packet). GroupsHear f s.traffic ps gs hs) (sym others.2) c.in_ok-groups.ensures.heard in (
+    let heard = subst (λ (ps : List Packet). GroupsHear f s.traffic ps gs hs) (sym others.2)
+    (rw c.args.session.network at c.in_ok-groups.ensures.heard) in (
       rows,
       others.1,
       λ h.

@@ -87,8 +87,10 @@ loop-member-preserved g c =
     let all = shown_in f c.args.self.now.cells in
     let heard = heard_below t p m 0 all in
     let all_are = ap (λ (at : Session). length at.scenario.now.members) (c.as_session-session.ensures ∙ c.note.ensures) in
+    let of = c.args.self.now.session in
     let flight : arrival_of t p m ≡ c.arrival_by.result =
-    sym (ap (λ (at : Session). arrival_of (traffic_of at.scenario.now at.net.now) p m) (c.as_session-session.ensures ∙ c.note.ensures))
+    sym (ap (λ n. arrival_of (traffic_of of.scenario.now n) p m) of.network)
+    ∙ sym (ap (λ (at : Session). arrival_of (traffic_of at.scenario.now at.net.now) p m) (c.as_session-session.ensures ∙ c.note.ensures))
     ∙ sym c.arrival_by.ensures in
     elim c.match-arrival_by.branch [
       | in-Some+in_ok-hand w ↦ rw w.cells-is (λ h.

@@ -12,11 +12,11 @@ use Rattle.srm_engine.proofs.simulation.Simulation.open.Goals as goal
 
 pub returns-clause-opened : goal.returns-clause-opened
 returns-clause-opened g c = λ seed h.
-    let s = setting_of c.args.session.scenario.now c.args.session.net.now seed in
+    let s = setting_of c.args.session.scenario.now seed in
     record {
       seen = subst (λ (qs : List PlainCell). ShowCells g.M.Participant.plain c.in_ok-cells.cells qs)
           (opening_is s) (
-          let opened = c.in_ok-open_cells.ensures.opened c.args.session.net.now seed h in
+          let opened = c.in_ok-open_cells.ensures.opened seed h in
           let index = c.in_ok-cells.ensures opened.0 in (
             subst (λ cs. AreSeen g.M.Participant.plain cs c.in_ok-cells.cells.times) (sym index.1) index.0,
             ap (plain_cells g.M.Participant.plain) index.1 ∙ opened.1,

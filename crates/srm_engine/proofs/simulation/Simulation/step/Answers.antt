@@ -1,9 +1,7 @@
 use Rattle.std.proofs.Common.{◌≡◌, ◌<◌, ◌≤◌, ◌++◌, ◌∷◌, [], Some, None, Ok, Err, sym, ◌∙◌, ap, subst, slice_set, arith, le_refl, refl}
 use Rattle.std.proofs.Common.{option_copied}
 use Rattle.std.proofs.lemmas.Result.{err_from_is_err_and}
-use Rattle.srm_net.specs.Network.{Network}
 use Rattle.srm_member.specs.declared.row.Row.{Row}
-use Rattle.srm_cell.specs.Setting.{setting_of, IsFit}
 use Rattle.srm_cell.specs.Crossings.{packets_of}
 use Rattle.srm_cell.specs.Cells.{Done, step_at, own_step}
 use Rattle.srm_cell.specs.Views.{HasWork}
@@ -94,9 +92,7 @@ pub unwrap-requires : goal.unwrap-requires
 unwrap-requires g c = rw (c.of.ensures, c.into.ensures) (of_a_step c.in-Err.fault (λ spent.
     let k = c.requires.known in
     let s = setting_in c.args.self.now k.0 in
-    let fit : IsFit s = subst (λ (n : Network). IsFit (setting_of c.args.self.now.session.scenario.now n k.0)) (sym
-    c.args.self.now.session.network)
-    (settings_are_fit c.args.self.now.session.scenario.now k.0 c.until-until.ensures.accepted) in
+    let fit = settings_are_fit c.args.self.now.session.scenario.now k.0 c.until-until.ensures.accepted in
     let early : c.in-Some.time < c.args.self.now.session.scenario.now.until =
     (let lt = c.if-time-until.false in let u = c.until-until.ensures.until in omega arith) in
     let p = cell_there g.M.Participant.plain c.args.self.now.cells s k.1 k.3.seen c.in-Some.time c.in-Some.member c.in-Some.ensures early in
@@ -125,9 +121,7 @@ pub send-requires : goal.send-requires
 send-requires g c =
     let k = c.requires.known in
     let s = setting_in c.args.self.now k.0 in
-    let fit : IsFit s = subst (λ (n : Network). IsFit (setting_of c.args.self.now.session.scenario.now n k.0)) (sym
-    c.args.self.now.session.network)
-    (settings_are_fit c.args.self.now.session.scenario.now k.0 c.until-until.ensures.accepted) in
+    let fit = settings_are_fit c.args.self.now.session.scenario.now k.0 c.until-until.ensures.accepted in
     let early : c.in-Some.time < c.args.self.now.session.scenario.now.until =
     (let lt = c.if-time-until.false in let u = c.until-until.ensures.until in omega arith) in
     let p = cell_there g.M.Participant.plain c.args.self.now.cells s k.1 k.3.seen c.in-Some.time c.in-Some.member c.in-Some.ensures early in

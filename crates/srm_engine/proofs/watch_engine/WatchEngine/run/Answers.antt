@@ -35,7 +35,7 @@ pub returns-in-Err-stream-clause-last : goal.returns-in-Err-stream-clause-last
 returns-in-Err-stream-clause-last g c = λ seed h.
     let s = setting_on c.args.start.session seed in
     halted_front g.S.RowSink.took g.S.RowSink.part g.met.S.RowSink.part_none g.met.S.RowSink.part_more
-    (MayCome s (rule_of s c.args.start.session.net.now c.args.asked.width) c.args.asked.cut) s c.args.sink.now c.in-Err-stream.halt
+    (MayCome s (rule_of s c.args.start.session.scenario.now c.args.asked.width) c.args.asked.cut) s c.args.sink.now c.in-Err-stream.halt
     c.stream.new.sink
     (as_asked (λ s rule cut. TellsHalt g.S.RowSink.took g.S.RowSink.part (MayCome s rule cut) s c.args.sink.now c.in-Err-stream.halt
     c.stream.new.sink) c.in-Ok-open.opened.engine c.args.start.session c.in-Ok.cutting c.args.asked seed
@@ -45,7 +45,7 @@ pub returns-in-Err-stream-clause-windows : goal.returns-in-Err-stream-clause-win
 returns-in-Err-stream-clause-windows g c = λ seed h.
     let s = setting_on c.args.start.session seed in
     rw c.into-in-Err-stream.ensures
-    (halts_refuse g.S.RowSink.took g.S.RowSink.part s (rule_of s c.args.start.session.net.now c.args.asked.width) c.args.asked.cut
+    (halts_refuse g.S.RowSink.took g.S.RowSink.part s (rule_of s c.args.start.session.scenario.now c.args.asked.width) c.args.asked.cut
     c.args.crew.now
     c.args.sink.now c.in-Err-stream.halt c.stream.new.sink c.stream.new.crew
     (as_asked (λ s rule cut. TellsHalt g.S.RowSink.took g.S.RowSink.part (MayCome s rule cut) s c.args.sink.now c.in-Err-stream.halt
@@ -56,7 +56,7 @@ pub returns-in-Err-stream-clause-refused : goal.returns-in-Err-stream-clause-ref
 returns-in-Err-stream-clause-refused g c = λ seed h.
     let s = setting_on c.args.start.session seed in
     rw c.into-in-Err-stream.ensures
-    (refused_at_window g.S.RowSink.took g.S.RowSink.part s (rule_of s c.args.start.session.net.now c.args.asked.width) c.args.asked.cut
+    (refused_at_window g.S.RowSink.took g.S.RowSink.part s (rule_of s c.args.start.session.scenario.now c.args.asked.width) c.args.asked.cut
     c.args.sink.now c.in-Err-stream.halt c.stream.new.sink
     (as_asked (λ s rule cut. TellsHalt g.S.RowSink.took g.S.RowSink.part (MayCome s rule cut) s c.args.sink.now c.in-Err-stream.halt
     c.stream.new.sink) c.in-Ok-open.opened.engine c.args.start.session c.in-Ok.cutting c.args.asked seed
@@ -94,20 +94,20 @@ pub returns-in-Err-clause-undone : goal.returns-in-Err-clause-undone
 returns-in-Err-clause-undone g c = λ seed h.
     let s = setting_on c.args.start.session seed in
     uncalled g.S.RowSink.took g.S.RowSink.part g.S.RowSink.stage
-    (MayLackWindow s c.args.start.session.net.now c.args.asked) s c.args.sink.now _
+    (MayLackWindow s c.args.start.session.scenario.now c.args.asked) s c.args.sink.now _
 
 pub returns-in-Err-open-clause-undone : goal.returns-in-Err-open-clause-undone
 returns-in-Err-open-clause-undone g c = λ seed h.
     let s = setting_on c.args.start.session seed in
     uncalled g.S.RowSink.took g.S.RowSink.part g.S.RowSink.stage
-    (MayLackWindow s c.args.start.session.net.now c.args.asked) s c.args.sink.now _
+    (MayLackWindow s c.args.start.session.scenario.now c.args.asked) s c.args.sink.now _
 
 pub returns-in-Err-stream-clause-undone : goal.returns-in-Err-stream-clause-undone
 returns-in-Err-stream-clause-undone g c = λ seed h.
     let s = setting_on c.args.start.session seed in
     rw c.into-in-Err-stream.ensures
-    (windows_undone g.S.RowSink.took g.S.RowSink.part g.S.RowSink.stage (Unit {0}) s
-    c.args.start.session.net.now c.args.asked c.args.sink.now c.in-Err-stream.halt c.stream.new.sink
+    (windows_undone g.S.RowSink.took g.S.RowSink.part g.S.RowSink.stage (Unit {0}) s c.args.start.session.scenario.now c.args.asked
+    c.args.sink.now c.in-Err-stream.halt c.stream.new.sink
     (as_asked (λ s rule cut. TellsHalt g.S.RowSink.took g.S.RowSink.part (MayCome s rule cut) s c.args.sink.now c.in-Err-stream.halt
     c.stream.new.sink) c.in-Ok-open.opened.engine c.args.start.session c.in-Ok.cutting c.args.asked seed
     c.in-Ok-open.ensures.frame c.in-Ok.ensures (c.in-Err-stream.ensures.windows seed (c.in-Ok-open.ensures.opened seed h)))

@@ -15,7 +15,7 @@ pub of-requires-clause-members : goal.of-requires-clause-members
 of-requires-clause-members g c =
     let at = c.args.start.session in
     let seed = seed_in (map g.M.Participant.plain c.args.start.members.items) in
-    let opened = c.in_ok-cells.ensures.opened at.net.now _ c.args.start.opening in
+    let opened = c.in_ok-cells.ensures.opened _ c.args.start.opening in
     let all = as_many g.M.Participant.plain _ _ opened.1 ∙ length_opening (setting_on at seed) (length at.scenario.now.members) 0 in
     omega (arith, all)
 
@@ -23,7 +23,7 @@ pub returns-clause-opened : goal.returns-clause-opened
 returns-clause-opened g c = λ seed h.
     let at = c.args.start.session in
     let s = setting_on at seed in
-    let opened = c.in_ok-cells.ensures.opened at.net.now seed h in record {
+    let opened = c.in_ok-cells.ensures.opened seed h in record {
       windows = no_window;
       kept = c.in_ok-groups.ensures.kept seed opened.0;
       shown = ap (plain_cells g.M.Participant.plain) c.in_ok-groups.ensures.same ∙ opened.1 ∙ opening_is s;

@@ -7,10 +7,10 @@ returns-in-Trace g c =
     let told = c.write_listing.ensures in
     record {
       failures = told.failures;
-      report = λ seed h. trace_shown _ _ seed o.show _ _ _ c.in-Trace.is (told.table seed h);
+      report = λ seed h. trace_shown _ seed o.show _ _ _ c.in-Trace.is (told.table seed h);
       refusals = λ seed h. (
         told.refused seed h,
-        trace_left _ _ seed o _ _ _ c.in-Trace.is (told.left seed h),
+        trace_left _ seed o _ _ _ c.in-Trace.is (told.left seed h),
       );
     }
 
@@ -20,9 +20,9 @@ returns-in-Timers g c =
     let told = c.write_listing-in-Timers.ensures in
     record {
       failures = told.failures;
-      report = λ seed h. timers_shown _ _ seed o.show _ _ _ c.in-Timers.is (told.table seed h);
+      report = λ seed h. timers_shown _ seed o.show _ _ _ c.in-Timers.is (told.table seed h);
       refusals = λ seed h. (
         told.refused seed h,
-        timers_left _ _ seed o _ _ _ c.in-Timers.is (told.left seed h),
+        timers_left _ seed o _ _ _ c.in-Timers.is (told.left seed h),
       );
     }

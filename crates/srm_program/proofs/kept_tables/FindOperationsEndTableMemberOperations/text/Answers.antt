@@ -6,11 +6,11 @@ use Rattle.srm_program.proofs.kept_tables.FindOperationsEndTableMemberOperations
 pub operations_kept-requires : goal.operations_kept-requires
 operations_kept-requires c =
     let p = c.args.session.scenario.now in
-    let net = c.args.session.net.now in
-    let of = c.requires.3 in (
+    let of = c.requires.3 in
+    rw (hosts_of p c.args.session.net.now c.args.session.network) (
       c.requires.1,
-      orderly_rows p net c.requires.0 c.requires.1 c.requires.2 _ c.until.ensures.accepted c.args.session.network of.outcome,
-      hosts_of p net _ c.args.session.network of.many,
+      orderly_rows p c.requires.0 c.requires.1 c.requires.2 _ c.until.ensures.accepted of.outcome,
+      of.many,
       of.are,
     )
 
@@ -18,6 +18,6 @@ pub returns : goal.returns
 unfolding operations_table
 returns c seed rows exits of =
     let p = c.args.session.scenario.now in
-    let net = c.args.session.net.now in
-    c.operations_kept.ensures rows (orderly_rows p net seed rows exits _ c.until.ensures.accepted c.args.session.network of.outcome)
-    (hosts_of p net _ c.args.session.network of.many) of.are
+    let told = rw (hosts_of p c.args.session.net.now c.args.session.network) at c.operations_kept.ensures in
+    let table = told rows (orderly_rows p seed rows exits _ c.until.ensures.accepted of.outcome) of.many of.are in
+    rw c.args.session.network at table

@@ -5,9 +5,8 @@ pub returns : goal.returns
 returns g c =
     let task = c.args.asked.task in
     let p = task.session.scenario.now in
-    let net = task.session.net.now in
     let told = c.write_lines.ensures in record {
       failures = told.failures;
-      report = λ seed h. trace_shown p net seed task.options.show _ _ _ c.requires.may.shown (told.table seed h);
-      refusals = λ seed h. (told.refused seed h, trace_left p net seed task.options _ _ _ c.requires.may.shown (told.left seed h));
+      report = λ seed h. trace_shown p seed task.options.show _ _ _ c.requires.may.shown (told.table seed h);
+      refusals = λ seed h. (told.refused seed h, trace_left p seed task.options _ _ _ c.requires.may.shown (told.left seed h));
     }
