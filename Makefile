@@ -10,7 +10,7 @@ TRIED ?= out/try
 CRATE ?=
 BENCH ?=
 SECONDS ?= 60
-# how many checks the gate makes at a time: one for each processor, where each has 5 GB of memory
+# how many checks are made at a time: one for each processor, where each has 5 GB of memory
 RT_JOBS ?= $(shell awk -v n=$$(nproc) '/MemAvailable/ { m = int($$2 / 5e6); print (m < 1 ? 1 : m < n ? m : n) }' /proc/meminfo)
 export RT
 
@@ -19,7 +19,7 @@ export RT
 build: $(PROGRAM) ## proves and builds the program, where a source is newer than it
 
 $(PROGRAM): $(SOURCES)
-	cd $(@D)/.. && $(RT) run -- --version
+	cd $(@D)/.. && $(RT) run --jobs $(RT_JOBS) -- --version
 	@touch $@
 
 $(TEST_PROGRAMS): $(SOURCES)
