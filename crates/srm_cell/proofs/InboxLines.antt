@@ -1,10 +1,12 @@
 -- A line of flights, and others apart from it: what a flight more or less in either changes of them all in order.
 use Rattle.std.proofs.Common.{◌≡◌, ◌≢◌, ℕ, zero, suc, ◌<◌, ◌≤◌, ◌-◌, arith, length, insert, slice_index_or, Result, Ok, Err, OnOk, OnErr}
-use Rattle.std.proofs.Common.{IsSome, MatchOption, None}
+use Rattle.std.proofs.Common.{◌⊎◌, inl, inr, ◌+◌, length-append}
+use Rattle.std.proofs.lemmas.List.{get_or-append-add}
+use Rattle.std.proofs.Common.{MatchOption, None}
 use Rattle.std.proofs.Common.{true, false, cond, List, [], ◌∷◌, ◌++◌, Option, Some, slice_get, refl, sym, ap, ◌∙◌, subst}
 use Rattle.std.proofs.Common.{Ordering, Equal, is_lt, true≢false}
+use Rattle.std.proofs.lemmas.List.Edits.{insert_end}
 use Rattle.std.specs.Ordering.{ordering_reverse}
-use Rattle.std.specs.Option.{option_to_list}
 use Rattle.std.specs.Cmp.{IsTotalOrder}
 use Rattle.std.specs.List.Sorted.{IsPartitionPoint, IsPartitionedBy}
 use Rattle.srm_net.specs.declared.packet.Body.TheVariants as body
@@ -175,6 +177,29 @@ apart_others f (x ∷ xs) ys h = (h.0, apart_others f xs ys h.1)
 pub put_in : (f : Flight) (fs : List Flight) (p : ℕ) → IsPlaceIn (turn_of f) fs p → insert fs p f ≡ place flight_cmp f fs
 put_in f fs p h = inserted flight_cmp flight_total f fs p h.0 h.1
 
+pub last_rise : (xs ys : List Flight) → Climbs (xs ++ ys) → Climbs ys
+last_rise [] ys h = h
+last_rise (x ∷ xs) ys h = last_rise xs ys h.1
+
+-- a flight put into the last part of the line, where it goes behind one of that part, or there is no other
+pub put_in_last : (f : Flight) (xs ys : List Flight) (p : ℕ) → Climbs (xs ++ ys) → IsPlaceIn (turn_of f) ys p → (0 < p) ⊎ (xs ≡ [])
+    → xs ++ insert ys p f ≡ place flight_cmp f (xs ++ ys)
+put_in_last f [] ys p h at some = put_in f ys p at
+put_in_last f (x ∷ xs) ys p h at (inl some) =
+    let z = slice_index_or ys (p - 1) f in
+    let before : is_lt (flight_cmp z f) ≡ true = at.1.0 (p - 1) f (omega arith) (omega arith) in
+    let both = length-append xs ys in
+    let from : From flight_cmp flight_total x z = subst (From flight_cmp flight_total x) (get_or-append-add xs ys (p - 1) f)
+    (none_below_at flight_cmp flight_total x (xs ++ ys) (length xs + (p - 1)) f h.0 (omega arith)) in
+    ap (λ l. x ∷ l) (put_in_last f xs ys p h.1 at (inl some))
+    ∙ sym (ap (λ b. cond b (x ∷ place flight_cmp f (xs ++ ys)) (f ∷ x ∷ (xs ++ ys)))
+    (earlier flight_cmp flight_total f x z from before))
+put_in_last f (x ∷ xs) ys p h at (inr none) = cc
+
+-- a flight that follows the line stands in its place behind it
+pub put_behind : (f : Flight) (fs : List Flight) → Climbs fs → follows (turn_of f) fs ≡ true → fs ++ f ∷ [] ≡ place flight_cmp f fs
+put_behind f fs h q = sym (insert_end fs f) ∙ put_in f fs (length fs) (last_place f fs h q)
+
 pub line_rises : (f : Flight) (fs : List Flight) → Climbs fs → Climbs (place flight_cmp f fs)
 line_rises f fs h = rises_place flight_cmp flight_total f fs h
 
@@ -243,11 +268,9 @@ pub first_line : (fs xs : List Flight) (x : Flight) → leads fs xs ≡ true →
 first_line [] xs x q h g is = absurd (true≢false (sym q))
 first_line (f ∷ fs) xs x q h g is = ap Some is ∙ sym (ap (λ (l : List Flight). slice_get l 0) (line_first f fs xs q h g))
 
-pub line_popped : (r : Option Flight) (fs rest xs v : List Flight) (n : ℕ) → n ≡ length fs → (0 < n → IsSome r) → fs ≡ option_to_list r
-    ++ rest
-    → leads fs xs ≡ true → Climbs xs → Climbs fs → ordered flight_cmp (xs ++ fs) ≡ v
-    → MatchOption r ((v ≡ []) × (ordered flight_cmp (xs ++ rest) ≡ [])) (λ f. v ≡ f ∷ ordered flight_cmp (xs ++ rest))
-line_popped r fs rest xs v n e some is q h g view = grind (arith, line_first)
+pub line_popped : (f : Flight) (fs rest xs v : List Flight) → fs ≡ f ∷ rest → leads fs xs ≡ true → Climbs xs → Climbs fs
+    → ordered flight_cmp (xs ++ fs) ≡ v → v ≡ f ∷ ordered flight_cmp (xs ++ rest)
+line_popped f fs rest xs v is q h g view = grind (arith, line_first)
 
 pub other_popped : (r : Option Flight) (xs rest fs v : List Flight) → MatchOption r ((xs ≡ []) × (rest ≡ [])) (λ f. xs ≡ f ∷ rest)
     → leads fs xs ≡ false → Climbs xs → Climbs fs → ordered flight_cmp (xs ++ fs) ≡ v

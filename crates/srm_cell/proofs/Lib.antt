@@ -1,5 +1,6 @@
 pub mod Entries
 pub mod InboxLines
+pub mod Lines
 pub mod Nexts
 pub mod Saying
 pub mod Answering

@@ -3,6 +3,7 @@ pub mod Flights
 pub mod Entries
 pub mod CompactFlights
 pub mod InboxLines
+pub mod Lines
 pub mod Cells
 pub mod Pending
 pub mod Probes

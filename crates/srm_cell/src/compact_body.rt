@@ -61,6 +61,7 @@ impl CompactBody {
     ///
     /// # Errors
     /// Memory for a box was refused.
+    #[inline(always)]
     pub(crate) fn new(alloc: Global, sender: u16, body: &Body) -> Result<Self, AllocError>
         ensures sender { IfOk result (λ b. sender_of b ≡ sender) }
         ensures body { IfOk result (λ b. body_of b ≡ body.now) }

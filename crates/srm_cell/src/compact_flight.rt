@@ -50,6 +50,7 @@ impl CompactFlight {
     ///
     /// # Errors
     /// Memory was refused, of which only these want any.
+    #[inline(always)]
     pub(crate) fn new(alloc: Global, packet: &Packet, arrival: u64) -> Result<Self, AllocError>
         requires { IsShort packet.now arrival }
         ensures ok { IfOk result (λ f. f ≡ record { arrival = arrival; packet = packet.now }) }

@@ -1,21 +1,16 @@
 //! The packets on their way to one member.
-ghost use Rattle.std.specs.Prelude.{◌≡◌, ◌≤◌, List, [], ◌∷◌, MatchOption, OnOk, OnErr, length, insert, min, slice_get};
-ghost use Rattle.std.specs.Ordering.{is_lt};
+ghost use Rattle.std.specs.Prelude.{◌≡◌, List, [], ◌∷◌, MatchOption, OnOk, OnErr, length, min, slice_get};
 ghost use Rattle.std.specs.Option.{option_map};
-ghost use Rattle.srm_net.specs.Orders.{Rises};
-ghost use Rattle.srm_cell.specs.Flights.{flight_cmp, with_flight, BringsNone, place_cmp};
-ghost use Rattle.srm_cell.specs.InboxLines.{leads, follows, goes_before, IsPlaceIn};
+ghost use Rattle.srm_cell.specs.Flights.{with_flight, BringsNone};
+ghost use Rattle.srm_cell.specs.InboxLines.{leads, follows};
 
 use crate::compact_flight::CompactFlight;
-use crate::flight::Flight;
+use crate::flight::{Flight, is_before};
+use crate::line::{Line, put_near_end};
 use crate::strays::Strays;
 use srm_net::packet::{Packet, PacketId};
 use std::alloc::{AllocError, Global};
-use std::collections::VecDeque;
 use std::marker::Model;
-
-// So many flights of a line are moved by one at most, to make room for another.
-const MOST_MOVED: usize = 8;
 
 /// The packets on their way to one member, by arrival, sender and count. Contracts see them as a list of flights.
 ///
@@ -23,7 +18,7 @@ const MOST_MOVED: usize = 8;
 /// kept in an ordered map.
 #[derive(Drop)]
 pub struct Inbox {
-    line: VecDeque<CompactFlight>,
+    line: Line<CompactFlight>,
     strays: Strays,
 }
 
@@ -35,9 +30,9 @@ impl Model for Inbox {
 
     ghost Value = { List Flight };
 
-    ghost view = { λ i. ordered flight_cmp (i.strays ++ i.line.items) };
+    ghost view = { λ i. ordered flight_cmp (i.strays ++ i.line) };
 
-    ghost invariant = { λ i. Rises flight_cmp i.strays × Rises flight_cmp i.line.items };
+    ghost invariant = { λ i. Rises flight_cmp i.strays × Rises flight_cmp i.line };
 }
 
 impl Inbox {
@@ -46,7 +41,7 @@ impl Inbox {
         ensures { result ≡ [] }
     {
         Inbox {
-            line: VecDeque::new(alloc),
+            line: Line::new(alloc),
             strays: Strays::new(alloc),
         }
     }
@@ -67,13 +62,28 @@ impl Inbox {
         ensures ok { OnOk result (self.new ≡ with_flight packet.now arrival self.old) }
         ensures err { OnErr result (self.new ≡ self.old) }
     {
-        let place = place_in(&self.line, (arrival, packet.id));
-        if self.line.len() - place > MOST_MOVED || !CompactFlight::is_short(packet, arrival) {
-            return self.strays.accept(packet, arrival);
+        if is_in_turn(&self.line, (arrival, packet.id))
+            && CompactFlight::is_short(packet, arrival)
+        {
+            let flight = CompactFlight::new(self.line.allocator(), packet, arrival)?;
+            self.line.push(flight)?;
+            return Ok(());
         }
-        let flight = CompactFlight::new(*self.line.allocator(), packet, arrival)?;
-        put_at(&mut self.line, place, flight)?;
-        Ok(())
+        self.accept_by_place(packet, arrival)
+    }
+
+    // The same of a packet that may go before others.
+    #[inline(never)]
+    fn accept_by_place(&mut self, packet: &Packet, arrival: u64) -> Result<(), AllocError>
+        requires { BringsNone packet.now.id self.old }
+        ensures ok { OnOk result (self.new ≡ with_flight packet.now arrival self.old) }
+        ensures err { OnErr result (self.new ≡ self.old) }
+    {
+        let is_in = put_near_end(&mut self.line, packet, arrival)?;
+        if is_in {
+            return Ok(());
+        }
+        self.strays.accept(packet, arrival)
     }
 
     /// When the first packet arrives, in ticks, and which it is.
@@ -94,7 +104,7 @@ impl Inbox {
         ensures { MatchOption result ((self.old ≡ []) × (self.new ≡ [])) (λ f. self.old ≡ f ∷ self.new) }
     {
         if is_line_next(&self.line, &self.strays) {
-            let flight = self.line.pop_front()?;
+            let flight = self.line.pop()?;
             Some(flight.into_flight())
         } else {
             self.strays.pop_first()
@@ -102,24 +112,9 @@ impl Inbox {
     }
 }
 
-// How many flights of a line go before one with this arrival and packet.
-fn place_in(line: &VecDeque<CompactFlight>, flight: (u64, PacketId)) -> usize
-    requires { Rises flight_cmp line.now.items }
-    ensures { IsPlaceIn flight line.now.items result }
-{
-    if is_in_turn(line, flight) {
-        return line.len();
-    }
-    line.partition_point(
-        |other: &CompactFlight| -> bool
-            ensures { result ≡ goes_before flight other.now }
-        { is_before(other.place(), flight) },
-    )
-}
-
 // Whether a flight goes behind a whole line.
-fn is_in_turn(line: &VecDeque<CompactFlight>, flight: (u64, PacketId)) -> bool
-    ensures { result ≡ follows flight line.now.items }
+fn is_in_turn(line: &Line<CompactFlight>, flight: (u64, PacketId)) -> bool
+    ensures { result ≡ follows flight line.now }
 {
     match line.back() {
         None => true,
@@ -127,35 +122,9 @@ fn is_in_turn(line: &VecDeque<CompactFlight>, flight: (u64, PacketId)) -> bool
     }
 }
 
-// Puts a flight into a line, at a place.
-//
-// A full line grows by a quarter, and not to the double: all its slots are used in turn, and those of many members that are too
-// many would take each other's place in the processor's caches. It grows by three more, since in large networks three to six
-// packets are on their way to a member at most, and growing costs more than slots.
-fn put_at(
-    line: &mut VecDeque<CompactFlight>,
-    place: usize,
-    flight: CompactFlight,
-) -> Result<(), AllocError>
-    requires { place ≤ length line.old.items }
-    ensures ok { OnOk result (line.new.items ≡ insert line.old.items place flight) }
-    ensures err { OnErr result (line.new.items ≡ line.old.items) }
-{
-    if line.len() == line.capacity() {
-        let more = line.len() / 4 + 3;
-        line.reserve_exact(more)?;
-    }
-    if place == line.len() {
-        line.push_back(flight)?;
-    } else {
-        line.insert(place, flight)?;
-    }
-    Ok(())
-}
-
 // Whether the first of a line goes before all others.
-fn is_line_next(line: &VecDeque<CompactFlight>, strays: &Strays) -> bool
-    ensures { result ≡ leads line.now.items strays.now }
+fn is_line_next(line: &Line<CompactFlight>, strays: &Strays) -> bool
+    ensures { result ≡ leads line.now strays.now }
 {
     let Some(flight) = line.front() else {
         return false;
@@ -164,14 +133,4 @@ fn is_line_next(line: &VecDeque<CompactFlight>, strays: &Strays) -> bool
         return true;
     };
     is_before(flight.place(), stray)
-}
-
-// Whether a flight goes before another, by arrival, sender and count.
-fn is_before(flight: (u64, PacketId), other: (u64, PacketId)) -> bool
-    ensures { result ≡ is_lt (place_cmp flight other) }
-{
-    if flight.0 != other.0 {
-        return flight.0 < other.0;
-    }
-    flight.1 < other.1
 }

@@ -28,6 +28,7 @@ pub mod hearing;
 pub mod inbox;
 pub mod job;
 pub mod laws;
+mod line;
 mod local_repair;
 mod pending_event;
 mod rows;

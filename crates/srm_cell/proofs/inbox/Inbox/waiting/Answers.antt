@@ -1,4 +1,4 @@
-use Rattle.std.proofs.Common.{◌≡◌, ◌+◌, ◌-◌, ◌^◌, ◌++◌, min, List, length, subst, arith, ◌∙◌, length-append}
+use Rattle.std.proofs.Common.{◌≡◌, ◌+◌, ◌-◌, ◌^◌, ◌++◌, min, List, length, subst, arith, length-append}
 use Rattle.srm_cell.specs.declared.flight.Flight.{Flight}
 use Rattle.srm_cell.specs.Flights.{flight_cmp}
 use Rattle.srm_cell.proofs.InboxLines.{length_ordered}
@@ -6,11 +6,8 @@ use Rattle.srm_cell.proofs.inbox.Inbox.waiting.Goals as goal
 
 pub returns : goal.returns
 returns c =
-    let all = c.self.inside.strays ++ c.self.inside.line.items in
-    let long : length all ≡ length c.self.inside.strays + length c.self.inside.line.items =
-    length-append c.self.inside.strays c.self.inside.line.items in
+    let all = c.self.inside.strays ++ c.self.inside.line in
+    let long : length all ≡ length c.self.inside.strays + length c.self.inside.line =
+    length-append c.self.inside.strays c.self.inside.line in
     let ordered_long = length_ordered flight_cmp all in
-    let line : c.len.result ≡ length c.self.inside.line.items = c.len.ensures ∙ c.self.inside.line.ok.0 in
-    let others = c.waiting.ensures in
-    let sum = c.saturating_add.ensures in
     subst (λ (l : List Flight). c.saturating_add.result ≡ min (length l) (2 ^ 64 - 1)) c.self.view_is (omega arith)

@@ -1,0 +1,24 @@
+-- Lists in blocks.
+use Rattle.std.specs.Prelude.{◌≡◌, ◌≢◌, List, [], ◌∷◌, ◌++◌}
+use Rattle.std.specs.Global.{Global}
+use Rattle.std.specs.declared.collections.VecDeque as deques
+
+-- a `VecDeque<A>`
+abbrev pub Deque : Type 0 → Type 0
+Deque A = deques.VecDeque A Global
+
+-- what the blocks hold, one behind the other
+abbrev pub in_blocks : {A : Type 0} → List (Deque A) → List A
+in_blocks [] = []
+in_blocks (b ∷ bs) = b.items ++ in_blocks bs
+
+-- none of the blocks is empty
+abbrev pub AreFilled : {A : Type 0} → List (Deque A) → Type 0
+AreFilled [] = Unit {0}
+AreFilled (b ∷ bs) = (b.items ≢ []) × AreFilled bs
+
+-- the first values, those in blocks and the last ones: there are none before others that are none
+pub record AreInTurn {A : Type 0} (first : List A) (blocks : List (Deque A)) (last : List A) : Type 0 where
+  pub filled : AreFilled blocks
+  pub front : first ≡ [] → blocks ≡ []
+  pub back : last ≡ [] → first ≡ []
