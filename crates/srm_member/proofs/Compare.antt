@@ -1,14 +1,13 @@
 -- Names and timers are compared by their numbers.
-use Rattle.std.proofs.Common.{arith, length, ◌<◌, ◌↔◌, IsSome, IfSome, IsTrue, Bor, Some, [], ◌∷◌, ◌≡◌, Bool, false, cond, List, Option}
+use Rattle.std.proofs.Common.{arith, length, ◌<◌, [], ◌∷◌, ◌≡◌, Bool, cond, List}
 use Rattle.std.proofs.Common.{None, refl, subst}
-use Rattle.std.specs.Ordering.{nat_cmp, ordering_then, eq_by_cmp, is_gt}
+use Rattle.std.specs.Ordering.{nat_cmp, ordering_then, eq_by_cmp}
 use Rattle.std.specs.List.{list_any}
-use Rattle.std.specs.FinMap.Entries.{put, find}
-use Rattle.std.specs.Option.{option_copied}
+use Rattle.std.specs.FinMap.Entries.{put}
 use Rattle.std.specs.Map.{lookup, remove_entry}
 use Rattle.std.specs.BTreeMap.{insert_entry, is_at}
 use Rattle.srm_member.specs.React.{without}
-use Rattle.srm_member.specs.Pending.{has, IsFirst}
+use Rattle.srm_member.specs.Pending.{has}
 use Rattle.srm_member.proofs.Maps as maps
 use Rattle.srm_net.specs.declared.packet.Name.{Name}
 use Rattle.srm_net.specs.Names.{name_cmp}
@@ -21,9 +20,6 @@ use Rattle.srm_member.specs.contracts.due.DueOrd.TheImpl as due_order
 pub dues_compared : due_order.cmp-value.it ≡ due_cmp
 dues_compared i a b =
     ordering_then (nat_cmp a.time b.time) (ordering_then (ranks_compared a.rank b.rank i) (name_cmp a.name b.name))
-
-pub name_find : {V : Type 0} (n : Name) (es : List (Name × V)) → find name_cmp n es ≡ lookup (is_at (name_order.cmp-value.it n)) es
-name_find n es = maps.find-lookup name_cmp n es
 
 pub name_put : {V : Type 0} (n : Name) (v : V) (es : List (Name × V)) → put name_cmp n v es ≡ insert_entry name_order.cmp-value.it es n v
 name_put n v es = maps.put-insert_entry name_cmp n v es
@@ -41,17 +37,6 @@ pub due_update : (e : Due) (b : Bool) (index index2 : List Due)
 due_update e b index index2 h = subst (λ R. (d : Due) → list_any (is_at (R d)) index2
     ≡ cond (is_at (R e) d) b (list_any (is_at (R d)) index)) dues_compared h
 
-empty_of : (index : List Due) → (0 < length index → ⊥) → index ≡ []
+pub empty_of : (index : List Due) → (0 < length index → ⊥) → index ≡ []
 empty_of [] h = refl
 empty_of (d ∷ ds) h = absurd (h (omega arith))
-
--- the first of a set of timers, in the words of specs/
-pub first_due : (index : List Due) (r : Option (Bor Due)) → (IsSome r ↔ (0 < length index))
-    → IfSome r (λ k. IsTrue (list_any (is_at (due_order.cmp-value.it k.now)) index))
-    → IfSome r (λ k. (q : Due) → IsTrue (list_any (is_at (due_order.cmp-value.it q)) index) → is_gt (due_order.cmp-value.it k.now q)
-    ≡ false)
-    → IsFirst index (option_copied r)
-first_due index None some member least = empty_of index (λ h. let no = some.1 h in cc)
-first_due index (Some k) some member least =
-    subst (λ R. IsTrue (list_any (is_at (R k.now)) index) × ((q : Due) → IsTrue (list_any (is_at (R q)) index) → is_gt (R k.now q) ≡ false))
-    dues_compared (member, least)

@@ -35,11 +35,11 @@ not_after d e f p q =
       | Greater ↦ λ _ no. cc
     ] refl p
 
-either : (a b : Bool) → (a || b) ≡ true → (P : Type 0) → (a ≡ true → P) → (b ≡ true → P) → P
+pub either : (a b : Bool) → (a || b) ≡ true → (P : Type 0) → (a ≡ true → P) → (b ≡ true → P) → P
 either true b e P f g = f refl
 either false b e P f g = g e
 
-at_head : (d : Due) (ds : List Due) → has (d ∷ ds) d ≡ true
+pub at_head : (d : Due) (ds : List Due) → has (d ∷ ds) d ≡ true
 at_head d ds = ap (λ b. b || has ds d) (due_itself d)
 
 step_none : (d : Due) (ds : List Due) → ds ≡ [] → IsFirst (d ∷ ds) (Some d)
@@ -103,7 +103,7 @@ has-append (x ∷ xs) ys d = elim (eq_by_cmp due_cmp d x) as (λ b. (b || has (x
 eqb-swap : (a b : ℕ) → (a == b) ≡ (b == a)
 eqb-swap a b = grind (arith, nat_tests)
 
-below-none : {V : Type 0} (x : Name) (es : List (Name × V)) → T (below_all name_cmp x es) → find name_cmp x es ≡ None
+pub below-none : {V : Type 0} (x : Name) (es : List (Name × V)) → T (below_all name_cmp x es) → find name_cmp x es ≡ None
 below-none x [] h = refl
 below-none x (f ∷ es) h =
     elim (name_cmp x f.0) as (λ o. T (is_lt o && below_all name_cmp x es) → cond (is_eq o) (Some f.1) (find name_cmp x es) ≡ None) [

@@ -4,6 +4,7 @@ mod Calls
 pub mod Compare
 mod Doublings
 mod Earliest
+mod Firsts
 mod Indexes
 pub mod Changes
 pub mod FewerTimers

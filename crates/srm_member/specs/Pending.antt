@@ -3,7 +3,7 @@ use Rattle.std.specs.Prelude.{◌≡◌, ℕ, Bool, true, false, List, [], map, 
 use Rattle.std.specs.Prelude.{T}
 use Rattle.std.specs.List.{list_any}
 use Rattle.std.specs.Option.{option_map}
-use Rattle.std.specs.Ordering.{eq_by_cmp, is_gt}
+use Rattle.std.specs.Ordering.{eq_by_cmp, is_gt, is_lt}
 use Rattle.std.specs.FinMap.Entries.{find, is_sorted}
 use Rattle.srm_net.specs.declared.packet.Name.{Name}
 use Rattle.srm_net.specs.declared.rank.Rank.{Rank}
@@ -48,6 +48,11 @@ has index d = list_any (eq_by_cmp due_cmp d) index
 abbrev pub IsFirst : List Due → Option Due → Type 0
 IsFirst index None = index ≡ []
 IsFirst index (Some d) = (has index d ≡ true) × ((e : Due) → has index e ≡ true → is_gt (due_cmp d e) ≡ false)
+
+-- each of the other timers goes behind the first; without a first one there is no other
+abbrev pub Leads : Option Due → List Due → Type 0
+Leads None others = others ≡ []
+Leads (Some d) others = (e : Due) → has others e ≡ true → is_lt (due_cmp d e) ≡ true
 
 -- the keys of both tables rise, and the index has a timer exactly where it is pending
 pub record IsIndexed (index : List Due) (missing : List (Name × Missing))

@@ -7,22 +7,30 @@ ghost use Rattle.srm_member.specs.React.{without};
 use srm_net::packet::Name;
 use srm_net::sequence::Sequence;
 use std::alloc::{AllocError, Global};
+use std::cmp::Ordering;
 use std::collections::BTreeMap;
 use std::marker::Model;
 
 /// A finite map from names, which contracts compare entry by entry, the names rising.
+///
+/// The first entry stands apart: mostly it is the only one, and a tree asks for memory for 15 at once.
 #[derive(Debug, Drop)]
 pub struct Named<V> {
-    map: BTreeMap<Name, V>,
+    first: Option<(Name, V)>,
+    others: BTreeMap<Name, V>,
 }
 
 impl<V> Model for Named<V> {
-    ghost use Rattle.std.specs.Prelude.{List};
+    ghost use Rattle.std.specs.Prelude.{List, [], ◌++◌, ◌≡◌, None};
+    ghost use Rattle.std.specs.Option.{option_to_list};
     ghost use Rattle.srm_net.specs.declared.packet.Name.{Name as Key};
+    ghost use Rattle.srm_member.specs.Pending.{RisesByName};
 
     ghost Value = { List (Key × V) };
 
-    ghost view = { λ t. t.map.entries };
+    ghost view = { λ t. option_to_list t.first ++ t.others.entries };
+
+    ghost invariant = { λ t. RisesByName (option_to_list t.first ++ t.others.entries) × (t.first ≡ None → t.others.entries ≡ []) };
 }
 
 impl<V: Copy> Named<V> {
@@ -31,7 +39,8 @@ impl<V: Copy> Named<V> {
         ensures { result ≡ [] }
     {
         Named {
-            map: BTreeMap::new(alloc),
+            first: None,
+            others: BTreeMap::new(alloc),
         }
     }
 
@@ -39,11 +48,13 @@ impl<V: Copy> Named<V> {
     pub fn get(&self, name: Name) -> Option<V>
         ensures { result ≡ find name_cmp name self.now }
     {
-        // an emptied map still has a node, elsewhere in memory
-        if self.map.is_empty() {
+        let Some((first, value)) = self.first else {
             return None;
+        };
+        if name == first {
+            return Some(value);
         }
-        self.map.get(&name).copied()
+        self.others.get(&name).copied()
     }
 
     /// Gives a name this value.
@@ -54,7 +65,20 @@ impl<V: Copy> Named<V> {
         ensures ok { OnOk result (self.new ≡ put name_cmp name value self.old) }
         ensures err { OnErr result (self.new ≡ self.old) }
     {
-        self.map.insert(name, value)?;
+        let Some((first, before)) = self.first else {
+            self.first = Some((name, value));
+            return Ok(());
+        };
+        match name.cmp(&first) {
+            Ordering::Less => {
+                self.others.insert(first, before)?;
+                self.first = Some((name, value));
+            }
+            Ordering::Equal => self.first = Some((first, value)),
+            Ordering::Greater => {
+                self.others.insert(name, value)?;
+            }
+        }
         Ok(())
     }
 
@@ -63,11 +87,14 @@ impl<V: Copy> Named<V> {
         ensures value { result ≡ find name_cmp name self.old }
         ensures rest { self.new ≡ without name self.old }
     {
-        // as in `get`
-        if self.map.is_empty() {
+        let Some((first, value)) = self.first else {
             return None;
+        };
+        if name == first {
+            self.first = self.others.pop_first();
+            return Some(value);
         }
-        self.map.remove(&name)
+        self.others.remove(&name)
     }
 
     /// The names, rising.
@@ -77,7 +104,10 @@ impl<V: Copy> Named<V> {
     pub fn names(&self, alloc: Global) -> Result<Sequence<Name>, AllocError>
         ensures { IfOk result (λ ns. ns ≡ map (λ e. e.0) self.now) }
     {
-        let names: Vec<Name> = self.map.keys().copied().collect(alloc)?;
+        let mut names: Vec<Name> = self.others.keys().copied().collect(alloc)?;
+        if let Some((first, _)) = self.first {
+            names.insert(0, first)?;
+        }
         Ok(Sequence::from_vec(names))
     }
 }

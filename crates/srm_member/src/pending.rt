@@ -1,5 +1,5 @@
 //! A member's pending timers.
-ghost use Rattle.std.specs.Prelude.{◌≡◌, [], None, OnOk, IfOk, IsTrue, map};
+ghost use Rattle.std.specs.Prelude.{◌≡◌, [], OnOk, IfOk, map};
 ghost use Rattle.std.specs.FinMap.Entries.{put, find};
 ghost use Rattle.srm_net.specs.Names.{name_cmp};
 ghost use Rattle.srm_member.specs.Record.{earliest};
@@ -76,13 +76,6 @@ impl Pending {
         ensures { result ≡ earliest (pending_timers self.now.0 self.now.1) }
     {
         self.index.first()
-    }
-
-    // Whether no timer is pending.
-    pub(crate) fn is_idle(&self) -> bool
-        ensures { IsTrue result → earliest (pending_timers self.now.0 self.now.1) ≡ None }
-    {
-        self.index.is_empty()
     }
 
     /// Sets what is kept of a missing name, and its request timer.

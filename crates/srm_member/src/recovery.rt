@@ -71,10 +71,6 @@ impl Recovery {
         if self.gone {
             return None;
         }
-        // mostly there is none, and an emptied index still has a node, elsewhere in memory
-        if self.state.pending.is_idle() {
-            return None;
-        }
         self.state.due()
     }
 
