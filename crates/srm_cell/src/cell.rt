@@ -19,7 +19,7 @@ use crate::boxes::{finish, react};
 use crate::fault::CellFault;
 use crate::inbox::Inbox;
 use crate::pending_event::{
-    Next, PendingEvent, Source, arrival_time, is_expiry, mark_time, timer_time,
+    Next, PendingEvent, Source, arrival_time, is_expiry, is_idle, mark_time, timer_time,
 };
 use crate::rows::{about, cause_at, expiry, packet, word};
 use crate::script::Script;
@@ -406,8 +406,8 @@ impl<M: Participant> Cell<M> {
         }
     }
 
-    // The least event of the cell, looked for among all that it has. Where one is sooner than both others, or a packet arrives as a
-    // timer expires, no key is made.
+    // The least event of the cell, looked for among all that it has. No key is made where one is sooner than both others, where a
+    // packet arrives as a timer expires, and where there is none, as mostly between two sendings.
     #[inline(always)]
     fn least(&self) -> Next
         ensures { IsNextOf M.plain self.now result }
@@ -439,6 +439,9 @@ impl<M: Participant> Cell<M> {
                 time: mark,
                 source: Source::Script,
             };
+        }
+        if is_idle(&self.inbox, &self.script, due) {
+            return Next::of(None);
         }
         self.by_keys()
     }

@@ -1,5 +1,5 @@
 //! Which of a cell's events is next.
-ghost use Rattle.std.specs.Prelude.{◌≡◌, ◌↔◌, ◌⊎◌, ℕ, IsTrue, IfSome, Some};
+ghost use Rattle.std.specs.Prelude.{◌≡◌, ◌↔◌, ◌⊎◌, ℕ, IsTrue, IfSome, Some, None, []};
 ghost use Rattle.std.specs.Ordering.{is_gt};
 ghost use Rattle.srm_net.specs.declared.rank.Rank.TheVariants as ranks;
 ghost use Rattle.srm_net.specs.Keys.{key_cmp};
@@ -202,5 +202,22 @@ pub(crate) fn is_expiry(due: Option<Due>) -> bool
     match due {
         None => false,
         Some(due) => matches!(due.rank, Rank::Request | Rank::Repair),
+    }
+}
+
+/// Whether there is no packet, no mark and no timer.
+#[inline(always)]
+pub(crate) fn is_idle(inbox: &Inbox, script: &Script, due: Option<Due>) -> bool
+    ensures { IsTrue result → (inbox.now ≡ []) × (script.now ≡ []) × (due ≡ None) }
+{
+    let None = due else {
+        return false;
+    };
+    let None = script.first() else {
+        return false;
+    };
+    match inbox.first() {
+        None => true,
+        Some(_) => false,
     }
 }

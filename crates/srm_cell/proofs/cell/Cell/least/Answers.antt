@@ -1,6 +1,6 @@
-use Rattle.std.proofs.Common.{◌≡◌, ◌⊎◌, ◌∙◌, IfSome, sym, ap, subst, arith}
+use Rattle.std.proofs.Common.{◌≡◌, ◌⊎◌, ◌∙◌, IfSome, None, sym, ap, subst, arith}
 use Rattle.srm_net.specs.declared.rank.Rank.TheVariants.{Request, Repair}
-use Rattle.srm_cell.specs.Cells.{next_event, next_timer}
+use Rattle.srm_cell.specs.Cells.{due_in, earlier, first_arrival, first_mark, next_event, next_timer}
 use Rattle.srm_cell.specs.declared.pending_event.Source.TheVariants.{Inbox, Script, Timer}
 use Rattle.srm_cell.specs.Pending.{IsNext, first_of, tick_of}
 use Rattle.srm_cell.specs.Views.{plain_cell}
@@ -52,3 +52,14 @@ returns-then-mark-timer g c =
     c.timer_time-timer.ensures m p ∙ ap (λ d. tick_of (next_timer m p d)) c.due-due.ensures in
     subst (λ n. IsNext m p (record { time = n; source = Script }) (next_event m p)) (sym k)
     (mark_next m p (omega (arith, a, k)) (omega (arith, k, t)) (omega (arith, a)) (omega (arith, t)))
+
+pub returns-then-is_idle : goal.returns-then-is_idle
+unfolding next_event
+returns-then-is_idle g c =
+    let m = c.args.self.now.number in
+    let p = plain_cell g.M.Participant.plain c.args.self.now in
+    let none = c.is_idle.ensures c.if-is_idle.true in
+    let a : first_arrival m p p.inbox ≡ None = ap (first_arrival m p) none.0 in
+    let k : first_mark m p p.script ≡ None = ap (first_mark m p) none.1 in
+    let t : next_timer m p (due_in p.holds) ≡ None = ap (next_timer m p) (sym c.due-due.ensures ∙ none.2) in
+    subst (λ o. IsNext m p c.of.result o) (λ i. earlier (sym a i) (earlier (sym k i) (sym t i))) c.of.ensures
