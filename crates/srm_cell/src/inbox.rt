@@ -6,7 +6,7 @@ ghost use Rattle.srm_cell.specs.InboxLines.{leads, follows};
 
 use crate::compact_flight::CompactFlight;
 use crate::flight::{Flight, is_before};
-use crate::line::{Line, put_near_end};
+use crate::line::Line;
 use crate::strays::Strays;
 use srm_net::packet::{Packet, PacketId};
 use std::alloc::{AllocError, Global};
@@ -18,7 +18,7 @@ use std::marker::Model;
 /// kept in an ordered map.
 #[derive(Drop)]
 pub struct Inbox {
-    line: Line<CompactFlight>,
+    line: Line,
     strays: Strays,
 }
 
@@ -79,7 +79,7 @@ impl Inbox {
         ensures ok { OnOk result (self.new ≡ with_flight packet.now arrival self.old) }
         ensures err { OnErr result (self.new ≡ self.old) }
     {
-        let is_in = put_near_end(&mut self.line, packet, arrival)?;
+        let is_in = self.line.put_near_end(packet, arrival)?;
         if is_in {
             return Ok(());
         }
@@ -113,7 +113,7 @@ impl Inbox {
 }
 
 // Whether a flight goes behind a whole line.
-fn is_in_turn(line: &Line<CompactFlight>, flight: (u64, PacketId)) -> bool
+fn is_in_turn(line: &Line, flight: (u64, PacketId)) -> bool
     ensures { result ≡ follows flight line.now }
 {
     match line.back() {
@@ -123,7 +123,7 @@ fn is_in_turn(line: &Line<CompactFlight>, flight: (u64, PacketId)) -> bool
 }
 
 // Whether the first of a line goes before all others.
-fn is_line_next(line: &Line<CompactFlight>, strays: &Strays) -> bool
+fn is_line_next(line: &Line, strays: &Strays) -> bool
     ensures { result ≡ leads line.now strays.now }
 {
     let Some(flight) = line.front() else {

@@ -3,7 +3,7 @@ use Rattle.srm_cell.proofs.Lines.{one_block_more}
 use Rattle.srm_cell.proofs.line.count.Goals as goal
 
 pub loop-i-preserved : goal.loop-i-preserved
-loop-i-preserved g c =
+loop-i-preserved c =
     let blocks = c.args.blocks.now in
     let many = blocks.ok.0 in
     let end = c.len-i-end.ensures in

@@ -37,5 +37,5 @@ invariant_of-self-2 c = (
 pub returns-clause-ok : goal.returns-clause-ok
 returns-clause-ok c =
     other_added c.accept.result (record { arrival = c.args.arrival; packet = c.args.packet.now }) c.self.inside.strays c.accept.new.self
-    c.put_near_end.new.line c.args.self.now c.accept.ensures.ok
+    c.put_near_end.new.self c.args.self.now c.accept.ensures.ok
     (ap (λ l. ordered flight_cmp (c.self.inside.strays ++ l)) (rw c.if-is_in.false at c.in_ok-is_in.ensures.ok) ∙ c.self.view_is) c.requires
