@@ -1,5 +1,6 @@
 //! A member's cell.
-ghost use Rattle.std.specs.Prelude.{◌≡◌, ◌≢◌, ◌≤◌, ◌<◌, ◌∷◌, ◌++◌, [], Some, None, OnOk, OnErr, IfOk, IfErr, All};
+ghost use Rattle.std.specs.Prelude.{◌≡◌, ◌≢◌, ◌≤◌, ◌<◌, ◌∷◌, ◌++◌, [], Some, None, Ok, Err, OnOk, OnErr, IfOk, IfErr};
+ghost use Rattle.std.specs.Prelude.{All, MatchResult};
 ghost use Rattle.srm_net.specs.Limits.{end_of_time, most_sent};
 ghost use Rattle.srm_net.specs.Orders.{Rises};
 ghost use Rattle.srm_scenario.specs.Plain.{mark_cmp};
@@ -203,10 +204,29 @@ impl<M: Participant> Cell<M> {
         ensures { Runs M.plain till self.old result self.new }
     {
         let mut rows = Vec::new(alloc);
+        self.run_into(alloc, till, &mut rows)?;
+        Ok(Sequence::from_vec(rows))
+    }
+
+    /// As [`Cell::run`], where the rows take the place of what is there: many runs, one after the other, need but one vector.
+    ///
+    /// # Errors
+    /// As of [`Cell::run`]. Nothing is known of the rows then.
+    pub fn run_into(
+        &mut self,
+        alloc: Global,
+        till: u64,
+        rows: &mut Vec<Row>,
+    ) -> Result<(), CellFault>
+        requires { till ≤ end_of_time }
+        ensures { MatchResult result (λ _. Runs M.plain till self.old (Ok rows.new.items) self.new)
+            (λ e. Runs M.plain till self.old (Err e) self.new) }
+    {
+        rows.clear();
         loop {
-            match self.step_onto(alloc, till, &mut rows) {
+            match self.step_onto(alloc, till, rows) {
                 Ok(true) => {}
-                Ok(false) => return Ok(Sequence::from_vec(rows)),
+                Ok(false) => return Ok(()),
                 Err(fault) => return Err(fault),
             }
         }

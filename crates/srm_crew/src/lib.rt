@@ -19,6 +19,7 @@ pub mod bag_fault;
 mod counted;
 mod each;
 pub mod gate;
+mod gathered;
 mod order;
 pub mod pass;
 pub mod piece;

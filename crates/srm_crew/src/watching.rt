@@ -8,13 +8,13 @@ ghost use Rattle.srm_cell.specs.Jobs.{MayAdvance, Runs};
 ghost use Rattle.srm_interfaces.specs.Watches.{job_in, AdvanceWatched, HaveKept, KeepClosed};
 ghost use Rattle.srm_crew.specs.Watched.{AdvanceOne, IsOfMember, MayWatch};
 
+use crate::gathered::Gathered;
 use crate::piece::Piece;
 use crate::pieces::is_due;
 use crate::worked::Worked;
 use srm_cell::cell::Cell;
 use srm_cell::crossings::Crossings;
 use srm_cell::fault::CellFault;
-use srm_cell::sent::Sent;
 use srm_interfaces::hearing::hear_groups;
 use srm_interfaces::watch::Watch;
 use srm_interfaces::watched::{WatchedDone, WatchedJob, add_sent};
@@ -23,6 +23,7 @@ use srm_scenario::session::Session;
 use srm_team::work::Work;
 use std::alloc::Global;
 use std::marker::Copy;
+use std::mem::replace;
 
 /// Work on pieces, in runs of one scenario on its network: watched jobs advance, and cells hear what was sent, one after the other.
 #[derive(Clone, Copy)]
@@ -46,8 +47,12 @@ pub(crate) fn advance_watched<M: Participant, K: Drop, W: Watch<K>>(
         work.now.session.scenario.now work.now.session.net.now jobs.items result }
 {
     let mut all = Vec::new(work.alloc);
+    let mut gathered = Gathered {
+        rows: Vec::new(work.alloc),
+        sent: Vec::new(work.alloc),
+    };
     for job in jobs {
-        let done = match advance_one(work, job) {
+        let done = match advance_one(work, job, &mut gathered) {
             Ok(done) => done,
             Err(fault) => return Err(fault),
         };
@@ -63,6 +68,7 @@ pub(crate) fn advance_watched<M: Participant, K: Drop, W: Watch<K>>(
 fn advance_one<M: Participant, K: Drop, W: Watch<K>>(
     work: &Watching<W>,
     job: WatchedJob<M, K>,
+    gathered: &mut Gathered,
 ) -> Result<WatchedDone<M, K>, CellFault>
     requires job { MayAdvance M.plain (length work.now.session.net.now.hosts) (job_in job) }
     requires kept { HaveKept job }
@@ -77,10 +83,10 @@ fn advance_one<M: Participant, K: Drop, W: Watch<K>>(
     } = job;
     let mut cells = cells;
     let mut kept = kept;
-    let mut sent = Vec::new(work.alloc);
+    gathered.sent.clear();
     let mut index = 0;
     for cell in cells.iter_mut() {
-        match run_watched(work, till, cell, &mut kept[index], &mut sent) {
+        match run_watched(work, till, cell, &mut kept[index], gathered) {
             Ok(()) => {}
             Err(fault) => return Err(fault),
         }
@@ -89,9 +95,10 @@ fn advance_one<M: Participant, K: Drop, W: Watch<K>>(
     if work.watch.close(kept.as_mut_slice()).is_err() {
         return Err(CellFault::NoMemory);
     }
-    let Ok(crossings) = Crossings::of(work.alloc, work.session, sent.as_slice()) else {
+    let Ok(crossings) = Crossings::of(work.alloc, work.session, gathered.sent.as_slice()) else {
         return Err(CellFault::NoMemory);
     };
+    let sent = replace(&mut gathered.sent, Vec::new(work.alloc));
     Ok(WatchedDone {
         place,
         cells,
@@ -108,24 +115,23 @@ fn run_watched<M: Participant, K, W: Watch<K>>(
     till: u64,
     cell: &mut Cell<M>,
     kept: &mut K,
-    sent: &mut Vec<Sent>,
+    gathered: &mut Gathered,
 ) -> Result<(), CellFault>
     requires till { till ≤ end_of_time }
     requires member { IsOfMember M.plain (length work.now.session.net.now.hosts) cell.old }
-    requires sent { All (λ x. IsSent work.now.session.scenario.now work.now.session.net.now x) sent.old.items }
+    requires sent { All (λ x. IsSent work.now.session.scenario.now work.now.session.net.now x) gathered.old.sent.items }
     ensures ran { OnOk result ((rows : List OneRow) × Runs M.plain till cell.old (Ok rows) cell.new
         × ((before : List OneRow) → W.keeps work.now.watch kept.old before → W.keeps work.now.watch kept.new (before ++ rows))
-        × (packets_in sent.new.items ≡ packets_in sent.old.items ++ packets_of rows)) }
-    ensures sent { OnOk result (All (λ x. IsSent work.now.session.scenario.now work.now.session.net.now x) sent.new.items) }
+        × (packets_in gathered.new.sent.items ≡ packets_in gathered.old.sent.items ++ packets_of rows)) }
+    ensures sent { OnOk result (All (λ x. IsSent work.now.session.scenario.now work.now.session.net.now x)
+        gathered.new.sent.items) }
     ensures refused { IfErr result (λ e. e ≢ CellFault.NoMemory → Runs M.plain till cell.old (Err e) cell.new) }
 {
     if !is_due(cell, till) {
         return Ok(());
     }
-    let rows = match cell.run(work.alloc, till) {
-        Ok(rows) => rows,
-        Err(fault) => return Err(fault),
-    };
+    let Gathered { rows, sent } = gathered;
+    cell.run_into(work.alloc, till, rows)?;
     let rows = rows.as_slice();
     if work.watch.add(kept, rows).is_err()
         || add_sent(work.alloc, work.session, rows, sent).is_err()

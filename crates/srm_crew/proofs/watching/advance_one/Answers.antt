@@ -30,10 +30,10 @@ loop-cell-init g c =
       refl,
       subst (All (IsOfMember f (length net.hosts))) (sym shown)
           (are_of_members f (length net.hosts) job.cells.items may.sound may.of_members),
-      subst (λ xs. CellsSoFar f keeps k net job [] xs [] [] c.new-sent.result.items) (sym shown)
-          (subst (λ xs. CellsSoFar f keeps k net job [] job.cells.items [] [] xs) (sym c.new-sent.ensures.items)
+      subst (λ xs. CellsSoFar f keeps k net job [] xs [] [] c.clear.new.self.items) (sym shown)
+          (subst (λ xs. CellsSoFar f keeps k net job [] job.cells.items [] [] xs) (sym c.clear.ensures.items)
           (cells_none f keeps k net job)),
-      subst (All (λ x. IsSent k net x)) (sym c.new-sent.ensures.items) (All-nil (λ x. IsSent k net x)),
+      subst (All (λ x. IsSent k net x)) (sym c.clear.ensures.items) (All-nil (λ x. IsSent k net x)),
     )
 
 pub run_watched-requires-clause-till : goal.run_watched-requires-clause-till
@@ -62,7 +62,8 @@ returns-in-Err g c =
     cells_fault g.M.Participant.plain (g.W.Watch.keeps c.args.work.now.watch) c.args.work.now.session.scenario.now
     c.args.work.now.session.net.now c.args.job
     (KeepClosed (g.W.Watch.keeps c.args.work.now.watch) (g.W.Watch.closes c.args.work.now.watch)) (take i cells) (drop (i + 1) cells)
-    (take i c.args.job.kept.items) (take i c.loop-cell.kept.items) c.loop-cell.sent.items cell c.run_watched.new.cell c.in-Err.fault
+    (take i c.args.job.kept.items) (take i c.loop-cell.kept.items) c.loop-cell.gathered.sent.items cell c.run_watched.new.cell
+    c.in-Err.fault
     (rw (drop_more cells i c.cell-item.result within) at c.loop-cell.invariant.5) (λ ne. c.in-Err.ensures.refused ne own.0)
 
 pub loop-cell-preserved : goal.loop-cell-preserved
@@ -80,7 +81,7 @@ loop-cell-preserved g c =
     let new = c.run_watched.new.kept in
     let ran = c.in-Ok.ensures.ran in
     let d = c.index_mut.result.now in
-    let sent = c.loop-cell.sent.items in
+    let sent = c.loop-cell.gathered.sent.items in
     let at : c.loop-cell.index ≡ i = c.loop-cell.invariant.0 in
     let many : length cells ≡ length was = c.loop-cell.invariant.1 in
     let long : length now ≡ length was = c.loop-cell.invariant.2 in
@@ -112,7 +113,7 @@ loop-cell-preserved g c =
         ap (λ n. take (i + 1) (slice_set now n new)) at ∙ take_more_set now i new there,
       )
           (cells_more f keeps k net c.args.job (take i cells) (drop (i + 1) cells) (take i was) (take i now) sent
-          c.run_watched.new.sent.items cell after ran.0 (get_or was i d) new
+          c.run_watched.new.gathered.sent.items cell after ran.0 (get_or was i d) new
           (rw (drop_more cells i c.cell-item.result within) at c.loop-cell.invariant.5) (ran.1 own.0) kept ran.3),
       c.in-Ok.ensures.sent,
     )
@@ -127,7 +128,7 @@ of-requires-clause-few g c =
     let cells = c.loop-cell.cell-items in
     let was = c.args.job.kept.items in
     let now = c.loop-cell.kept.items in
-    let sent = c.loop-cell.sent.items in
+    let sent = c.loop-cell.gathered.sent.items in
     let many : length cells ≡ length was = c.loop-cell.invariant.1 in
     let same = c.loop-cell.auto.cell-items in
     let past = c.loop-cell-test.false in
@@ -148,7 +149,7 @@ returns g c =
     let was = c.args.job.kept.items in
     let now = c.loop-cell.kept.items in
     let new = c.close.new.kept in
-    let sent = c.loop-cell.sent.items in
+    let sent = c.loop-cell.gathered.sent.items in
     let many : length cells ≡ length was = c.loop-cell.invariant.1 in
     let same = c.loop-cell.auto.cell-items in
     let past = c.loop-cell-test.false in
@@ -159,12 +160,13 @@ returns g c =
     (sym c.is_err.ensures.value ∙ c.if-is_err.false) c.close.ensures.closed in
     let long : length new ≡ length now = c.close.ensures.long ∙ ap length shown in
     let held : (with_items c.loop-cell.kept new).items ≡ new = with_items_is c.loop-cell.kept new (long ∙ sym c.loop-cell.kept.ok.0) in
-    cells_all f keeps k net c.args.job (g.W.Watch.closes c.args.work.now.watch) now
+    rw c.replace-sent.ensures.value
+    (cells_all f keeps k net c.args.job (g.W.Watch.closes c.args.work.now.watch) now
     (record {
       place = c.args.job.place;
       cells = with_items c.args.job.cells cells;
       kept = with_items c.loop-cell.kept new;
-      sent = c.loop-cell.sent;
+      sent = c.loop-cell.gathered.sent;
       crossings = c.in-Ok-of.crossings;
     }) refl
     (subst (λ xs. CellsSoFar f keeps k net c.args.job xs [] was now sent)
@@ -174,4 +176,4 @@ returns g c =
     (long, subst (λ xs. g.W.Watch.closes c.args.work.now.watch xs new) shown closed))
     c.loop-cell.invariant.6
     (c.in-Ok-of.ensures.counted
-    ∙ ap (λ (xs : List Sent). numbers_of (traffic_of k net) (packets_in xs)) c.as_slice.ensures.value)
+    ∙ ap (λ (xs : List Sent). numbers_of (traffic_of k net) (packets_in xs)) c.as_slice.ensures.value))

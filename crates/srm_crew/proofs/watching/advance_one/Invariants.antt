@@ -14,5 +14,5 @@ invariant-loop-cell g l =
     × All (IsOfMember g.M.Participant.plain (length l.work.session.net.now.hosts)) (drop l.cell-index l.cell-items)
     × CellsSoFar g.M.Participant.plain (g.W.Watch.keeps l.work.watch) l.work.session.scenario.now l.work.session.net.now l.fn.job
     (take l.cell-index l.cell-items) (drop l.cell-index l.cell-items) (take l.cell-index l.fn.job.kept.items)
-    (take l.cell-index l.kept.items) l.sent.items
-    × All (λ x. IsSent l.work.session.scenario.now l.work.session.net.now x) l.sent.items
+    (take l.cell-index l.kept.items) l.gathered.sent.items
+    × All (λ x. IsSent l.work.session.scenario.now l.work.session.net.now x) l.gathered.sent.items

@@ -13,7 +13,7 @@ returns-then-not-is_due-clause-ran g c = (
   [],
   runs_idle g.M.Participant.plain c.args.till c.args.cell.now (λ is. sym (c.is_due.ensures is) ∙ c.if-not-is_due.true),
   λ before h. subst (g.W.Watch.keeps c.args.work.now.watch c.args.kept.now) (sym (append-nil before)) h,
-  sym (append-nil (packets_in c.args.sent.now.items)),
+  sym (append-nil (packets_in c.args.gathered.now.sent.items)),
 )
 
 pub add_sent-requires-clause-sent : goal.add_sent-requires-clause-sent
@@ -22,23 +22,23 @@ add_sent-requires-clause-sent g c =
     let n = length session.net.now.hosts in
     let hosts : n ≡ length session.scenario.now.members =
     ap (λ w. length w.hosts) session.network ∙ length-map session.scenario.now.members (λ m. m.node) in
-    subst (All (λ (r : Row). IsSentBelow (length session.scenario.now.members) r.sent)) (sym c.as_slice-rows.ensures)
-    (subst (λ m. All (λ (r : Row). IsSentBelow m r.sent) c.in-Ok.rows) hosts
-    (sent_below g.M.Participant.plain n c.args.till c.args.cell.now c.run.new.self c.in-Ok.rows c.requires.till c.requires.member
-    c.in-Ok.ensures))
+    subst (All (λ (r : Row). IsSentBelow (length session.scenario.now.members) r.sent)) (sym c.as_slice-rows.ensures.value)
+    (subst (λ m. All (λ (r : Row). IsSentBelow m r.sent) c.run_into.new.rows.items) hosts
+    (sent_below g.M.Participant.plain n c.args.till c.args.cell.now c.run_into.new.self c.run_into.new.rows.items c.requires.till
+    c.requires.member c.in_ok-run_into.ensures))
 
 pub returns-clause-ran : goal.returns-clause-ran
 returns-clause-ran g c =
     let keeps = g.W.Watch.keeps c.args.work.now.watch in
-    let sent = c.args.sent.now.items in
+    let sent = c.args.gathered.now.sent.items in
     let kept_here : is_err c.add.result ≡ false = sym c.is_err.ensures.value ∙ c.if-is_err.false in
     let sent_here : is_err c.add_sent.result ≡ false = sym c.is_err-else-is_err.ensures.value ∙ c.if-is_err-2.false in (
-      c.in-Ok.rows,
-      c.in-Ok.ensures,
-      λ before h. subst (λ rs. keeps c.add.new.kept (before ++ rs)) c.as_slice-rows.ensures
+      c.run_into.new.rows.items,
+      c.in_ok-run_into.ensures,
+      λ before h. subst (λ rs. keeps c.add.new.kept (before ++ rs)) c.as_slice-rows.ensures.value
           (if_ok c.add.result _ kept_here c.add.ensures before h),
       if_ok c.add_sent.result _ sent_here c.add_sent.ensures.packets
-          ∙ ap (λ (rs : List Row). packets_in sent ++ packets_of rs) c.as_slice-rows.ensures,
+          ∙ ap (λ (rs : List Row). packets_in sent ++ packets_of rs) c.as_slice-rows.ensures.value,
     )
 
 pub returns-clause-sent : goal.returns-clause-sent
