@@ -15,8 +15,6 @@ use Rattle.srm_crew.specs.Passes.{BagView, PassView, RefusesEmpty, TellsEmpty}
 use Rattle.srm_interfaces.specs.Crews.{HasGrown}
 use Rattle.srm_crew.specs.Shared.{HoldsAt, sum_of, InOrder, ComeOf, HasWorked}
 use Rattle.srm_crew.proofs.Peeling.{once_length, sum_same}
-use Rattle.std.proofs.lemmas.Option.{same_Some}
-use Rattle.srm_net.proofs.Lists.{below_get}
 
 -- ---- indices, each once
 
@@ -164,34 +162,6 @@ module _ {D : Type 0} where
             (λ e. once_apart indices (length all) m k once after (omega (arith, far, many)) (sym e))
             ∙ filled k (omega (arith, after, one_less)) far);
       }
-
-  -- what a slot of full ones holds
-  pub full_there : (vs : List D) (slots : List (Option D)) (slot : Option D) (rest more : List (Option D)) → map (λ (x : D). Some x) vs
-      ++ rest ≡ slots → rest ≡ slot ∷ more
-      → ((p : ℕ) → p < length slots → (d : D) × (slice_get slots p ≡ Some (Some d))) → (d : D) × (slot ≡ Some d)
-  full_there vs slots slot rest more split is full =
-      let parts : slots ≡ (map (λ (x : D). Some x) vs ++ slot ∷ []) ++ more = sym split ∙ ap (λ l. map (λ (x : D). Some x) vs ++ l) is
-      ∙ sym (append_assoc (map (λ (x : D). Some x) vs) (slot ∷ []) more) in
-      let m : ℕ = length (map (λ (x : D). Some x) vs) in
-      let long : length slots ≡ (m + 1) + length more =
-      ap length parts ∙ length-append (map (λ (x : D). Some x) vs ++ slot ∷ []) more
-      ∙ ap (λ n. n + length more) (length-append (map (λ (x : D). Some x) vs) (slot ∷ [])) in
-      let f = full m (omega (arith, long)) in
-      let here : slice_get slots m ≡ Some slot = ap (λ l. slice_get l m) parts ∙ get_middle (map (λ (x : D). Some x) vs) more slot in
-      (f.0, same_Some slot (Some f.0) (sym here ∙ f.1))
-
-  pub all_full : (indices : List ℕ) (all : List D) (slots : List (Option D)) → EachOnce indices (length all) → length indices ≡ length all
-      → FilledFrom indices all 0 slots
-      → (p : ℕ) → p < length all → (d : D) × (slice_get slots p ≡ Some (Some d))
-  all_full indices all slots once many filled p lt =
-      let o = once.0 p lt in
-      let k = found_at indices p (omega (arith, o)) in
-      let near = k.1 in
-      let d = below_get all k.0 (omega (arith, near, many)) in (
-        d.0,
-        subst (λ (q : ℕ). slice_get slots q ≡ Some (Some d.0)) k.2
-            (filled k.0 (omega arith) (omega (arith, near, many)) ∙ ap (λ o. Some o) d.1),
-      )
 
   pub ordered : (indices : List ℕ) (all v : List D) (slots : List (Option D)) → length indices ≡ length all → length slots ≡ length all
       → FilledFrom indices all 0 slots → map (λ (x : D). Some x) v ≡ slots → InOrder indices all v

@@ -1,20 +1,10 @@
 //! Results, put in order.
-ghost use Rattle.std.specs.Prelude.{◌≡◌, ◌<◌, ℕ, length, map, Some, slice_get, slice_index, IfOk};
+ghost use Rattle.std.specs.Prelude.{◌≡◌, ◌<◌, ℕ, length, Some, slice_get, slice_index, IfOk};
 ghost use Rattle.srm_crew.specs.Indices.{EachOnce};
 ghost use Rattle.srm_crew.specs.Shared.{InOrder};
 
+use srm_team::slots::{collect, empty_slots};
 use std::alloc::{AllocError, Global};
-
-// So many empty slots.
-fn empty_slots<D: Drop>(alloc: Global, count: usize) -> Result<Vec<Option<D>>, AllocError>
-    ensures { IfOk result (λ v. length v.items ≡ count) }
-{
-    let mut slots: Vec<Option<D>> = Vec::new(alloc);
-    for _ in 0..count {
-        slots.push(None)?;
-    }
-    Ok(slots)
-}
 
 // Puts each result into the slot of its index.
 fn scatter<D: Drop>(indices: &[usize], slots: &mut Vec<Option<D>>, mut results: Vec<D>)
@@ -30,18 +20,6 @@ fn scatter<D: Drop>(indices: &[usize], slots: &mut Vec<Option<D>>, mut results: 
     }
 }
 
-// What the slots hold, all of which are full.
-fn collect<D: Drop>(alloc: Global, slots: Vec<Option<D>>) -> Result<Vec<D>, AllocError>
-    requires { (p : ℕ) → p < length slots.items → (d : D) × (slice_get slots.items p ≡ Some (Some d)) }
-    ensures { IfOk result (λ v. map Some v.items ≡ slots.items) }
-{
-    let mut all: Vec<D> = Vec::new(alloc);
-    for slot in slots {
-        all.push(slot.unwrap())?;
-    }
-    Ok(all)
-}
-
 /// Each result, at its index.
 pub(crate) fn in_order<D: Drop>(
     alloc: Global,
@@ -54,5 +32,8 @@ pub(crate) fn in_order<D: Drop>(
 {
     let mut slots = empty_slots(alloc, results.len())?;
     scatter(indices, &mut slots, results);
-    collect(alloc, slots)
+    match collect(alloc, slots) {
+        Ok(all) => Ok(all),
+        Err(_) => Err(AllocError),
+    }
 }

@@ -1,7 +1,7 @@
 //! The leader's ends of the channels, and the history.
-ghost use Rattle.std.specs.Prelude.{◌≡◌, ◌<◌, ◌≤◌, ◌+◌, ◌^◌, [], Some, length, slice_get, map, All, IfOk, IfErr};
+ghost use Rattle.std.specs.Prelude.{◌≡◌, ◌<◌, ◌≤◌, ◌+◌, ◌^◌, [], Some, length, slice_get, All, IfOk, IfErr};
 ghost use Rattle.std.specs.List.{AllZip};
-ghost use Rattle.srm_team.specs.Tells.{IsMidway, Filled, AllNone};
+ghost use Rattle.srm_team.specs.Tells.{IsMidway, Filled};
 
 use crate::answer::Answer;
 use crate::batch::Batch;
@@ -13,6 +13,7 @@ use crate::naming::Naming;
 use crate::opened::Opened;
 use crate::order::Order;
 use crate::receiving::receive;
+use crate::slots::{collect, empty_slots};
 use crate::work::Work;
 use crossbeam_channel::{Receiver, Sender};
 use std::alloc::{AllocError, Global};
@@ -27,34 +28,6 @@ pub(crate) struct LeaderEnds<W: Work<T, D> + Copy, T: Drop, D: Drop, J: Naming> 
     pub(crate) to_workers: Sender<Order<W, T, D, J>>,
     pub(crate) orders: Receiver<Order<W, T, D, J>>,
     pub(crate) answers: Receiver<Answer<W, T, D, J>>,
-}
-
-// So many empty slots.
-fn empty_slots<D: Drop>(alloc: Global, count: usize) -> Result<Vec<Option<D>>, AllocError>
-    ensures { IfOk result (λ v. (length v.items ≡ count) × AllNone v.items) }
-{
-    let mut slots: Vec<Option<D>> = Vec::new(alloc);
-    for _ in 0..count {
-        slots.push(None)?;
-    }
-    Ok(slots)
-}
-
-// What the slots hold; or one is empty, or memory was refused.
-fn collect<D: Drop>(alloc: Global, slots: Vec<Option<D>>) -> Result<Vec<D>, TeamFault>
-    ensures held { IfOk result (λ v. map Some v.items ≡ slots.items) }
-    ensures fault { IfErr result IsMidway }
-{
-    let mut all: Vec<D> = Vec::new(alloc);
-    for slot in slots {
-        let Some(result) = slot else {
-            return Err(TeamFault::Left);
-        };
-        if all.push(result).is_err() {
-            return Err(TeamFault::NoMemory);
-        }
-    }
-    Ok(all)
 }
 
 // Keeps an answer at its place, and says whether none stood there. An answer to an earlier list is dropped.

@@ -29,5 +29,6 @@ pub mod opened;
 pub mod order;
 mod receiving;
 pub mod relay;
+pub mod slots;
 pub mod team;
 pub mod work;

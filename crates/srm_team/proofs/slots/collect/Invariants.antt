@@ -1,6 +1,6 @@
 use Rattle.std.proofs.Common.{◌≡◌, ◌++◌, map, Some}
 use Rattle.std.specs.Vec.Iter.{into_iter_items}
-use Rattle.srm_crew.proofs.order.collect.Given as goal
+use Rattle.srm_team.proofs.slots.collect.Given as goal
 
 abbrev pub invariant-loop-slot : goal.invariant-loop-slot
 invariant-loop-slot g l =

@@ -1,7 +1,7 @@
 use Rattle.std.proofs.Common.{◌∙◌, ◌+◌, ◌++◌, ◌∷◌, [], zero, suc, List, Option, None, length, sym, ap, subst}
 use Rattle.std.proofs.lemmas.List.{length_push}
 use Rattle.srm_team.specs.Tells.{AllNone}
-use Rattle.srm_team.proofs.leader_ends.empty_slots.Goals as goal
+use Rattle.srm_team.proofs.slots.empty_slots.Goals as goal
 
 none_more : {D : Type 0} (slots : List (Option D)) → AllNone slots → AllNone (slots ++ None ∷ [])
 none_more [] n zero d h = cc

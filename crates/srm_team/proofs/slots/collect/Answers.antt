@@ -1,7 +1,7 @@
 use Rattle.std.proofs.Common.{◌≡◌, ◌∙◌, ◌++◌, ◌∷◌, [], List, Option, Some, map, refl, sym, ap, rules, arith}
 use Rattle.std.proofs.lemmas.Grind.{common_steps}
 use Rattle.std.specs.Vec.Iter.{into_iter_items}
-use Rattle.srm_team.proofs.leader_ends.collect.Goals as goal
+use Rattle.srm_team.proofs.slots.collect.Goals as goal
 
 moved : {A : Type 0} (xs : List A) (x : A) (ys : List (Option A)) → map Some (xs ++ x ∷ []) ++ ys ≡ map Some xs ++ Some x ∷ ys
 moved [] x ys = refl

@@ -1,6 +1,6 @@
 use Rattle.std.proofs.Common.{◌≡◌, length}
 use Rattle.srm_team.specs.Tells.{AllNone}
-use Rattle.srm_team.proofs.leader_ends.empty_slots.Given as goal
+use Rattle.srm_team.proofs.slots.empty_slots.Given as goal
 
 abbrev pub invariant-loop : goal.invariant-loop
 invariant-loop g l = record {
