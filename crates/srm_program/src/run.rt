@@ -21,7 +21,7 @@ use std::marker::Sync;
 use std::sync::Wait;
 use std::thread::Threads;
 
-/// Runs by the engine that is asked for.
+/// Runs by the engine that is asked for, as [`run`] does.
 #[derive(Drop)]
 pub(crate) struct ByEngine<'a, R> {
     pub rt: &'a R,
@@ -39,10 +39,8 @@ impl<'a, R: Threads + Wait + Sync> Runner for ByEngine<'a, R> {
         members: Vec<Box<dyn Member>>,
         outlet: &mut O,
     ) -> Result<(), LabFault> {
-        match task.options.engine {
-            Engine::Step => BySteps {}.report(alloc, task, members, outlet),
-            Engine::Window => in_windows(self.rt, alloc, task, members, outlet),
-        }
+        let Session { scenario, net } = task.session;
+        run(self.rt, alloc, scenario, net, members, task.options, outlet)
     }
 }
 
@@ -88,5 +86,8 @@ pub fn run<R: Threads + Wait + Sync, O: Outlet>(
 {
     let session = Session { scenario, net };
     let task = Task { session, options };
-    ByEngine { rt }.report(alloc, task, members, outlet)
+    match options.engine {
+        Engine::Step => BySteps {}.report(alloc, task, members, outlet),
+        Engine::Window => in_windows(rt, alloc, task, members, outlet),
+    }
 }
