@@ -19,7 +19,8 @@ export RT
 build: $(PROGRAM) ## proves and builds the program, where a source is newer than it
 
 $(PROGRAM): $(SOURCES)
-	cd $(@D)/.. && $(RT) run --jobs $(RT_JOBS) -- --version
+	tools/build_libraries.py crates/srm_lab $(RT_JOBS)
+	cd crates/srm_lab && $(RT) run --jobs $(RT_JOBS) -- --version
 	@touch $@
 
 $(TEST_PROGRAMS): $(SOURCES)
