@@ -26,4 +26,3 @@ mod TakingLemmas
 pub mod TallyLemmas
 mod SumLemmas
 mod TickLemmas
-mod PieceLemmas

@@ -38,6 +38,10 @@ lines_of f rows = fold (λ own (r : Row). line_behind own r.key.time (f.line r))
 abbrev pub parts_seen : List TickPart → List (ℕ × List ℕ)
 parts_seen parts = map (λ (p : TickPart). (p.time, p.text.now)) parts
 
+-- the text of parts, one after the other
+abbrev pub parts_text : List TickPart → List ℕ
+parts_text parts = flat_map (λ (p : TickPart). p.text.now) parts
+
 -- the text of those of these lines that are of tick t
 abbrev pub text_at : ℕ → List (ℕ × List ℕ) → List ℕ
 text_at t own = flat_map (λ (x : ℕ × List ℕ). cond (x.0 == t) x.1 []) own

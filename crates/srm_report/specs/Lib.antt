@@ -15,7 +15,6 @@ pub mod MemberCounts
 pub mod Members
 pub mod OperationLaws
 pub mod Operations
-pub mod Pieces
 pub mod Records
 pub mod Rows
 pub mod Seeds

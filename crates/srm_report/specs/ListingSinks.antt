@@ -1,6 +1,5 @@
 -- A table that lists rows, written as they come.
-use Rattle.std.specs.Prelude.{◌≡◌, ◌⊎◌, ℕ, ◌+◌, Bool, IsTrue, List, [], ◌++◌, length, Option, Result, Ok, Err}
-use Rattle.std.specs.Io.KnownBytes.{Appends}
+use Rattle.std.specs.Prelude.{◌≡◌, ◌⊎◌, ℕ, ◌+◌, Bool, IsTrue, List, [], ◌++◌, Option, Result, Ok, Err}
 use Rattle.srm_member.specs.declared.row.Row.{Row}
 use Rattle.srm_interfaces.specs.declared.sink.SinkFault.{SinkFault}
 use Rattle.srm_interfaces.specs.declared.sink.SinkFault.TheVariants as fault
@@ -13,7 +12,7 @@ use Rattle.srm_report.specs.declared.listing.listing_sink.ListingSink.{ListingSi
 use Rattle.srm_report.specs.declared.outlet.Outlet as outlet
 use Rattle.srm_report.specs.declared.writing.WriteFault.{WriteFault}
 use Rattle.srm_report.specs.Listings.{Form}
-use Rattle.srm_report.specs.Standings.{after_answer, GrewBy, IsText, text_next}
+use Rattle.srm_report.specs.Standings.{after_answer, IsText, text_next, Took}
 
 -- ---- sinks
 
@@ -61,9 +60,8 @@ module _ {L O : Type 0} where
 
   module _ (taken : O → Option (List ℕ)) where
     -- between these two values the outlet took these bytes, and they were counted
-    pub record Wrote (a : ListingSink L O) (out : List ℕ) (b : ListingSink L O) : Type 0 where
-      pub bytes : Appends (taken (outlet_under a)) (taken (outlet_under b)) out
-      pub counted : GrewBy (written_by a) (length out) (written_by b)
+    abbrev pub Wrote : ListingSink L O → List ℕ → ListingSink L O → Type 0
+    Wrote a out b = Took taken (outlet_under a) (written_by a) out (outlet_under b) (written_by b)
 
     -- this text was put between these two values: the outlet took what was gathered and the text, but for what is
     -- gathered now

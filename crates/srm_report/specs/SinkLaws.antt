@@ -9,8 +9,8 @@ use Rattle.srm_report.specs.declared.listing.standing.Standing.{Standing}
 use Rattle.srm_report.specs.declared.listing.standing.Standing.TheVariants.{Fresh, Live, NoMemory, Stopped}
 use Rattle.srm_report.specs.declared.listing.listing_sink.ListingSink.{ListingSink}
 use Rattle.srm_report.specs.Listings.{Form, lines_in}
-use Rattle.srm_report.specs.Standings.{lead, text_next, IsText, GrewBy}
-use Rattle.srm_report.specs.ListingSinks.{outlet_under, gathered_by, written_by, Wrote}
+use Rattle.srm_report.specs.Standings.{lead, text_next, IsText, GrewBy, Took, TakesBut}
+use Rattle.srm_report.specs.ListingSinks.{outlet_under, gathered_by, written_by}
 use Rattle.srm_report.specs.ListingSinks.{PutsAll, PutsFront, PutsRows, PutsPart, AreOverOne}
 
 -- ---- text
@@ -71,12 +71,32 @@ count_more a n b m c h k = k ∙ cut_sum b (a + n) m (2 ^ 64 - 1) h ∙ ap (λ x
 pub count_cut : (a n b : ℕ) → b ≡ min (a + n) (2 ^ 64 - 1) → GrewBy a n b
 count_cut a n b e = ap (λ x. min x (2 ^ 64 - 1)) e ∙ min-eq_left (min-le_right (a + n) (2 ^ 64 - 1))
 
--- ---- sinks
+-- ---- outlets
 
 joins : (g t o b u p r : List ℕ) → g ++ t ≡ o ++ b → b ++ u ≡ p ++ r → g ++ (t ++ u) ≡ (o ++ p) ++ r
 joins g t o b u p r h k =
     sym (append_assoc g t u) ∙ ap (λ (l : List ℕ). l ++ u) h ∙ append_assoc o b u ∙ ap (λ (l : List ℕ). o ++ l) k
     ∙ sym (append_assoc o p r)
+
+module _ {O : Type 0} (taken : O → Option (List ℕ)) where
+  pub took_none : (a : O) (n : ℕ) → Took taken a n [] a n
+  took_none a n = record { bytes = Appends-nil (taken a); counted = count_none n }
+
+  -- of what is left, with more behind it, some is taken
+  pub but_more :
+      (a b c : O) (n m k : ℕ) (g t left u rest : List ℕ) → TakesBut taken a n (g ++ t) b m left
+      → TakesBut taken b m (left ++ u) c k rest → TakesBut taken a n (g ++ (t ++ u)) c k rest
+  but_more a b c n m k g t left u rest h j = (
+    h.0 ++ j.0,
+    joins g t h.0 left u j.0 rest h.1 j.1,
+    record {
+      bytes = Appends-trans (taken a) (taken b) (taken c) h.0 j.0 h.2.bytes j.2.bytes;
+      counted = subst (λ l. GrewBy n l k) (sym (length-append h.0 j.0))
+          (count_more n (length h.0) m (length j.0) k h.2.counted j.2.counted);
+    },
+  )
+
+-- ---- sinks
 
 pub one_self : {L O : Type 0} (a : ListingSink L O) → AreOverOne a a
 one_self a = (refl, refl)
@@ -85,41 +105,25 @@ pub over_one_more : {L O : Type 0} (a b c : ListingSink L O) → AreOverOne a b 
 over_one_more a b c h k = (k.0 ∙ h.0, k.1 ∙ h.1)
 
 module _ {L O : Type 0} (taken : O → Option (List ℕ)) where
-  pub wrote_none : (a : ListingSink L O) → Wrote taken a [] a
-  wrote_none a = record { bytes = Appends-nil (taken (outlet_under a)); counted = count_none (written_by a) }
-
-  pub wrote_more :
-      (a b c : ListingSink L O) (t u : List ℕ) → Wrote taken a t b → Wrote taken b u c → Wrote taken a (t ++ u) c
-  wrote_more a b c t u h k = record {
-    bytes =
-        Appends-trans (taken (outlet_under a)) (taken (outlet_under b)) (taken (outlet_under c)) t u h.bytes k.bytes;
-    counted = subst (λ n. GrewBy (written_by a) n (written_by c)) (sym (length-append t u))
-        (count_more (written_by a) (length t) (written_by b) (length u) (written_by c) h.counted k.counted);
-  }
-
   pub all_none : (a : ListingSink L O) → PutsAll taken a [] a
-  all_none a = ([], append-nil (gathered_by a), wrote_none a)
+  all_none a = ([], append-nil (gathered_by a), took_none taken (outlet_under a) (written_by a))
 
   pub all_more :
       (a b c : ListingSink L O) (t u : List ℕ) → PutsAll taken a t b → PutsAll taken b u c → PutsAll taken a (t ++ u) c
-  all_more a b c t u h k = (
-    h.0 ++ k.0,
-    joins (gathered_by a) t h.0 (gathered_by b) u k.0 (gathered_by c) h.1 k.1,
-    wrote_more a b c h.0 k.0 h.2 k.2,
-  )
+  all_more a b c t u =
+      but_more taken (outlet_under a) (outlet_under b) (outlet_under c) (written_by a) (written_by b) (written_by c)
+      (gathered_by a) t (gathered_by b) u (gathered_by c)
 
   pub front_none : (a : ListingSink L O) (t : List ℕ) → PutsFront taken a t a
-  front_none a t = ([], gathered_by a ++ t, refl, wrote_none a)
+  front_none a t = ([], gathered_by a ++ t, refl, took_none taken (outlet_under a) (written_by a))
 
   pub front_more :
       (a b c : ListingSink L O) (t u : List ℕ) → PutsAll taken a t b → PutsFront taken b u c
       → PutsFront taken a (t ++ u) c
-  front_more a b c t u h k = (
-    h.0 ++ k.0,
-    k.1,
-    joins (gathered_by a) t h.0 (gathered_by b) u k.0 k.1 h.1 k.2,
-    wrote_more a b c h.0 k.0 h.2 k.3,
-  )
+  front_more a b c t u h k =
+      let all = but_more taken (outlet_under a) (outlet_under b) (outlet_under c) (written_by a) (written_by b)
+      (written_by c) (gathered_by a) t (gathered_by b) u k.1 h (k.0, k.2, k.3) in
+      (all.0, k.1, all.1, all.2)
 
   pub front_longer : (a b : ListingSink L O) (t u : List ℕ) → PutsFront taken a t b → PutsFront taken a (t ++ u) b
   front_longer a b t u k = (

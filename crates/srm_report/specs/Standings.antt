@@ -40,8 +40,23 @@ after_answer (Err (fault.Stopped n)) = Stopped
 abbrev pub GrewBy : ℕ → ℕ → ℕ → Type 0
 GrewBy old n new = min new (2 ^ 64 - 1) ≡ min (old + n) (2 ^ 64 - 1)
 
--- what is taken of a text: all of it, or else a front; and the bytes are counted
-abbrev pub TakesText : {O A E : Type 0} → (O → Option (List ℕ)) → O → ℕ → List ℕ → Result A E → O → ℕ → Type 0
-TakesText taken old n text (Ok v) new m = Appends (taken old) (taken new) text × GrewBy n (length text) m
-TakesText taken old n text (Err e) new m =
-    (out rest : List ℕ) × (text ≡ out ++ rest) × Appends (taken old) (taken new) out × GrewBy n (length out) m
+-- between these two values an outlet took these bytes, and they were counted
+pub record Took {O : Type 0} (taken : O → Option (List ℕ)) (old : O) (n : ℕ) (out : List ℕ) (new : O) (m : ℕ)
+    : Type 0 where
+  pub bytes : Appends (taken old) (taken new) out
+  pub counted : GrewBy n (length out) m
+
+-- a text was taken, but for what is left of it
+abbrev pub TakesBut : {O : Type 0} → (O → Option (List ℕ)) → O → ℕ → List ℕ → O → ℕ → List ℕ → Type 0
+TakesBut taken old n text new m left = (out : List ℕ) × (text ≡ out ++ left) × Took taken old n out new m
+
+-- a front of a text was taken and nothing is left, and the fault tells how many bytes were taken in all
+abbrev pub TakesPart : {O : Type 0} → (O → Option (List ℕ)) → O → ℕ → List ℕ → SinkFault → O → ℕ → List ℕ → Type 0
+TakesPart taken old n text e new m left =
+    (e ≡ fault.Stopped m) × (left ≡ []) × (rest : List ℕ) × TakesBut taken old n text new m rest
+
+-- a text was taken, but for what is left of it; or else a front
+abbrev pub TakesText : {O A : Type 0} → (O → Option (List ℕ)) → O → ℕ → List ℕ → Result A SinkFault → O → ℕ → List ℕ
+    → Type 0
+TakesText taken old n text (Ok v) new m left = TakesBut taken old n text new m left
+TakesText taken old n text (Err e) new m left = TakesPart taken old n text e new m left

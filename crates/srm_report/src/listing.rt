@@ -2,12 +2,10 @@
 mod fields;
 mod in_order;
 pub mod keep_lines;
-mod line;
+pub mod line;
 pub mod lines;
 pub mod listing_sink;
-mod pieces;
 mod standing;
-mod text_piece;
 mod tick_part;
 pub mod timers;
 pub mod trace;
@@ -16,6 +14,7 @@ ghost use Rattle.std.specs.Prelude.{◌≡◌, ◌++◌, is_ok, IfOk, if◌then�
 ghost use Rattle.srm_report.specs.Listings.{Form, lines_in, text_in};
 
 use crate::fault::ReportFault;
+use crate::listing::line::Line;
 use srm_member::row::Row;
 use std::alloc::{AllocError, Global};
 
@@ -38,10 +37,10 @@ pub trait Listing: Drop {
     fn lines(alloc: Global, rows: &[Row]) -> Result<Vec<u8>, ReportFault>
         ensures { IfOk result (λ text. text.items ≡ lines_in form rows.now) };
 
-    /// Puts the lines of a row behind a text.
+    /// Puts the lines of a row behind a text. They are made in `line`, whatever it has.
     ///
     /// # Errors
     /// [`AllocError`]: the text is as it was.
-    fn put_line(text: &mut Vec<u8>, row: &Row) -> Result<(), AllocError>
+    fn put_line(line: &mut Line, text: &mut Vec<u8>, row: &Row) -> Result<(), AllocError>
         ensures { text.new.items ≡ (if is_ok result then text.old.items ++ form.line row.now else text.old.items) };
 }

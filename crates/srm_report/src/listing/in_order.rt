@@ -4,31 +4,39 @@ ghost use Rattle.std.specs.List.{flat_map};
 ghost use Rattle.srm_member.specs.declared.row.Row.{Row as R};
 ghost use Rattle.srm_cell.specs.Crossings.{joined};
 ghost use Rattle.srm_report.specs.Listings.{Form, lines_in};
-ghost use Rattle.srm_report.specs.KeptLines.{AreLinesOf, parts_seen, text_at};
+ghost use Rattle.srm_report.specs.KeptLines.{AreLinesOf, parts_seen, text_at, parts_text};
 
 use crate::listing::lines::Lines;
-use crate::listing::pieces::Pieces;
 use crate::listing::tick_part::TickPart;
 use std::alloc::{AllocError, Global};
 
-/// The text of the lines of all members, in order of their rows' keys: whatever the rows are, of which these lines were kept and
-/// closed. A key is compared by its time and then its member, so the text of each tick is that of one member after the other.
+/// The parts of a text, and of the lines of all members behind it, in order of their rows' keys: whatever the rows are, of which
+/// these lines were kept and closed. A key is compared by its time and then its member, so the text of each tick is that of one
+/// member after the other.
 ///
 /// # Errors
 /// [`AllocError`].
 pub(crate) fn put_in_order<'a>(
     alloc: Global,
+    lead: &'a [u8],
     groups: &'a [Vec<Lines>],
-) -> Result<Pieces<'a>, AllocError>
+) -> Result<Vec<TickPart<'a>>, AllocError>
     ensures { (f : Form) (rows : List R) → AreLinesOf f rows groups.now
-        → IfOk result (λ pieces. pieces ≡ lines_in f rows) }
+        → IfOk result (λ parts. parts_text parts.items ≡ lead.now ++ lines_in f rows) }
 {
     let mut parts = Vec::new(alloc);
     for group in groups {
         add_parts(&mut parts, group.as_slice())?;
     }
     parts.sort_by_key(|part| part.time)?;
-    pieces_of(alloc, parts.as_slice())
+    parts.insert(
+        0,
+        TickPart {
+            time: 0,
+            text: lead,
+        },
+    )?;
+    Ok(parts)
 }
 
 /// The lines of some members together, in order of ticks.
@@ -52,17 +60,6 @@ fn add_parts<'a>(parts: &mut Vec<TickPart<'a>>, all: &'a [Lines]) -> Result<(), 
         own.put_parts(parts)?;
     }
     Ok(())
-}
-
-// The texts of these parts, one after the other.
-fn pieces_of<'a>(alloc: Global, parts: &[TickPart<'a>]) -> Result<Pieces<'a>, AllocError>
-    ensures { IfOk result (λ pieces. pieces ≡ flat_map (λ p. p.text.now) parts.now) }
-{
-    let mut pieces = Pieces::new(alloc);
-    for part in parts {
-        pieces.put(part.text)?;
-    }
-    Ok(pieces)
 }
 
 // These parts, those of one tick that stand beside each other together.

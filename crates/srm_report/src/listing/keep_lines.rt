@@ -3,13 +3,18 @@ ghost use Rattle.std.specs.Prelude.{◌≡◌, [], All, length};
 
 use crate::listing::Listing;
 use crate::listing::in_order::together;
+use crate::listing::line::Line;
 use crate::listing::lines::Lines;
 use srm_interfaces::watch::Watch;
 use srm_member::row::Row;
 use std::alloc::{AllocError, Global};
 
+// Lines are put together where parts have fewer bytes, most of them.
+const LONG_PART: usize = 4_096;
+
 /// Keeps the lines that the rows of a member have in a table which lists rows, and no row. Where more than one of a job's members
-/// have lines, they are put together as the job is done: then they stand in order of ticks, as what the first member has.
+/// have lines, in short parts, they are put together as the job is done: then they stand in order of ticks, as what the first
+/// member has.
 #[derive(Clone, Copy)]
 pub struct KeepLines<L> {
     /// The memory that is taken for lines.
@@ -36,15 +41,16 @@ impl<L: Listing> Watch<Lines> for KeepLines<L> {
 
     fn add(&self, kept: &mut Lines, rows: &[Row]) -> Result<(), AllocError> {
         kept.reserve(rows.len())?;
+        // each line in turn is made in the same memory
+        let mut line = Line::new();
         for row in rows {
-            kept.put::<L>(row)?;
+            kept.put::<L>(&mut line, row)?;
         }
         Ok(())
     }
 
     fn close(&self, kept: &mut [Lines]) -> Result<(), AllocError> {
-        // Where fewer than two have lines, all are together.
-        if kept.len() < 2 || kept.iter().filter(|own| own.len() > 0).count() < 2 {
+        if kept.len() < 2 || !are_short(kept) {
             return Ok(());
         }
         let lines = together(self.alloc, kept)?;
@@ -52,6 +58,19 @@ impl<L: Listing> Watch<Lines> for KeepLines<L> {
         kept[0] = lines;
         Ok(())
     }
+}
+
+// Whether more than one of these members have lines, in parts that are short: long ones are written as they stand.
+fn are_short(all: &[Lines]) -> bool {
+    let mut members: usize = 0;
+    let mut parts: usize = 0;
+    let mut bytes: usize = 0;
+    for own in all {
+        members = members.saturating_add((own.len() > 0) as usize);
+        parts = parts.saturating_add(own.len());
+        bytes = bytes.saturating_add(own.bytes());
+    }
+    members > 1 && bytes < parts.saturating_mul(LONG_PART)
 }
 
 // Takes all lines out.

@@ -8,10 +8,10 @@ use itoa::write_digits;
 // them in a name with two slashes, a word of up to 7 letters, 12 commas with the one before the first field, and a line feed.
 const SIZE: usize = 320;
 
-// A line that is written from its end to its front, as the digits of a number are: so each byte goes to its place at once. It
-// ends in a line feed from the start on, and each field has a comma before it, also the first.
+/// A line that is written from its end to its front, as the digits of a number are: so each byte goes to its place at once. It
+/// ends in a line feed from the start on, and each field has a comma before it, also the first.
 #[derive(Drop)]
-pub(crate) struct Line {
+pub struct Line {
     bytes: [u8; SIZE],
     // Where that which is written starts.
     start: usize,

@@ -4,6 +4,7 @@ ghost use Rattle.std.proofs.Math.ListN.{get_or};
 ghost use Rattle.srm_report.specs.KeptLines.{line_behind, parts_seen, start_at};
 
 use crate::listing::Listing;
+use crate::listing::line::Line;
 use crate::listing::tick_part::TickPart;
 use srm_member::row::Row;
 use std::alloc::{AllocError, Global};
@@ -80,19 +81,18 @@ impl Lines {
     pub fn reserve(&mut self, more: usize) -> Result<(), AllocError>
         ensures { self.new ≡ self.old }
     {
-        self.ends.reserve(more)?;
         self.text.reserve(more.saturating_mul(USUAL_LINE))
     }
 
-    /// Puts the lines of a row in a table behind the others.
+    /// Puts the lines of a row in a table behind the others. They are made in `line`, whatever it has.
     ///
     /// # Errors
     /// [`AllocError`]: the lines are as they were.
-    pub fn put<L: Listing>(&mut self, row: &Row) -> Result<(), AllocError>
+    pub fn put<L: Listing>(&mut self, line: &mut Line, row: &Row) -> Result<(), AllocError>
         ensures { self.new ≡ (if is_ok result then line_behind self.old row.now.key.time (L.form.line row.now) else self.old) }
     {
         self.ends.reserve(1)?;
-        L::put_line(&mut self.text, row)?;
+        L::put_line(line, &mut self.text, row)?;
         let time = row.key.time;
         let end = self.text.len();
         let count = self.ends.len();
@@ -146,6 +146,11 @@ impl Lines {
         ensures { result ≡ length self.now }
     {
         self.ends.len()
+    }
+
+    /// How many bytes they have.
+    pub(crate) fn bytes(&self) -> usize {
+        self.text.len()
     }
 
     /// The tick of a part.

@@ -1,10 +1,9 @@
 //! A table that lists rows, written as they come.
-ghost use Rattle.std.specs.Prelude.{◌≡◌, ◌<◌, ◌+◌, ◌-◌, ◌^◌, ◌≤◌, ◌==◌, ◌||◌, List, [], false, true, is_ok, not, if◌then◌else◌, length, IfErr, IfOk};
+ghost use Rattle.std.specs.Prelude.{◌≡◌, ◌<◌, ◌+◌, ◌-◌, ◌^◌, ◌≤◌, ◌==◌, ◌||◌, ◌++◌, List, [], false, true, IsTrue, is_ok, not, if◌then◌else◌, length, IfOk};
 ghost use Rattle.srm_member.specs.declared.row.Row.{Row as R};
 ghost use Rattle.srm_interfaces.specs.Grouped.{sizes};
 ghost use Rattle.srm_interfaces.specs.Sinks.{stops_in};
-ghost use Rattle.srm_report.specs.KeptLines.{AreLinesOf};
-ghost use Rattle.srm_report.specs.Pieces.{whole_text};
+ghost use Rattle.srm_report.specs.KeptLines.{AreLinesOf, parts_text};
 ghost use Rattle.srm_report.specs.Standings.{text_next, after_answer, TakesText};
 
 use crate::fault::ReportFault;
@@ -12,13 +11,16 @@ use crate::listing::Listing;
 use crate::listing::in_order::put_in_order;
 use crate::listing::lines::Lines;
 use crate::listing::standing::Standing;
-use crate::listing::text_piece::TextPiece;
+use crate::listing::tick_part::TickPart;
 use crate::outlet::Outlet;
 use crate::writing::{WriteFault, write_out};
 use srm_interfaces::kept_sink::KeptSink;
 use srm_interfaces::sink::{RowSink, SinkFault};
 use srm_member::row::Row;
 use std::alloc::Global;
+
+// How long a text may get to which parts are put, before it is written. Each write is a call of the system.
+const SHORT: usize = 65_536;
 
 /// Writes a table that lists rows, such as a trace, to an outlet as the rows come, with the header before the first of them. Short
 /// pieces may be gathered before they are written, but not the header and the first rows, so that a long run is seen to go. `flush`
@@ -54,26 +56,14 @@ fn text_of<L: Listing>(
     }
 }
 
-// The same in pieces, of rows of which these are the lines of all members. A header is a piece of its own.
-fn pieces_of_lines<'a, L: Listing>(
-    alloc: Global,
-    standing: Standing,
-    groups: &'a [Vec<Lines>],
-) -> Result<Vec<TextPiece<'a>>, ReportFault>
-    ensures { (rows : List R) → AreLinesOf L.form rows groups.now
-        → IfOk result (λ pieces. whole_text pieces.items ≡ text_next L.form standing rows) }
+// Puts a part behind a text if there is room, and tells whether it did.
+fn is_put(text: &mut Vec<u8>, part: &[u8]) -> bool
+    ensures { text.new.items ≡ (if result then text.old.items ++ part.now else text.old.items) }
 {
-    let mut pieces = put_in_order(alloc, groups)?.into_pieces()?;
-    match standing {
-        Standing::Fresh => {
-            let text = L::text(alloc, &[])?;
-            match pieces.insert(0, TextPiece::Own { text }) {
-                Ok(()) => Ok(pieces),
-                Err(_) => Err(ReportFault::NoMemory),
-            }
-        }
-        Standing::Live | Standing::NoMemory | Standing::Stopped => Ok(pieces),
+    if text.len() + part.len() > SHORT {
+        return false;
     }
+    text.extend_from_slice(part).is_ok()
 }
 
 // Where a sink stands after this answer.
@@ -91,8 +81,7 @@ fn standing_after(answer: &Result<(), SinkFault>) -> Standing
 fn write<O: Outlet>(outlet: &mut O, written: &mut u64, text: &[u8]) -> Result<(), SinkFault>
     requires { O.failures outlet.old < 2 ^ 64 - 1 }
     ensures failures { O.failures outlet.new ≡ O.failures outlet.old + stops_in result }
-    ensures told { IfErr result (λ fault. fault ≡ SinkFault.Stopped written.new) }
-    ensures taken { TakesText O.taken outlet.old written.old text.now result outlet.new written.new }
+    ensures taken { TakesText O.taken outlet.old written.old text.now result outlet.new written.new [] }
 {
     match write_out(outlet, text) {
         Ok(()) => {
@@ -106,9 +95,57 @@ fn write<O: Outlet>(outlet: &mut O, written: &mut u64, text: &[u8]) -> Result<()
     }
 }
 
+// The same of a text and a part after it. The text is empty then.
+fn write_both<O: Outlet>(
+    outlet: &mut O,
+    written: &mut u64,
+    text: &mut Vec<u8>,
+    part: &[u8],
+) -> Result<(), SinkFault>
+    requires { O.failures outlet.old < 2 ^ 64 - 1 }
+    ensures failures { O.failures outlet.new ≡ O.failures outlet.old + stops_in result }
+    ensures taken { TakesText O.taken outlet.old written.old (text.old.items ++ part.now) result outlet.new written.new
+        text.new.items }
+    ensures empty { text.new.items ≡ [] }
+{
+    let answer = write(outlet, written, text.as_slice());
+    text.clear();
+    match answer {
+        Ok(()) => write(outlet, written, part),
+        Err(fault) => Err(fault),
+    }
+}
+
+// Puts parts behind a text, and writes it with each part for which it has no room. Tells whether nothing was written. After a fault
+// the text is empty.
+fn put_each<O: Outlet>(
+    outlet: &mut O,
+    written: &mut u64,
+    text: &mut Vec<u8>,
+    parts: &[TickPart],
+) -> Result<bool, SinkFault>
+    requires { O.failures outlet.old < 2 ^ 64 - 1 }
+    ensures failures { O.failures outlet.new ≡ O.failures outlet.old + stops_in result }
+    ensures taken { TakesText O.taken outlet.old written.old (text.old.items ++ parts_text parts.now) result outlet.new
+        written.new text.new.items }
+    ensures whole { IfOk result (λ is_whole. IsTrue is_whole → text.new.items ≡ text.old.items ++ parts_text parts.now) }
+{
+    let mut is_whole = true;
+    for part in parts {
+        if is_put(text, part.text) {
+            continue;
+        }
+        is_whole = false;
+        match write_both(outlet, written, text, part.text) {
+            Ok(()) => {}
+            Err(fault) => return Err(fault),
+        }
+    }
+    Ok(is_whole)
+}
+
 impl<'a, L: Listing, O: Outlet> ListingSink<'a, L, O> {
     ghost use Rattle.srm_interfaces.specs.declared.sink.Stage.{Stage as AStage};
-    ghost use Rattle.std.specs.Prelude.{MatchResult};
     ghost use Rattle.srm_interfaces.specs.Sinks.{IsOpen};
     ghost use Rattle.srm_report.specs.ListingSinks.{stage_of, standing_of, has_begun, outlet_under, gathered_by, gathering_room, written_by, AreOverOne, Answers, PutsText, Flushes};
 
@@ -162,7 +199,7 @@ impl<'a, L: Listing, O: Outlet> ListingSink<'a, L, O> {
         ensures flushed { Flushes O.taken self.old result self.new }
         ensures begun { has_begun self.new ≡ has_begun self.old }
     {
-        match self.write_through(&[]) {
+        match write_both(self.outlet, &mut self.written, &mut self.gathered, &[]) {
             Ok(()) => Ok(()),
             Err(_) => {
                 self.standing = Standing::Stopped;
@@ -188,7 +225,8 @@ impl<'a, L: Listing, O: Outlet> ListingSink<'a, L, O> {
         ensures text { PutsText O.taken self.old (text_next L.form (standing_of self.old) rows.items) result self.new }
     {
         match text_of::<L>(alloc, self.standing, rows.as_slice()) {
-            Ok(text) => self.put(&[TextPiece::Part {
+            Ok(text) => self.put(&[TickPart {
+                time: 0,
                 text: text.as_slice(),
             }]),
             Err(ReportFault::NoMemory) => Err(SinkFault::NoMemory),
@@ -202,46 +240,26 @@ impl<'a, L: Listing, O: Outlet> ListingSink<'a, L, O> {
         ensures text { (rows : List R) → AreLinesOf L.form rows groups.now
             → PutsText O.taken self.old (text_next L.form (standing_of self.old) rows) result self.new }
     {
-        match pieces_of_lines::<L>(alloc, self.standing, groups) {
-            Ok(pieces) => self.put(pieces.as_slice()),
-            Err(ReportFault::NoMemory) => Err(SinkFault::NoMemory),
+        let Ok(lead) = text_of::<L>(alloc, self.standing, &[]) else {
+            return Err(SinkFault::NoMemory);
+        };
+        match put_in_order(alloc, lead.as_slice(), groups) {
+            Ok(parts) => self.put(parts.as_slice()),
+            Err(_) => Err(SinkFault::NoMemory),
         }
     }
 
-    // Puts a text in pieces: gathers it where it is one and there is room, or writes it after what is gathered.
-    fn put(&mut self, pieces: &[TextPiece]) -> Result<(), SinkFault>
+    // Puts a text in parts: gathers it where there is room, or writes it after what is gathered.
+    fn put(&mut self, parts: &[TickPart]) -> Result<(), SinkFault>
         requires failures { O.failures (outlet_under self.old) < 2 ^ 64 - 1 }
         ensures sink { Answers O.Outlet self.old result self.new }
-        ensures text { PutsText O.taken self.old (whole_text pieces.now) result self.new }
+        ensures text { PutsText O.taken self.old (parts_text parts.now) result self.new }
     {
-        if self.has_begun
-            && let [piece] = pieces
-        {
-            let text = piece.bytes();
-            if self.gathered.len() + text.len() <= self.room {
-                return match self.gathered.extend_from_slice(text) {
-                    Ok(()) => Ok(()),
-                    Err(_) => Err(SinkFault::NoMemory),
-                };
-            }
+        let is_whole = put_each(self.outlet, &mut self.written, &mut self.gathered, parts)?;
+        if is_whole && self.has_begun && self.gathered.len() <= self.room {
+            return Ok(());
         }
-        self.write_through(pieces)
-    }
-
-    // Writes what is gathered, and the pieces of a text after it. It does not allocate.
-    fn write_through(&mut self, pieces: &[TextPiece]) -> Result<(), SinkFault>
-        requires failures { O.failures (outlet_under self.old) < 2 ^ 64 - 1 }
-        ensures sink { Answers O.Outlet self.old result self.new }
-        ensures text { PutsText O.taken self.old (whole_text pieces.now) result self.new }
-        ensures through { MatchResult result (λ _. gathered_by self.new ≡ [])
-            (λ fault. fault ≡ SinkFault.Stopped (written_by self.new)) }
-    {
-        write(self.outlet, &mut self.written, self.gathered.as_slice())?;
-        self.gathered.clear();
-        for piece in pieces {
-            write(self.outlet, &mut self.written, piece.bytes())?;
-        }
-        Ok(())
+        write_both(self.outlet, &mut self.written, &mut self.gathered, &[])
     }
 }
 

@@ -39,9 +39,8 @@ impl Listing for TimersListing {
         lines_text(alloc, rows)
     }
 
-    fn put_line(text: &mut Vec<u8>, row: &Row) -> Result<(), AllocError> {
-        let mut line = Line::new();
-        append_row(text, &mut line, row)
+    fn put_line(line: &mut Line, text: &mut Vec<u8>, row: &Row) -> Result<(), AllocError> {
+        append_row(text, line, row)
     }
 }
 

@@ -39,9 +39,9 @@ impl Listing for TraceListing {
         lines_text(alloc, rows)
     }
 
-    fn put_line(text: &mut Vec<u8>, row: &Row) -> Result<(), AllocError> {
-        let mut line = Line::new();
-        put_row(&mut line, row);
+    fn put_line(line: &mut Line, text: &mut Vec<u8>, row: &Row) -> Result<(), AllocError> {
+        line.clear();
+        put_row(line, row);
         text.extend_from_slice(line.text())?;
         Ok(())
     }

@@ -1,14 +1,12 @@
-use Rattle.std.proofs.Common.{rules, ◌≡◌, ◌∙◌, ◌++◌, take, ap, sym}
-use Rattle.std.proofs.lemmas.Result.{IfOk-weaker}
+use Rattle.std.proofs.Common.{rules, ◌∙◌, ◌++◌, ℕ, List, take, ap, sym}
 use Rattle.std.proofs.lemmas.List.{take_all}
 use Rattle.std.proofs.lemmas.List.Sorted.{answers_always, IsNonDecreasingBy-from_sort, length_permutation}
-use Rattle.std.specs.List.{flat_map}
 use Rattle.srm_cell.specs.Crossings.{joined}
 use Rattle.srm_cell.proofs.RowPackets.{joined-append}
 use Rattle.srm_interfaces.specs.Grouped.{all_in}
 use Rattle.srm_interfaces.proofs.GroupedLemmas.{all_in_more}
 use Rattle.srm_report.specs.declared.listing.tick_part.TickPart.{TickPart}
-use Rattle.srm_report.specs.Listings.{lines_in}
+use Rattle.srm_report.specs.KeptLines.{parts_text}
 use Rattle.srm_report.proofs.TickLemmas.{sorted_texts}
 use Rattle.srm_report.proofs.listing.in_order.put_in_order.Goals as goal
 
@@ -31,8 +29,7 @@ returns c f rows are =
     let all = c.loop-group.invariant ∙ ap (λ l. joined (all_in l)) (take_all c.loop-group.group-index groups c.loop-group-test.false) in
     let stable = c.sort_by_key.ensures.stable time (answers_always _ _ _ (λ f a r f' k. search rules)) in
     let order = c.in_ok-sort_by_key.ensures.sorted time (answers_always _ _ _ (λ f a r f' k. search rules)) in
-    IfOk-weaker c.pieces_of.result _ (λ pieces. pieces ≡ lines_in f rows)
-    (λ pieces e. e ∙ ap (flat_map (λ (p : TickPart). p.text.now)) c.as_slice-2.ensures.value
-    ∙ sorted_texts f rows parts sorted groups are all (length_permutation parts sorted c.sort_by_key.ensures.permutation) stable
+    ap parts_text c.in_ok-insert.ensures.items
+    ∙ ap (λ (l : List ℕ). c.args.lead.now ++ l)
+    (sorted_texts f rows parts sorted groups are all (length_permutation parts sorted c.sort_by_key.ensures.permutation) stable
     (IsNonDecreasingBy-from_sort time sorted order))
-    c.pieces_of.ensures

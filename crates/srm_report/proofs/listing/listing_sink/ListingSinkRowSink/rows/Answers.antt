@@ -4,7 +4,7 @@ use Rattle.srm_report.proofs.listing.listing_sink.ListingSinkRowSink.rows.Goals 
 pub returns-clause-rows : goal.returns-clause-rows
 returns-clause-rows g c =
     rows_put g.O.Outlet.taken g.L.Listing.form c.args.self.now c.put_rows-answer.new.self c.args.rows.items c.put_rows-answer.result
-    c.if-self.self c.standing_after-self.result _ c.put_rows-answer.ensures.text c.standing_after-self.ensures
+    c.if-self.self c.standing_after-self.result c.put_rows-answer.ensures.text c.standing_after-self.ensures
 
 pub returns-clause-gathered : goal.returns-clause-gathered
 returns-clause-gathered g c =
