@@ -4,7 +4,7 @@ ghost use Rattle.std.specs.List.{range_with_len};
 ghost use Rattle.srm_net.specs.Limits.{most_nodes};
 ghost use denote.Param.Send.{IsSync};
 ghost use Rattle.srm_cell.specs.Jobs.{MayAdvance, Advances};
-ghost use Rattle.srm_interfaces.specs.Crews.{Maps};
+ghost use Rattle.srm_interfaces.specs.Crews.{MayMap, Maps};
 ghost use Rattle.srm_crew.specs.Shared.{TellsAll};
 
 use crate::bag::Bag;
@@ -60,11 +60,8 @@ impl<R: Threads + Wait + Sync, G: Gate + Sync> BagCrew<R, G> {
         seat: Seat,
         jobs: Vec<Job>,
     ) -> Result<(Vec<Done>, Seat), CrewFault>
-        requires jobs { All (λ j. MayAdvance (λ b. (⟦<dyn Member as Member>⟧ b.vtable).plain b.value)
-            (length net.now.hosts) j) jobs.items }
-        requires many { length jobs.items ≤ most_nodes }
-        requires links { ledger.now.links ≡ length net.now.links }
-        requires seat { seat.ledger ≡ ledger.now.name }
+        requires { MayMap (λ b. (⟦<dyn Member as Member>⟧ b.vtable).plain b.value) net.now ledger.now seat
+            jobs.items }
         ensures { Maps (λ b. (⟦<dyn Member as Member>⟧ b.vtable).plain b.value) scenario.now net.now seat
             jobs.items result }
     {
@@ -148,12 +145,9 @@ impl<R: Threads + Wait + Sync> Crew<Box<dyn Member>> for BagCrew<R, OpenGate> {
         jobs: Vec<Job>,
     ) -> Result<(Vec<Done>, Seat), CrewFault>
         requires ready { IsSync R.row }
-        requires jobs { All (λ j. MayAdvance (λ b. (⟦<dyn Member as Member>⟧ b.vtable).plain b.value)
-            (length net.now.hosts) j) jobs.items }
-        requires many { length jobs.items ≤ most_nodes }
+        requires may { MayMap (λ b. (⟦<dyn Member as Member>⟧ b.vtable).plain b.value) net.now ledger.now seat
+            jobs.items }
         requires places { map (λ j. j.place) jobs.items ≡ range_with_len 0 (length jobs.items) }
-        requires links { ledger.now.links ≡ length net.now.links }
-        requires seat { seat.ledger ≡ ledger.now.name }
         ensures ready { IsSync R.row }
         ensures done { Maps (λ b. (⟦<dyn Member as Member>⟧ b.vtable).plain b.value) scenario.now net.now seat
             jobs.items result }

@@ -1,10 +1,9 @@
 //! A crew of the threads that `rayon` runs.
-ghost use Rattle.std.specs.Prelude.{◌≡◌, ◌≤◌, length, map, All, IfOk};
+ghost use Rattle.std.specs.Prelude.{◌≡◌, length, map, All, IfOk};
 ghost use Rattle.std.specs.List.{range_with_len};
-ghost use Rattle.srm_net.specs.Limits.{most_nodes};
 ghost use denote.Param.Send.{IsSync};
 ghost use Rattle.srm_cell.specs.Jobs.{MayAdvance, Advances};
-ghost use Rattle.srm_interfaces.specs.Crews.{AdvanceEach, GathersEach, Maps};
+ghost use Rattle.srm_interfaces.specs.Crews.{AdvanceEach, GathersEach, Maps, MayMap};
 
 use crate::add::settle;
 use rayon::current_num_threads;
@@ -107,11 +106,9 @@ impl<R: Threads + Sync> Crew<Box<dyn Member>> for PoolCrew<R> {
         jobs: Vec<Job>,
     ) -> Result<(Vec<Done>, Seat), CrewFault>
         requires ready { IsSync R.row }
-        requires jobs { All (λ j. MayAdvance (λ b. (⟦<dyn Member as Member>⟧ b.vtable).plain b.value) (length net.now.hosts) j) jobs.items }
-        requires many { length jobs.items ≤ most_nodes }
+        requires may { MayMap (λ b. (⟦<dyn Member as Member>⟧ b.vtable).plain b.value) net.now ledger.now seat
+            jobs.items }
         requires places { map (λ j. j.place) jobs.items ≡ range_with_len 0 (length jobs.items) }
-        requires links { ledger.now.links ≡ length net.now.links }
-        requires seat { seat.ledger ≡ ledger.now.name }
         ensures ready { IsSync R.row }
         ensures done { Maps (λ b. (⟦<dyn Member as Member>⟧ b.vtable).plain b.value) scenario.now net.now seat jobs.items result }
         ensures handed { IfOk result (λ _. self.new ≡ self.old) }

@@ -4,7 +4,7 @@ ghost use Rattle.std.specs.List.{AllZip};
 ghost use Rattle.srm_cell.specs.Setting.{traffic_of};
 ghost use Rattle.srm_cell.specs.Hearing.{IsSent, packets_in};
 ghost use Rattle.srm_interfaces.specs.Hearers.{GroupsMayHear, TellsHeard};
-ghost use Rattle.srm_interfaces.specs.Watches.{AdvanceWatched, KeepClosed, MayMap, MapsWatched};
+ghost use Rattle.srm_interfaces.specs.Watches.{AdvanceWatched, KeepClosed, MayMapWatched, MapsWatched};
 ghost use Rattle.srm_crew.specs.Watched.{IsWatchOn, MayWatch};
 
 use crate::add::settle;
@@ -203,7 +203,7 @@ impl<'a, R: Wait, M: Participant, K: Drop, W: Watch<K> + Copy, J: Naming> WatchC
     ) -> Result<(Vec<WatchedDone<M, K>>, Seat), CrewFault>
         requires ready { Unit {0} }
         requires serves { IsWatchOn self.old.work session.scenario.now session.net.now }
-        requires may { MayMap M.plain session.net.now ledger.now seat jobs.items }
+        requires may { MayMapWatched M.plain session.net.now ledger.now seat jobs.items }
         ensures ready { Unit {0} }
         ensures serves { IsWatchOn self.new.work session.entry.scenario.now session.entry.net.now }
         ensures done { MapsWatched M.plain (KeepClosed (W.keeps watch) (W.closes watch)) session.entry.scenario.now

@@ -14,10 +14,10 @@ use Rattle.srm_cell.specs.Cells.{OwnCell}
 use Rattle.srm_cell.specs.Views.{IsNew, IsSoundCell}
 use Rattle.srm_cell.specs.Jobs.{MayAdvance}
 use Rattle.srm_interfaces.specs.declared.watched.WatchedJob.{WatchedJob}
-use Rattle.srm_interfaces.specs.Watches.{HaveKept, job_in, jobs_in}
-use Rattle.srm_interfaces.specs.Watches as watches
-use Rattle.srm_crew_tests.specs.Handed.{MayMap, AreKnown, IsWatchedAs}
-use Rattle.srm_net.specs.Limits.{end_of_time, most_nodes}
+use Rattle.srm_interfaces.specs.Crews.{MayMap}
+use Rattle.srm_interfaces.specs.Watches.{HaveKept, MayMapWatched, job_in, jobs_in}
+use Rattle.srm_crew_tests.specs.Handed.{AreInPlace, AreKnown, IsWatchedAs}
+use Rattle.srm_net.specs.Limits.{end_of_time}
 
 range_more : (a n : ℕ) → range_with_len a (suc n) ≡ range_with_len a n ++ (a + n) ∷ []
 range_more a zero = ap (λ k. k ∷ []) (sym (add-zero a))
@@ -28,11 +28,11 @@ range_more a (suc n) =
 module _ {M : Type 0} (f : M → Record) (n : ℕ) where
   -- ---- jobs
 
-  pub none_handed : MayMap {M = M} f n []
+  pub none_handed : AreInPlace {M = M} f n []
   none_handed = record { jobs = All-nil (λ (j : Job M). MayAdvance f n j); places = refl; few = omega arith }
 
-  pub one_more : (js : List (Job M)) (j : Job M) → MayMap f n js → j.place ≡ length js → length js < 1024 → MayAdvance f n j
-      → MayMap f n (js ++ j ∷ [])
+  pub one_more : (js : List (Job M)) (j : Job M) → AreInPlace f n js → j.place ≡ length js → length js < 1024 → MayAdvance f n j
+      → AreInPlace f n (js ++ j ∷ [])
   one_more js j h at few may = record {
     jobs = All-push (λ (j : Job M). MayAdvance f n j) js j h.jobs may;
     places =
@@ -78,15 +78,12 @@ module _ {M K : Type 0} where
 
   -- jobs that a crew may be handed it may be handed watched
   pub may_watch : (f : M → Record) (net : Network) (ledger : LedgerView) (seat : SeatView) (js : List (Job M)) (ws : List (WatchedJob M K))
-      → AllZip (λ j w. IsWatchedAs j w) js ws → MayMap f (length net.hosts) js → ledger.links ≡ length net.links
-      → seat.ledger ≡ ledger.name → watches.MayMap f net ledger seat ws
+      → AllZip (λ j w. IsWatchedAs j w) js ws → AreInPlace f (length net.hosts) js → ledger.links ≡ length net.links
+      → seat.ledger ≡ ledger.name → MayMapWatched f net ledger seat ws
   may_watch f net ledger seat js ws z h links name =
       let is = jobs_are js ws z in
       let long : length ws ≡ length js = sym (length-map ws job_in) ∙ ap (λ (l : List (Job M)). length l) is in record {
-        jobs = subst (All (λ j. MayAdvance f (length net.hosts) j)) (sym is) h.jobs;
+        may = subst (MayMap f net ledger seat) (sym is) (record { jobs = h.jobs; many = h.few; links = links; of_ledger = name });
         kept = are_kept js ws z;
-        many = subst (λ n. n ≤ most_nodes) (sym long) h.few;
         places = placed ws ∙ ap (map (λ (j : Job M). j.place)) is ∙ h.places ∙ ap (λ n. range_with_len 0 n) (sym long);
-        links = links;
-        of_ledger = name;
       }

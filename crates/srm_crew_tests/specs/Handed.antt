@@ -10,8 +10,8 @@ use Rattle.srm_interfaces.specs.Watches.{HaveKept, job_in}
 use Rattle.srm_cell.specs.Jobs.{AreMembers, AreSound, MayAdvance, own_cells}
 
 module _ {M : Type 0} where
-  -- a crew may be handed these jobs: each may be advanced, they stand in the order of their places, and are few
-  pub record MayMap (f : M → Record) (members : ℕ) (js : List (Job M)) : Type 0 where
+  -- each of these jobs may be advanced, they stand in the order of their places, and are few
+  pub record AreInPlace (f : M → Record) (members : ℕ) (js : List (Job M)) : Type 0 where
     pub jobs : All (λ j. MayAdvance f members j) js
     pub places : map (λ j. j.place) js ≡ range_with_len 0 (length js)
     pub few : length js ≤ most_nodes

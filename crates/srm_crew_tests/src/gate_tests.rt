@@ -1,7 +1,7 @@
 //! Jobs that wait for each other at the gate.
 ghost use Rattle.std.specs.Prelude.{◌≡◌, ◌≤◌, length, IfOk};
 ghost use denote.Param.Send.{IsSync};
-ghost use Rattle.srm_crew_tests.specs.Handed.{MayMap};
+ghost use Rattle.srm_crew_tests.specs.Handed.{AreInPlace};
 
 use crate::crew_tests::handing::{idle_jobs, opened};
 use crate::crew_tests::run_context::RunContext;
@@ -33,7 +33,7 @@ fn map_jobs<R: Threads + Wait + Sync, G: Gate + Sync>(
     requires ready { IsSync R.row }
     requires links { context.now.ledger.now.links ≡ length context.now.net.now.links }
     requires seat { seat.ledger ≡ context.now.ledger.now.name }
-    requires jobs { MayMap (λ b. (⟦<dyn Member as Member>⟧ b.vtable).plain b.value)
+    requires jobs { AreInPlace (λ b. (⟦<dyn Member as Member>⟧ b.vtable).plain b.value)
         (length context.now.net.now.hosts) jobs.items }
     ensures { IfOk result (λ r. r.1.ledger ≡ context.now.ledger.now.name) }
 {

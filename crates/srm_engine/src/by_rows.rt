@@ -4,7 +4,7 @@ ghost use Rattle.srm_cell.specs.Setting.{traffic_of};
 ghost use Rattle.srm_cell.specs.Hearing.{IsSent, packets_in};
 ghost use Rattle.srm_interfaces.specs.Crews.{plain_jobs};
 ghost use Rattle.srm_interfaces.specs.Hearers.{GroupsMayHear, TellsHeard};
-ghost use Rattle.srm_interfaces.specs.Watches.{jobs_in, KeepClosed, MayMap, MapsWatched};
+ghost use Rattle.srm_interfaces.specs.Watches.{jobs_in, KeepClosed, MayMapWatched, MapsWatched};
 ghost use Rattle.srm_engine.specs.ByRows.{kept_in, LeftEach, MayLeave};
 
 use srm_cell::cell::Cell;
@@ -102,7 +102,7 @@ impl<'a, M: Participant, K: Drop, W: Watch<K> + Drop, C: Crew<M>> WatchCrew<M, K
     ) -> Result<(Vec<WatchedDone<M, K>>, Seat), CrewFault>
         requires ready { C.ready self.old.crew.now }
         requires serves { Unit {0} }
-        requires may { MayMap M.plain session.net.now ledger.now seat jobs.items }
+        requires may { MayMapWatched M.plain session.net.now ledger.now seat jobs.items }
         ensures ready { C.ready self.new.crew.now }
         ensures serves { Unit {0} }
         ensures same { self.new.crew.ghost_name ≡ self.old.crew.ghost_name }

@@ -1,9 +1,7 @@
 //! A crew that notes what it is handed.
-ghost use Rattle.std.specs.Prelude.{◌≡◌, ◌≤◌, ◌∷◌, ◌++◌, [], length, map, All, IfOk};
+ghost use Rattle.std.specs.Prelude.{◌≡◌, ◌∷◌, ◌++◌, [], length, map, IfOk};
 ghost use Rattle.std.specs.List.{range_with_len};
-ghost use Rattle.srm_net.specs.Limits.{most_nodes};
-ghost use Rattle.srm_cell.specs.Jobs.{MayAdvance};
-ghost use Rattle.srm_interfaces.specs.Crews.{Maps, plain_jobs};
+ghost use Rattle.srm_interfaces.specs.Crews.{Maps, MayMap, plain_jobs};
 ghost use Rattle.srm_engine_and_report_tests.specs.Recorded.{notes_of, noted_none, noted_more};
 
 use srm_cell::job::{Done, Job};
@@ -91,11 +89,8 @@ impl<M: Participant> Crew<M> for Recording {
         jobs: Vec<Job<M>>,
     ) -> Result<(Vec<Done<M>>, Seat), CrewFault>
         requires ready { Unit {0} }
-        requires jobs { All (λ j. MayAdvance M.plain (length net.now.hosts) j) jobs.items }
-        requires many { length jobs.items ≤ most_nodes }
+        requires may { MayMap M.plain net.now ledger.now seat jobs.items }
         requires places { map (λ j. j.place) jobs.items ≡ range_with_len 0 (length jobs.items) }
-        requires links { ledger.now.links ≡ length net.now.links }
-        requires seat { seat.ledger ≡ ledger.now.name }
         ensures ready { Unit {0} }
         ensures done { Maps M.plain scenario.now net.now seat jobs.items result }
         ensures handed { IfOk result (λ _. self.new.calls.items

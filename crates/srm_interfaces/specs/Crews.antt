@@ -1,12 +1,14 @@
 -- What crews are handed, and what they tell.
-use Rattle.std.specs.Prelude.{◌≡◌, ◌⊎◌, ◌<◌, ◌+◌, ◌^◌, ℕ, List, [], ◌∷◌, ◌++◌, map, slice_index, Result, Ok, Err}
+use Rattle.std.specs.Prelude.{◌≡◌, ◌⊎◌, ◌<◌, ◌≤◌, ◌+◌, ◌^◌, ℕ, List, [], ◌∷◌, ◌++◌, All, length, map, slice_index}
+use Rattle.std.specs.Prelude.{Result, Ok, Err}
 use Rattle.std.specs.List.{AllZip, Contains}
 use Rattle.std.specs.Global.{Vec}
+use Rattle.srm_net.specs.Limits.{most_nodes}
 use Rattle.srm_net.specs.Network.{Network}
 use Rattle.srm_scenario.specs.Plain.{PlainScenario}
 use Rattle.srm_member.specs.declared.row.Row.{Row}
 use Rattle.srm_member.specs.Record.{Record}
-use Rattle.srm_ledger.specs.Seats.{SeatView}
+use Rattle.srm_ledger.specs.Seats.{LedgerView, SeatView}
 use Rattle.srm_cell.specs.declared.job.Job.{Job}
 use Rattle.srm_cell.specs.declared.job.Done as job
 use Rattle.srm_cell.specs.declared.fault.CellFault.{CellFault}
@@ -15,7 +17,7 @@ use Rattle.srm_cell.specs.Setting.{traffic_of}
 use Rattle.srm_cell.specs.Cells.{OwnCell, PlainCell, StepOutcome, Full, Spent, Stepped}
 use Rattle.srm_cell.specs.OwnRuns.{IsOwnRun}
 use Rattle.srm_cell.specs.Crossings.{joined, crossings}
-use Rattle.srm_cell.specs.Jobs.{PlainJob, FirstEnds, IsDone, plain_job}
+use Rattle.srm_cell.specs.Jobs.{MayAdvance, PlainJob, FirstEnds, IsDone, plain_job}
 use Rattle.srm_interfaces.specs.declared.fault.CrewFault.{CrewFault}
 use Rattle.srm_interfaces.specs.declared.fault.CrewFault.TheVariants as fault
 
@@ -70,6 +72,15 @@ module _ {M : Type 0} where
   -- the jobs as they are seen, where f is what is seen of a box
   abbrev pub plain_jobs : (M → Record) → List (Job M) → List PlainJob
   plain_jobs f js = map (plain_job f) js
+
+  -- a crew may be handed these jobs, in a run on this network, with this seat of this ledger: each may be advanced, and
+  -- they are few
+  pub record MayMap (f : M → Record) (net : Network) (ledger : LedgerView) (seat : SeatView) (js : List (Job M))
+      : Type 0 where
+    pub jobs : All (λ j. MayAdvance f (length net.hosts) j) js
+    pub many : length js ≤ most_nodes
+    pub links : ledger.links ≡ length net.links
+    pub of_ledger : seat.ledger ≡ ledger.name
 
   -- the rows of all that is done
   abbrev pub rows_of : List (job.Done M) → List Row

@@ -2,7 +2,6 @@
 use Rattle.std.specs.Prelude.{◌≡◌, ◌≤◌, ℕ, suc, List, [], ◌∷◌, ◌++◌, All, length, map, Result, Ok, Err}
 use Rattle.std.specs.List.{range_with_len}
 use Rattle.std.specs.Global.{Vec}
-use Rattle.srm_net.specs.Limits.{most_nodes}
 use Rattle.srm_net.specs.Network.{Network}
 use Rattle.srm_scenario.specs.Plain.{PlainScenario}
 use Rattle.srm_scenario.specs.declared.session.Session.{Session}
@@ -15,12 +14,11 @@ use Rattle.srm_cell.specs.declared.job.Done as job
 use Rattle.srm_cell.specs.declared.fault.CellFault.{CellFault}
 use Rattle.srm_cell.specs.Crossings.{crossings, joined, packets_of}
 use Rattle.srm_cell.specs.Hearing.{IsSent, packets_in}
-use Rattle.srm_cell.specs.Jobs.{MayAdvance}
 use Rattle.srm_cell.specs.Setting.{traffic_of}
 use Rattle.srm_interfaces.specs.declared.fault.CrewFault.{CrewFault}
 use Rattle.srm_interfaces.specs.declared.watched.WatchedJob.{WatchedJob}
 use Rattle.srm_interfaces.specs.declared.watched.WatchedDone.{WatchedDone}
-use Rattle.srm_interfaces.specs.Crews.{AdvanceEach, AreDone, HasGrown, Maps, counted_in, rows_of}
+use Rattle.srm_interfaces.specs.Crews.{AdvanceEach, AreDone, HasGrown, Maps, MayMap, counted_in, rows_of}
 
 -- of each cell this is kept: what was kept before, of whichever rows, and these rows
 abbrev pub KeepEach : {K : Type 0} → (K → List Row → Type 0) → List K → List (List Row) → List K → Type 0
@@ -68,16 +66,12 @@ module _ {M K : Type 0} where
   abbrev pub HaveKept : WatchedJob M K → Type 0
   HaveKept j = length j.kept.items ≡ length j.cells.items
 
-  -- a crew may be handed these jobs, in a run on this network, with this seat of this ledger: each may be advanced, and
-  -- they stand in the order of their places, and are few
-  pub record MayMap (f : M → Record) (net : Network) (ledger : LedgerView) (seat : SeatView)
+  -- a crew may be handed these jobs, which stand in the order of their places, and something is kept of each cell
+  pub record MayMapWatched (f : M → Record) (net : Network) (ledger : LedgerView) (seat : SeatView)
       (js : List (WatchedJob M K)) : Type 0 where
-    pub jobs : All (λ j. MayAdvance f (length net.hosts) j) (jobs_in js)
+    pub may : MayMap f net ledger seat (jobs_in js)
     pub kept : All HaveKept js
-    pub many : length js ≤ most_nodes
     pub places : map (λ j. j.place) js ≡ range_with_len 0 (length js)
-    pub links : ledger.links ≡ length net.links
-    pub of_ledger : seat.ledger ≡ ledger.name
 
   -- this is what is left of what is done of a job: where this was kept before, of the rows what is kept of them once
   -- they are taken in, and their packets

@@ -1,9 +1,8 @@
 //! What a crew is.
-ghost use Rattle.std.specs.Prelude.{◌≡◌, ◌≤◌, ◌∷◌, ◌++◌, [], List, length, map, All, IfOk};
+ghost use Rattle.std.specs.Prelude.{◌≡◌, ◌∷◌, ◌++◌, [], List, length, map, IfOk};
 ghost use Rattle.std.specs.List.{range_with_len};
-ghost use Rattle.srm_net.specs.Limits.{most_nodes};
-ghost use Rattle.srm_cell.specs.Jobs.{PlainJob, MayAdvance};
-ghost use Rattle.srm_interfaces.specs.Crews.{Maps, plain_jobs};
+ghost use Rattle.srm_cell.specs.Jobs.{PlainJob};
+ghost use Rattle.srm_interfaces.specs.Crews.{Maps, MayMap, plain_jobs};
 
 use crate::fault::CrewFault;
 use srm_cell::job::{Done, Job};
@@ -39,11 +38,8 @@ pub trait Crew<M: Participant> {
         jobs: Vec<Job<M>>,
     ) -> Result<(Vec<Done<M>>, Seat), CrewFault>
         requires ready { ready self.old }
-        requires jobs { All (λ j. MayAdvance M.plain (length net.now.hosts) j) jobs.items }
-        requires many { length jobs.items ≤ most_nodes }
+        requires may { MayMap M.plain net.now ledger.now seat jobs.items }
         requires places { map (λ j. j.place) jobs.items ≡ range_with_len 0 (length jobs.items) }
-        requires links { ledger.now.links ≡ length net.now.links }
-        requires seat { seat.ledger ≡ ledger.now.name }
         ensures ready { ready self.new }
         ensures done { Maps M.plain scenario.now net.now seat jobs.items result }
         ensures handed { IfOk result (λ _. handed self.old (plain_jobs M.plain jobs.items ∷ []) self.new) };

@@ -7,7 +7,7 @@ ghost use Rattle.srm_cell.specs.Jobs.{PlainJob};
 ghost use Rattle.srm_cell.specs.Hearing.{IsSent, packets_in};
 ghost use Rattle.srm_interfaces.specs.Crews.{plain_jobs};
 ghost use Rattle.srm_interfaces.specs.Hearers.{GroupsMayHear, TellsHeard};
-ghost use Rattle.srm_interfaces.specs.Watches.{jobs_in, MayMap, MapsWatched, KeepClosed};
+ghost use Rattle.srm_interfaces.specs.Watches.{jobs_in, MayMapWatched, MapsWatched, KeepClosed};
 
 use crate::fault::CrewFault;
 use crate::watch::Watch;
@@ -49,7 +49,7 @@ pub trait WatchCrew<M: Participant, K, W: Watch<K>> {
     ) -> Result<(Vec<WatchedDone<M, K>>, Seat), CrewFault>
         requires ready { ready self.old }
         requires serves { serves self.old session.scenario.now session.net.now }
-        requires may { MayMap M.plain session.net.now ledger.now seat jobs.items }
+        requires may { MayMapWatched M.plain session.net.now ledger.now seat jobs.items }
         ensures ready { ready self.new }
         ensures serves { serves self.new session.entry.scenario.now session.entry.net.now }
         ensures same { same self.old self.new }

@@ -1,10 +1,8 @@
 //! Crews of boxes, whichever they are: no bound names a box, so one that is to stand in a bound has a trait that names none.
-ghost use Rattle.std.specs.Prelude.{◌≡◌, ◌≤◌, List, length, map, All};
+ghost use Rattle.std.specs.Prelude.{◌≡◌, length, map};
 ghost use Rattle.std.specs.List.{range_with_len};
 ghost use denote.Param.Send.{IsSync};
-ghost use Rattle.srm_net.specs.Limits.{most_nodes};
-ghost use Rattle.srm_cell.specs.Jobs.{MayAdvance};
-ghost use Rattle.srm_interfaces.specs.Crews.{Maps};
+ghost use Rattle.srm_interfaces.specs.Crews.{MayMap, Maps};
 
 use srm_cell::job::{Done, Job};
 use srm_crew::bag_crew::BagCrew;
@@ -38,12 +36,9 @@ pub(crate) trait BoxCrew {
         jobs: Vec<Job>,
     ) -> Result<(Vec<Done>, Seat), CrewFault>
         requires ready { ready self.old }
-        requires jobs { All (λ j. MayAdvance (λ b. (⟦<dyn Member as Member>⟧ b.vtable).plain b.value)
-            (length net.now.hosts) j) jobs.items }
-        requires many { length jobs.items ≤ most_nodes }
+        requires may { MayMap (λ b. (⟦<dyn Member as Member>⟧ b.vtable).plain b.value) net.now ledger.now seat
+            jobs.items }
         requires places { map (λ j. j.place) jobs.items ≡ range_with_len 0 (length jobs.items) }
-        requires links { ledger.now.links ≡ length net.now.links }
-        requires seat { seat.ledger ≡ ledger.now.name }
         ensures ready { ready self.new }
         ensures done { Maps (λ b. (⟦<dyn Member as Member>⟧ b.vtable).plain b.value) scenario.now net.now seat
             jobs.items result };

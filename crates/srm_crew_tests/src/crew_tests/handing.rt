@@ -4,7 +4,7 @@ ghost use Rattle.srm_net.specs.Limits.{end_of_time, most_sent};
 ghost use Rattle.srm_net.specs.Orders.{Rises};
 ghost use Rattle.srm_scenario.specs.Plain.{mark_cmp, network_of};
 ghost use Rattle.srm_member.specs.Record.{fixed_part};
-ghost use Rattle.srm_crew_tests.specs.Handed.{MayMap, AreKnown};
+ghost use Rattle.srm_crew_tests.specs.Handed.{AreInPlace, AreKnown};
 
 use crate::crew_tests::boxed::BoxCrew;
 use crate::crew_tests::run_context::RunContext;
@@ -92,12 +92,12 @@ pub(crate) fn add_job(
     till: u64,
     cells: Vec<Cell>,
 ) -> Result<(), AllocError>
-    requires jobs { MayMap (λ b. (⟦<dyn Member as Member>⟧ b.vtable).plain b.value)
+    requires jobs { AreInPlace (λ b. (⟦<dyn Member as Member>⟧ b.vtable).plain b.value)
         (length net.now.hosts) jobs.old.items }
     requires till { till ≤ end_of_time }
     requires known { AreKnown (λ b. (⟦<dyn Member as Member>⟧ b.vtable).plain b.value)
         (length net.now.hosts) cells.items }
-    ensures { IfOk result (λ _. MayMap (λ b. (⟦<dyn Member as Member>⟧ b.vtable).plain b.value)
+    ensures { IfOk result (λ _. AreInPlace (λ b. (⟦<dyn Member as Member>⟧ b.vtable).plain b.value)
         (length net.now.hosts) jobs.new.items) }
 {
     let place = jobs.len();
@@ -137,7 +137,7 @@ pub(crate) fn idle_jobs(
     net: &Net,
     count: usize,
 ) -> Result<Vec<Job>, AllocError>
-    ensures { IfOk result (λ jobs. MayMap (λ b. (⟦<dyn Member as Member>⟧ b.vtable).plain b.value)
+    ensures { IfOk result (λ jobs. AreInPlace (λ b. (⟦<dyn Member as Member>⟧ b.vtable).plain b.value)
         (length net.now.hosts) jobs.items) }
 {
     let mut jobs = Vec::new(alloc);
@@ -156,7 +156,7 @@ pub(crate) fn map_jobs<C: BoxCrew>(
     jobs: Vec<Job>,
 ) -> Result<(Vec<Done>, Seat), CrewFault>
     requires ready { C.ready crew.old }
-    requires jobs { MayMap (λ b. (⟦<dyn Member as Member>⟧ b.vtable).plain b.value)
+    requires jobs { AreInPlace (λ b. (⟦<dyn Member as Member>⟧ b.vtable).plain b.value)
         (length context.now.net.now.hosts) jobs.items }
     requires links { context.now.ledger.now.links ≡ length context.now.net.now.links }
     requires seat { seat.ledger ≡ context.now.ledger.now.name }

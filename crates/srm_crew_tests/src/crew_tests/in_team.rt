@@ -1,7 +1,7 @@
 //! What a crew of a team gives for a window. Its type names the box, so it can't have the trait that crews of boxes have.
 ghost use Rattle.std.specs.Prelude.{◌≡◌};
 ghost use Rattle.srm_scenario.specs.Plain.{network_of};
-ghost use Rattle.srm_interfaces.specs.Watches.{MayMap};
+ghost use Rattle.srm_interfaces.specs.Watches.{MayMapWatched};
 
 use crate::crew_tests::case::Case;
 use crate::crew_tests::cases::CASES;
@@ -45,7 +45,7 @@ fn map_by_team<'a, M: Participant, J: Naming, R: Wait>(
 ) -> Result<(Vec<WatchedDone<M, Vec<Seen>>>, Seat), CrewFault>
     requires network { context.now.net.now ≡ network_of context.now.scenario.now }
     requires history { history ≡ J.book }
-    requires jobs { MayMap M.plain context.now.net.now context.now.ledger.now seat jobs.items }
+    requires jobs { MayMapWatched M.plain context.now.net.now context.now.ledger.now seat jobs.items }
 {
     let session = Session {
         scenario: context.scenario,

@@ -1,7 +1,7 @@
 //! What each crew gives for a window.
 ghost use Rattle.std.specs.Prelude.{◌≡◌, ◌<◌, length, IfOk};
 ghost use Rattle.srm_scenario.specs.Plain.{network_of};
-ghost use Rattle.srm_crew_tests.specs.Handed.{MayMap};
+ghost use Rattle.srm_crew_tests.specs.Handed.{AreInPlace};
 
 use crate::crew_tests::boxed::BoxCrew;
 use crate::crew_tests::case::Case;
@@ -105,7 +105,7 @@ pub(crate) fn first_jobs(
     watch: &mut MemberWatch,
 ) -> Result<Vec<Job>, AllocError>
     requires { net.now ≡ network_of scenario.now }
-    ensures { IfOk result (λ jobs. MayMap (λ b. (⟦<dyn Member as Member>⟧ b.vtable).plain b.value)
+    ensures { IfOk result (λ jobs. AreInPlace (λ b. (⟦<dyn Member as Member>⟧ b.vtable).plain b.value)
         (length net.now.hosts) jobs.items) }
 {
     assert!(rt; case.till <= LAST_END);

@@ -17,7 +17,7 @@ settle-requires-clause-long g c =
       | else-due-self w ↦ rw w.advanced-is w.advance_in_team-advanced.ensures.advanced
     ]) in
     settled_long g.M.Participant.plain c.args.session.scenario.now c.args.session.net.now takes c.args.jobs.items
-    c.args.ledger.now.links c.if-due-self.advanced (sym c.requires.may.links) told
+    c.args.ledger.now.links c.if-due-self.advanced (sym c.requires.may.may.links) told
 
 pub returns-clause-done : goal.returns-clause-done
 returns-clause-done g c =

@@ -1,11 +1,13 @@
 use Rattle.std.proofs.Common.{◌∙◌}
 use Rattle.srm_crew_tests.proofs.crew_tests.handing.map_jobs.Goals as goal
 
-pub map_boxes-requires-clause-jobs : goal.map_boxes-requires-clause-jobs
-map_boxes-requires-clause-jobs g c = c.requires.jobs.jobs
-
-pub map_boxes-requires-clause-many : goal.map_boxes-requires-clause-many
-map_boxes-requires-clause-many g c = c.requires.jobs.few
+pub map_boxes-requires-clause-may : goal.map_boxes-requires-clause-may
+map_boxes-requires-clause-may g c = record {
+  jobs = c.requires.jobs.jobs;
+  many = c.requires.jobs.few;
+  links = c.requires.links;
+  of_ledger = c.requires.seat;
+}
 
 pub map_boxes-requires-clause-places : goal.map_boxes-requires-clause-places
 map_boxes-requires-clause-places g c = c.requires.jobs.places

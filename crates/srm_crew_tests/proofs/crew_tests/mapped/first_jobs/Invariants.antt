@@ -1,7 +1,7 @@
 use Rattle.std.proofs.Common.{length}
-use Rattle.srm_crew_tests.specs.Handed.{MayMap}
+use Rattle.srm_crew_tests.specs.Handed.{AreInPlace}
 use Rattle.srm_crew_tests.proofs.crew_tests.mapped.first_jobs.Given as goal
 
 -- a crew may be handed the jobs so far
 abbrev pub invariant-loop-m : goal.invariant-loop-m
-invariant-loop-m g l = MayMap (λ b. (goal.Member-dyn g (b.vtable, b.value)).plain b.value) (length l.net.hosts) l.jobs.items
+invariant-loop-m g l = AreInPlace (λ b. (goal.Member-dyn g (b.vtable, b.value)).plain b.value) (length l.net.hosts) l.jobs.items

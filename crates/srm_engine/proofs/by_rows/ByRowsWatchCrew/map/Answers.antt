@@ -1,25 +1,19 @@
-use Rattle.std.proofs.Common.{◌≡◌, ◌∙◌, List, length, map, All, ap, sym, subst, arith}
+use Rattle.std.proofs.Common.{◌≡◌, ◌∙◌, List, length, map, All, ap, sym, subst}
 use Rattle.std.specs.List.{range_with_len}
 use Rattle.std.proofs.lemmas.List.{length-map}
 use Rattle.srm_cell.specs.declared.job.Job.{Job}
 use Rattle.srm_cell.specs.Jobs.{MayAdvance}
-use Rattle.srm_interfaces.specs.Crews.{AreDone}
+use Rattle.srm_interfaces.specs.Crews.{AreDone, MayMap}
 use Rattle.srm_interfaces.specs.Watches.{KeepClosed, jobs_in, job_in}
 use Rattle.srm_engine.specs.ByRows.{LeftEach}
 use Rattle.srm_engine.proofs.Leaving.{left_of_jobs, may_leave}
 use Rattle.srm_engine.proofs.WatchedLemmas.{places_in}
 use Rattle.srm_engine.proofs.by_rows.ByRowsWatchCrew.map.Goals as goal
 
-pub map-requires-clause-jobs : goal.map-requires-clause-jobs
-map-requires-clause-jobs g c =
-    subst (λ l. All (λ j. MayAdvance g.M.Participant.plain (length c.args.session.net.now.hosts) j) l) (sym c.in-Ok.ensures.jobs)
-    c.requires.may.jobs
-
-pub map-requires-clause-many : goal.map-requires-clause-many
-map-requires-clause-many g c =
-    let long = ap (λ (l : List (Job _)). length l) c.in-Ok.ensures.jobs ∙ length-map c.args.jobs.items job_in in
-    let many = c.requires.may.many in
-    omega (arith, long, many)
+pub map-requires-clause-may : goal.map-requires-clause-may
+map-requires-clause-may g c =
+    subst (MayMap g.M.Participant.plain c.args.session.net.now c.args.ledger.now c.args.seat) (sym c.in-Ok.ensures.jobs)
+    c.requires.may.may
 
 pub map-requires-clause-places : goal.map-requires-clause-places
 map-requires-clause-places g c =
@@ -37,7 +31,7 @@ leave-requires g c =
     record {
       may = rw c.in-Ok.ensures.kept
           (may_leave f k c.args.session.net.now js c.in-Ok-map.done.0.items
-          (subst (λ n. All (λ j. MayAdvance f n j) (jobs_in js)) hosts c.requires.may.jobs) c.requires.may.kept
+          (subst (λ n. All (λ j. MayAdvance f n j) (jobs_in js)) hosts c.requires.may.may.jobs) c.requires.may.kept
           (subst (λ l. AreDone f k c.args.session.net.now l c.in-Ok-map.done.0.items) c.in-Ok.ensures.jobs c.in-Ok-map.ensures.done.0));
     }
 
@@ -57,9 +51,3 @@ returns-in-Ok-leave-clause-done g c =
           (subst (λ l. LeftEach takes k net l ds c.in-Ok-leave.left.items) c.in-Ok.ensures.kept
           c.in-Ok-leave.ensures),
     )
-
-pub map-requires-clause-links : goal.map-requires-clause-links
-map-requires-clause-links g c = c.requires.may.links
-
-pub map-requires-clause-seat : goal.map-requires-clause-seat
-map-requires-clause-seat g c = c.requires.may.of_ledger

@@ -34,13 +34,15 @@ map-requires-clause-may g c =
     c.end-end.ensures js c.in_ok-jobs.ensures in
     let long = length-map js job_in in
     let k = c.requires.stands.under_way in record {
-      jobs = told.may;
+      may = record {
+        jobs = told.may;
+        many = (let few = told.few in omega (arith, few));
+        links = k.links;
+        of_ledger = k.comes.counted.ledger;
+      };
       kept = rw c.in_ok-jobs.ensures
           (have_kept c.end-end.result 0 c.args.self.engine.groups.groups.items c.args.self.kept.items c.requires.stands.each);
-      many = (let few = told.few in omega (arith, few, long));
       places = sym (places_in js) ∙ told.placed ∙ ap (λ n. range_with_len 0 n) long;
-      links = k.links;
-      of_ledger = k.comes.counted.ledger;
     }
 
 pub unwrap-requires : goal.unwrap-requires
