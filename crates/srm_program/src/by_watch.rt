@@ -135,10 +135,13 @@ fn by_team<
         session: task.session,
         watch,
     };
-    let pieces = PIECES * usize::from(task.options.workers);
+    let workers = usize::from(task.options.workers);
+    // A thread that has no others does all the work as it stands.
+    let few = if workers > 1 { ENOUGH } else { usize::MAX };
+    let pieces = PIECES * workers;
     match open_team::<Watching<W>, Piece<M, K>, Worked<M, K>, J>(alloc, opened, pieces) {
         Ok((team, bench)) => {
-            let crew = WatchTeam::new(rt, team, work, ENOUGH);
+            let crew = WatchTeam::new(rt, team, work, few);
             lead_beside(rt, alloc, &bench, &task, watch, (crew, members), outlet)
         }
         Err(_) => by_row_crew(alloc, task, members, PlainCrew::new(), watch, outlet),

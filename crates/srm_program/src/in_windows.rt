@@ -45,6 +45,8 @@ pub(crate) fn in_windows<R: Threads + Wait + Sync, O: Outlet>(
     requires count { O.failures outlet.old < 2 ^ 64 - 1 }
     ensures { Reports O.Outlet task.entry (map (λ b. plain b) members.items) outlet.old result outlet.new }
 {
+    // Several threads put lines together beside the one that writes them.
+    let joins = matches!(task.options.crew, CrewKind::Team) && task.options.workers > 1;
     match task.options.show {
         Show::Members => by_crew(rt, alloc, task, members, CountRows, outlet),
         Show::Losses => by_crew(rt, alloc, task, members, FindLosses { alloc }, outlet),
@@ -58,7 +60,11 @@ pub(crate) fn in_windows<R: Threads + Wait + Sync, O: Outlet>(
                 alloc,
                 task,
                 members,
-                KeepLines { alloc, listing },
+                KeepLines {
+                    alloc,
+                    listing,
+                    joins,
+                },
                 outlet,
             )
         }
@@ -69,7 +75,11 @@ pub(crate) fn in_windows<R: Threads + Wait + Sync, O: Outlet>(
                 alloc,
                 task,
                 members,
-                KeepLines { alloc, listing },
+                KeepLines {
+                    alloc,
+                    listing,
+                    joins,
+                },
                 outlet,
             )
         }

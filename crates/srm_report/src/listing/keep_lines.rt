@@ -13,7 +13,7 @@ use std::alloc::{AllocError, Global};
 const LONG_PART: usize = 4_096;
 
 /// Keeps the lines that the rows of a member have in a table which lists rows, and no row. Where more than one of a job's members
-/// have lines, in short parts, they are put together as the job is done: then they stand in order of ticks, as what the first
+/// have lines, in short parts, they may be put together as the job is done: then they stand in order of ticks, as what the first
 /// member has.
 #[derive(Clone, Copy)]
 pub struct KeepLines<L> {
@@ -21,6 +21,8 @@ pub struct KeepLines<L> {
     pub alloc: Global,
     /// Which table.
     pub listing: L,
+    /// Whether lines are put together: where several threads do it, less is left to the one that writes them.
+    pub joins: bool,
 }
 
 impl<L: Listing> Watch<Lines> for KeepLines<L> {
@@ -50,7 +52,7 @@ impl<L: Listing> Watch<Lines> for KeepLines<L> {
     }
 
     fn close(&self, kept: &mut [Lines]) -> Result<(), AllocError> {
-        if kept.len() < 2 || !are_short(kept) {
+        if kept.len() < 2 || !self.joins || !are_short(kept) {
             return Ok(());
         }
         let lines = together(self.alloc, kept)?;
