@@ -1,6 +1,7 @@
 """What the benchmarks share: scenarios on chains, trees and stars, and the least wall times of runs that take turns."""
 import pathlib
 import sys
+import tempfile
 import time
 from collections.abc import Iterable, Mapping
 
@@ -37,20 +38,31 @@ def scenario(shape: str, nodes: int, *, delay: int, until: int, draws: int, spac
     return ("\n".join(lines) + "\n").encode()
 
 
+def time_of(program: Program, words: list[str], given: pathlib.Path, table: pathlib.Path) -> float:
+    """The wall time of a run that reads one file and writes another, which must succeed."""
+    with open(given, "rb") as text, open(table, "wb") as output:
+        begin = time.perf_counter()
+        program.written(words, stdin=text, stdout=output)
+        return time.perf_counter() - begin
+
+
 def least_times(program: Program, text: bytes, ways: Mapping[str, list[str]], repeat: int,
                 tables: bool = False) -> tuple[dict[str, float], dict[str, bytes]]:
-    """The least wall time of each way to run a scenario, the ways taking turns, and what each writes.
+    """The least wall time of each way to run a scenario, the ways taking turns, and what each writes: to a file, since
+    whoever reads a pipe takes time of a processor that the run may want.
 
     All ways have to write the same bytes, unless they are different tables; else this script ends.
     """
     least: dict[str, float] = {}
     written: dict[str, bytes] = {}
-    for _ in range(repeat):
-        for name, words in ways.items():
-            begin = time.perf_counter()
-            written[name] = program.written(words, text)
-            spent = time.perf_counter() - begin
-            if not tables and written[name] != next(iter(written.values())):
-                sys.exit(f"{name}: not the bytes of {next(iter(ways))}")
-            least[name] = min(spent, least.get(name, spent))
+    with tempfile.TemporaryDirectory() as folder:
+        given, table = pathlib.Path(folder, "scenario.toml"), pathlib.Path(folder, "table.csv")
+        given.write_bytes(text)
+        for _ in range(repeat):
+            for name, words in ways.items():
+                spent = time_of(program, words, given, table)
+                written[name] = table.read_bytes()
+                if not tables and written[name] != next(iter(written.values())):
+                    sys.exit(f"{name}: not the bytes of {next(iter(ways))}")
+                least[name] = min(spent, least.get(name, spent))
     return least, written

@@ -10,11 +10,11 @@ links, which is short, so that the time is the engine's. Windows are as wide as 
 many members as go evenly to four jobs for each worker, and with a team to sixteen.
 
 All engines must write the same bytes; where one does not, nothing more is timed, and the status is 1. Prints the least wall
-time of N runs, and that time over the sequential engine's. It asserts nothing about speed.
+time of N runs, to a file, and how many times as fast as the sequential engine that is. It asserts nothing about speed.
 
---cases  in place of these the cases of CASES, larger ones, each with the table of links and with the trace; on the chain a team's
-         job has 4 members. One that PROGRAM does not read is left out, and told: more than 1,024 nodes need version 3 of the
-         format (docs/FORMATS.md).
+--cases  in place of these the cases of CASES, larger ones, most of them with four tables; on the chain a team's job has 4
+         members. One that PROGRAM does not read is left out, and told: more than 1,024 nodes need version 3 of the format
+         (docs/FORMATS.md).
 """
 import argparse
 import sys
@@ -46,12 +46,12 @@ class Case(NamedTuple):
     team_cut: int = 0  # how many members a team's job has, or 0 for sixteen jobs for each worker
 
 
-LINKS, BOTH = ("links",), ("links", "trace")
+LINKS, FOUR = ("links",), ("links", "members", "losses", "trace")
 CASES = [
-    Case("tree of 1,024, 1,024 draws", "tree", 1024, 1000, 1024, BOTH),
-    Case("star of 1,024, 100 draws", "star", 1024, 1000, 100, BOTH),
-    Case("tree of 1,024, 4,096 draws", "tree", 1024, 1000, 4096, BOTH),
-    Case("chain of 1,024, 1,024 draws", "chain", 1024, 1000, 1024, BOTH, team_cut=4),
+    Case("tree of 1,024, 1,024 draws", "tree", 1024, 1000, 1024, FOUR),
+    Case("star of 1,024, 100 draws", "star", 1024, 1000, 100, FOUR),
+    Case("tree of 1,024, 4,096 draws", "tree", 1024, 1000, 4096, FOUR),
+    Case("chain of 1,024, 1,024 draws", "chain", 1024, 1000, 1024, FOUR, team_cut=4),
     Case("tree of 10,000, 100 draws", "tree", 10000, 1000, 100, LINKS),
     Case("tree of 1,024, links of one tick", "tree", 1024, 1, 1024, LINKS),
 ]
@@ -102,7 +102,7 @@ def main() -> None:
     parser.add_argument("--only", default="")
     parser.add_argument("--cases", action="store_true")
     options = parser.parse_args()
-    print(f"{'scenario':32} {'table':5} {'engine':14} {'seconds':>8} {'over step':>9}")
+    print(f"{'scenario':32} {'table':7} {'engine':14} {'seconds':>8} {'times as fast':>13}")
     for case in asked(options):
         text = scenario(case.shape, case.nodes, case.delay, case.draws)
         for table in case.tables if is_read(options.program, case.name, text) else ():
@@ -110,7 +110,7 @@ def main() -> None:
             ways = {name: ["--show", table, *words] for name, words in engine_words.items()}
             times, _ = measuring.least_times(options.program, text, ways, options.repeat)
             for name, spent in times.items():
-                print(f"{case.name:32} {table:5} {name:14} {spent:8.3f} {spent / times['step']:9.2f}", flush=True)
+                print(f"{case.name:32} {table:7} {name:14} {spent:8.3f} {times['step'] / spent:13.2f}", flush=True)
 
 
 if __name__ == "__main__":

@@ -74,9 +74,9 @@ class Program:
         with os.fdopen(reader, "rb") as rest:
             return end, len(rest.read())
 
-    def written(self, words: Sequence[str] = (), text: bytes = b"", timeout: float | None = None) -> bytes:
-        """What a run writes on a text, which must succeed; ends this script where it does not."""
-        end = self.run(words, text, timeout=timeout)
+    def written(self, words: Sequence[str] = (), text: bytes = b"", timeout: float | None = None, **how: Any) -> bytes:
+        """What a run writes on a text, which must succeed; ends this script where it does not. `how` is as in `run`."""
+        end = self.run(words, text, timeout=timeout, **how)
         if end.status != 0:
             sys.exit(f"{' '.join([self.path, *words])}: status {end.status}: {end.told.decode(errors='replace').strip()}")
         return end.written
