@@ -246,8 +246,8 @@ const SHOWS: [(&str, Show); 7] = [
 ///
 /// # Errors
 /// 1. `Line`: `clap` refuses the words; or `Help`, where help or the version is asked for before that.
-/// 2. `BadWord`: the text of an option is none of its words, and no number that it takes; or replications are asked for whose last
-///    seed is past the greatest, or with the engine of windows.
+/// 2. `BadWord`: the text of an option is none of its words, and no number that it takes; or replications are asked for whose
+///    last seed is past the greatest, or with the engine of windows.
 /// 3. `Rules`: they are asked for.
 ///
 /// `NoMemory` may come at any place. That the order is so is shown by tests.
@@ -443,8 +443,8 @@ fn message_of_number(
 enum Wording {
     /// Any text is taken, so that what the program refuses comes after all that `clap` does.
     Any,
-    /// Where an option takes words alone, other text is refused; and a number below 0 is a text that an option may be given, so that
-    /// the message is of the number.
+    /// Where an option takes words alone, other text is refused; and a number below 0 is a text that an option may be given, so
+    /// that the message is of the number.
     Words,
 }
 

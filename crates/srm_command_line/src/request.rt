@@ -16,8 +16,8 @@ use std::thread::Threads;
 pub struct Request {
     /// The seed and the options, or why nothing is run.
     pub asked: Result<(u64, Options), LineFault>,
-    /// What is told after the line of a refusal: of refused words what to mend, where an explanation is asked for; and of any, where
-    /// none is, the hint that there is one, or nothing.
+    /// What is told after the line of a refusal: of refused words what to mend, where an explanation is asked for; and of any,
+    /// where none is, the hint that there is one, or nothing.
     pub message: String,
 }
 
@@ -32,9 +32,9 @@ fn hint_for(at_terminal: bool) -> &'static str
     }
 }
 
-/// What the words of a command line ask for on this machine, whose refusals a terminal takes or not. The first word is the program's
-/// name. A word that is no text is refused. Where they do not say how many workers a team has, or make replications, there is one for
-/// each processor, up to 64.
+/// What the words of a command line ask for on this machine, whose refusals a terminal takes or not. The first word is the
+/// program's name. A word that is no text is refused. Where they do not say how many workers a team has, or make replications,
+/// there is one for each processor, up to 64.
 pub fn request_of(
     rt: &impl Threads,
     alloc: Global,

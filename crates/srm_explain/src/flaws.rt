@@ -13,10 +13,10 @@ use srm_scenario::draft::Draft;
 use srm_scenario::file_key::FileKey;
 use std::alloc::{AllocError, Global};
 
-/// Why the links of a draft make no tree of its nodes, where they are those to the parents that its table lists, or else those that
-/// it lists. If an end of a link is no node, that is told alone. Else of parents it is told which nodes make a circle; and of other
-/// links which one is the first to close a circle, how many there are, where these are too many or too few, and which nodes are not
-/// reached from node 0. The links of a topology make a tree.
+/// Why the links of a draft make no tree of its nodes, where they are those to the parents that its table lists, or else those
+/// that it lists. If an end of a link is no node, that is told alone. Else of parents it is told which nodes make a circle; and
+/// of other links which one is the first to close a circle, how many there are, where these are too many or too few, and which
+/// nodes are not reached from node 0. The links of a topology make a tree.
 ///
 /// # Errors
 /// Memory ran out.

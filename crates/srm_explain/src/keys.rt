@@ -21,8 +21,8 @@ use toml::{Table, Value};
 
 /// What is wrong with the table at a place of a part, by the rules of that part. The first of these that applies is told: it is
 /// no table; a key of it is none of the part's; what stands at a key breaks its rule, by the first such rule; a key is missing,
-/// by the first such rule; it stands for several, and the number at a key passes its range in one of them, by the first such rule.
-/// Where none applies nothing is told.
+/// by the first such rule; it stands for several, and the number at a key passes its range in one of them, by the first such
+/// rule. Where none applies nothing is told.
 ///
 /// # Errors
 /// Memory ran out.

@@ -9,8 +9,8 @@ use srm_scenario::rule::{Rule, ValueKind};
 use srm_scenario::table::{every_in, has_key, number, times_in};
 use toml::Table;
 
-/// The first of these rules whose range the number at its key passes in one of the copies for which a table stands, if one is, and
-/// the first such copy.
+/// The first of these rules whose range the number at its key passes in one of the copies for which a table stands, if one is,
+/// and the first such copy.
 pub(crate) fn passed_in(table: &Table, rules: &[Rule]) -> Option<Finding>
     ensures { IfSome result (IsFinding rules.now (table_view table.now)) }
 {

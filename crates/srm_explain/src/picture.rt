@@ -103,7 +103,8 @@ impl Underlined {
         }
     }
 
-    // Adds text, with a mark below each character, if there is one. Characters that a terminal would not show are shown as spaces.
+    // Adds text, with a mark below each character, if there is one. Characters that a terminal would not show are shown as
+    // spaces.
     fn push(&mut self, text: &str, mark: Option<char>) -> Result<(), AllocError> {
         for c in text.chars() {
             if self.skip > 0 {

@@ -30,8 +30,8 @@ pub(crate) enum Layout {
     },
 }
 
-/// The rules that the reader of scenarios has for each table, in each version of the format: which keys the table may have, whether
-/// they must be there, and what they may hold. Keys that must not be there are left out.
+/// The rules that the reader of scenarios has for each table, in each version of the format: which keys the table may have,
+/// whether they must be there, and what they may hold. Keys that must not be there are left out.
 ///
 /// # Errors
 /// [`AllocError`].

@@ -14,8 +14,8 @@ pub struct Holding {
     pub seen: LinkedList<u64>,
 }
 
-/// Each word is the sum of its seats' shares, all weights add up to [`WHOLE`](crate::seat::WHOLE), and no seat has read more than its
-/// words.
+/// Each word is the sum of its seats' shares, all weights add up to [`WHOLE`](crate::seat::WHOLE), and no seat has read more than
+/// its words.
 pub struct SumsOfShares;
 
 impl TableRule<(), Holding, usize> for SumsOfShares {

@@ -40,7 +40,8 @@ impl Average {
         self.kept.checked_sub(1)
     }
 
-    /// Takes in `x`, with weight 1/4 (Floyd et al. 1997), rounded down (this project's own), and gives the average. It does not allocate.
+    /// Takes in `x`, with weight 1/4 (Floyd et al. 1997), rounded down (this project's own), and gives the average. It does not
+    /// allocate.
     pub(crate) fn take_in(&mut self, x: u64) -> u64
         requires before { unwrap_or self.old 0 < 2 ^ 60 }
         requires next { x < 2 ^ 60 }

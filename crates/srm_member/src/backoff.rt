@@ -14,8 +14,8 @@ pub enum BackoffFactor {
 }
 
 impl BackoffFactor {
-    /// How many times as long a timer is after `i` backoffs. Twice at each up to the tenth, or three times up to the sixth: where it
-    /// stops is this project's own. It does not allocate.
+    /// How many times as long a timer is after `i` backoffs. Twice at each up to the tenth, or three times up to the sixth: where
+    /// it stops is this project's own. It does not allocate.
     pub fn multiple(self, i: u32) -> u64
         ensures value { result ≡ Backoff.multiple self i }
         ensures bound { result ≤ 1024 }
@@ -26,8 +26,8 @@ impl BackoffFactor {
         }
     }
 
-    /// The least and the greatest length of a timer, in ticks, after `i` backoffs: `x` and `x + y` thousandths of the distance `d`, so
-    /// many times as the backoffs make it, and rounded down to whole ticks (this project's own).
+    /// The least and the greatest length of a timer, in ticks, after `i` backoffs: `x` and `x + y` thousandths of the distance
+    /// `d`, so many times as the backoffs make it, and rounded down to whole ticks (this project's own).
     ///
     /// `x` and `y` are thousandths, and `d` is in ticks. It does not allocate.
     pub fn span(self, i: u32, x: u32, y: u32, d: u64) -> (u64, u64)

@@ -23,8 +23,8 @@ pub struct Fixed {
     pub role: Role,
     /// How many times as long a timer becomes at each backoff.
     pub backoff: BackoffFactor,
-    /// The least length of a request timer, in thousandths of the distance to the source (Floyd et al. 1997: C1): its first value, and
-    /// what it is adapted within.
+    /// The least length of a request timer, in thousandths of the distance to the source (Floyd et al. 1997: C1): its first
+    /// value, and what it is adapted within.
     pub c1: Limits,
     /// By how much a request timer may be longer, in thousandths (C2).
     pub c2: Limits,
@@ -32,8 +32,8 @@ pub struct Fixed {
     pub d1: Limits,
     /// By how much a repair timer may be longer, in thousandths (D2).
     pub d2: Limits,
-    /// The distance to each member that its timers and rests go by, in ticks: at most 65,534,000,000. Of a member of a scenario it is half
-    /// the round trip, rounded down.
+    /// The distance to each member that its timers and rests go by, in ticks: at most 65,534,000,000. Of a member of a scenario
+    /// it is half the round trip, rounded down.
     pub dist: Distances,
     /// The hops to each member.
     pub hops: Hops,
@@ -62,7 +62,8 @@ impl Fixed {
         u32::from(self.hops.get(who).unwrap_or(0))
     }
 
-    /// The scope of the member's request for a name after so many backoffs, in hops, or none where it goes to all. It does not allocate.
+    /// The scope of the member's request for a name after so many backoffs, in hops, or none where it goes to all. It does not
+    /// allocate.
     pub fn scope_of_request(&self, backoffs: u32) -> Option<u16>
         ensures { result ≡ scope_of_request self.now backoffs }
     {
@@ -83,7 +84,8 @@ impl Fixed {
         }
     }
 
-    /// What a repair carries besides, by the timer that it comes from: nothing where the request had no scope. It does not allocate.
+    /// What a repair carries besides, by the timer that it comes from: nothing where the request had no scope. It does not
+    /// allocate.
     pub fn local_of(&self, repair: Repairing) -> Option<Local>
         ensures { result ≡ local_of self.now repair }
     {

@@ -3,8 +3,8 @@ ghost use Rattle.std.specs.Prelude.{◌≡◌, true, false, OnOk, OnErr, IfErr};
 
 use crate::fault::MemberFault;
 
-/// Begins a call of a member that may be gone: it counts as gone until the call is done, so that it is if memory is refused on the
-/// way.
+/// Begins a call of a member that may be gone: it counts as gone until the call is done, so that it is if memory is refused on
+/// the way.
 ///
 /// # Errors
 /// `Spent` alone, exactly where the member is gone: it is as it was. As it is written, nothing is allocated.

@@ -114,8 +114,8 @@ impl Interval {
         self.average_delay.get()
     }
 
-    /// Begins a period. Where a delay was averaged, the average of duplicates takes in those of the period that ends, and start and
-    /// width are adapted within their limits. It does not allocate.
+    /// Begins a period. Where a delay was averaged, the average of duplicates takes in those of the period that ends, and start
+    /// and width are adapted within their limits. It does not allocate.
     pub fn begin_period(&mut self, start: Limits, width: Limits)
         ensures { self.new ≡ begin_period start width self.old }
     {

@@ -11,8 +11,8 @@ pub fn constants_stay_within_limits()
     ensures { ConstantsStayWithinLimits }
 {}
 
-/// Where least, first value and most are one, start and width stay as they are, whatever changes the interval: fixed timers are adaptive
-/// timers without room.
+/// Where least, first value and most are one, start and width stay as they are, whatever changes the interval: fixed timers are
+/// adaptive timers without room.
 pub fn without_room_constants_stay()
     ensures { WithoutRoomConstantsStay }
 {}

@@ -1,8 +1,8 @@
 //! What holds of local recovery.
 ghost use Rattle.srm_member.specs.LocalLaws.{MembersBeginWide, MembersStayWide, WideningDecidesNothing, TenBackoffsGoToAll, WhoHeardIsReached, ServingIsSound, BusyMovesNoTimer, TimersThatExpireEnd, RepairTimersAreOfHeldNames};
 
-/// Without scopes nothing is local: no rest has a mark, no repair timer a width, there is no second step, and nothing that is sent has a
-/// scope.
+/// Without scopes nothing is local: no rest has a mark, no repair timer a width, there is no second step, and nothing that is
+/// sent has a scope.
 pub fn members_stay_wide()
     ensures begin { MembersBeginWide }
     ensures stay { MembersStayWide }
@@ -23,7 +23,8 @@ pub fn who_heard_is_reached()
     ensures { WhoHeardIsReached }
 {}
 
-/// Where a repair serves another request too, all that heard that request are reached by the repair or, in two steps, by its second step.
+/// Where a repair serves another request too, all that heard that request are reached by the repair or, in two steps, by its
+/// second step.
 pub fn serving_is_sound()
     ensures { ServingIsSound }
 {}

@@ -4,7 +4,8 @@ ghost use Rattle.srm_member.specs.LocalRecovery.{mark_after};
 
 use srm_net::packet::Local;
 
-/// What a member keeps of a repair with a scope that it sent or heard: for whom it was, and how far it went on (this project's own).
+/// What a member keeps of a repair with a scope that it sent or heard: for whom it was, and how far it went on (this project's
+/// own).
 #[derive(Clone, Copy, Debug, PartialEq, Eq)]
 pub struct RepairMark {
     /// The member whose request the repair answered.

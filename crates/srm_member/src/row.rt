@@ -119,7 +119,7 @@ pub struct Row {
     pub lost: Sequence<Name>,
     /// The packet that the member sent, if any.
     pub sent: Option<Packet>,
-    /// The member's intervals after the event: at its join, and where one of the constants C1, C2, D1 and D2 is another than before.
-    /// Of a listener they are never told.
+    /// The member's intervals after the event: at its join, and where one of the constants C1, C2, D1 and D2 is another than
+    /// before. Of a listener they are never told.
     pub adapted: Adapted,
 }

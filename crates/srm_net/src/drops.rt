@@ -18,8 +18,9 @@ use std::collections::HashSet;
 use std::marker::Model;
 use std::sync::Arc;
 
-/// The packets that links are configured to drop, the outages of links, and their losses. Contracts see it as the rules of its entries
-/// in the order of links, senders and counts, each once, of its outages and losses as they were given, and of the seed of the losses.
+/// The packets that links are configured to drop, the outages of links, and their losses. Contracts see it as the rules of its
+/// entries in the order of links, senders and counts, each once, of its outages and losses as they were given, and of the seed of
+/// the losses.
 ///
 /// Those of several seeds share all but the seed.
 #[derive(Drop)]
@@ -41,8 +42,8 @@ impl Model for Drops {
 }
 
 impl Drops {
-    /// The set of these entries, with these outages and losses, whose words are those of the seed. An entry that stands in the list more
-    /// than once counts once.
+    /// The set of these entries, with these outages and losses, whose words are those of the seed. An entry that stands in the
+    /// list more than once counts once.
     ///
     /// # Errors
     ///
@@ -112,15 +113,16 @@ impl Drops {
         self.sets.entries.contains(&DropSpec { link, id })
     }
 
-    /// Whether a link takes out a packet that comes to it at the tick `at`: it is listed for the packet, out at that tick, or loses it.
+    /// Whether a link takes out a packet that comes to it at the tick `at`: it is listed for the packet, out at that tick, or
+    /// loses it.
     pub fn takes_out(&self, id: PacketId, link: u16, at: u64) -> bool
         ensures { result ≡ takes_out self.now id (stop link at) }
     {
         self.lists(link, id) || self.takes_out_unlisted(id, link, at)
     }
 
-    /// The same as [`takes_out`](Drops::takes_out), where it is known already whether any link is listed for the packet: if none is,
-    /// this one is not looked up.
+    /// The same as [`takes_out`](Drops::takes_out), where it is known already whether any link is listed for the packet: if none
+    /// is, this one is not looked up.
     pub(crate) fn takes_out_of(&self, is_listed: bool, id: PacketId, link: u16, at: u64) -> bool
         requires { is_listed ≡ is_listed_somewhere self.now.listed id }
         ensures { result ≡ takes_out self.now id (stop link at) }
@@ -142,8 +144,8 @@ impl Drops {
         self.sets.packets.contains(&id)
     }
 
-    /// Whether a packet that is sent at the tick `sent` may be dropped at all: some link is listed for it, or an outage ends or a loss goes
-    /// on later than that.
+    /// Whether a packet that is sent at the tick `sent` may be dropped at all: some link is listed for it, or an outage ends or a
+    /// loss goes on later than that.
     ///
     /// Any other packet goes everywhere ([`unlisted_packets_go_everywhere`](crate::laws::unlisted_packets_go_everywhere)).
     pub fn may_drop(&self, id: PacketId, sent: u64) -> bool

@@ -15,8 +15,8 @@ impl Fate {
     ghost use Rattle.std.specs.Prelude.{◌≡◌, ◌&&◌, not, cond};
     ghost use Rattle.srm_net.specs.Fates.{is_crossing, is_dropping};
 
-    /// What becomes of a packet at a link that joins members, by whether it comes to each of the link's ends. It comes to the one from the
-    /// other.
+    /// What becomes of a packet at a link that joins members, by whether it comes to each of the link's ends. It comes to the one
+    /// from the other.
     pub(crate) fn by_ends(a: bool, b: bool) -> Fate
         ensures crosses { is_crossing result ≡ (a && b) }
         ensures dropped { is_dropping result ≡ cond a (not b) b }

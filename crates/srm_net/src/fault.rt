@@ -7,8 +7,8 @@ use std::alloc::AllocError;
 /// `build` looks for them in this order, except that memory may run out at any step.
 #[derive(Clone, Copy, Debug, PartialEq, Eq)]
 pub enum NetFault {
-    /// The number of nodes is not 1 to [`MOST_NODES`](crate::limits::MOST_NODES), an end of a link is no node, the links are not one
-    /// fewer than the nodes, or they do not connect them.
+    /// The number of nodes is not 1 to [`MOST_NODES`](crate::limits::MOST_NODES), an end of a link is no node, the links are not
+    /// one fewer than the nodes, or they do not connect them.
     NotTree,
     /// A link's delay, in either direction, is not 1 to [`GREATEST_LINK_DELAY`](crate::limits::GREATEST_LINK_DELAY) ticks.
     BadDelay,

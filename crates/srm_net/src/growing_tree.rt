@@ -44,7 +44,8 @@ impl GrowingTree {
         })
     }
 
-    /// Takes the step that comes next: its node is attached, unless it is already, and then a step to each of its neighbours waits.
+    /// Takes the step that comes next: its node is attached, unless it is already, and then a step to each of its neighbours
+    /// waits.
     pub(crate) fn take(
         &mut self,
         links: &[LinkSpec],

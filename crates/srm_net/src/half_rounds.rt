@@ -46,8 +46,8 @@ impl HalfRounds {
         })
     }
 
-    /// Half the round trip to a member, rounded down, in ticks and at most 65,534,000,000, or none where there is no such member. It takes
-    /// a number of steps that grows as the logarithm of the number of nodes.
+    /// Half the round trip to a member, rounded down, in ticks and at most 65,534,000,000, or none where there is no such member.
+    /// It takes a number of steps that grows as the logarithm of the number of nodes.
     pub fn get(&self, member: u16) -> Option<u64>
         ensures { result ≡ slice_get self.now member }
     {

@@ -47,8 +47,8 @@ impl HopsFrom {
         })
     }
 
-    /// How many hops a member is away, at most 65,534, or none where there is no such member. It takes a number of steps that grows as the
-    /// logarithm of the number of nodes.
+    /// How many hops a member is away, at most 65,534, or none where there is no such member. It takes a number of steps that
+    /// grows as the logarithm of the number of nodes.
     pub fn get(&self, member: u16) -> Option<u16>
         ensures value { result ≡ slice_get self.now member }
         ensures bounded { IfSome result (λ n. n < most_nodes) }

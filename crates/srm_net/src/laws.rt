@@ -28,8 +28,8 @@ pub fn one_path()
     ensures { OnePath }
 {}
 
-/// Trees are exactly the networks of 1 to [`MOST_NODES`](crate::limits::MOST_NODES) nodes, each link between two of them, that have
-/// exactly one path between any two nodes.
+/// Trees are exactly the networks of 1 to [`MOST_NODES`](crate::limits::MOST_NODES) nodes, each link between two of them, that
+/// have exactly one path between any two nodes.
 pub fn trees_have_one_path()
     ensures { TreesHaveOnePath }
 {}
@@ -49,15 +49,16 @@ pub fn rounds_turn()
     ensures { RoundsTurn }
 {}
 
-/// Hops are the same from either end, no more than by way of a third member, none from a member to itself, and from 1 to 65,534 between
-/// different ones.
+/// Hops are the same from either end, no more than by way of a third member, none from a member to itself, and from 1 to 65,534
+/// between different ones.
 pub fn hops_are_a_metric()
     ensures turn { HopsTurn }
     ensures triangle { HopsMeetTheTriangle }
     ensures fit { HopsFit }
 {}
 
-/// The least delay of a link in either direction is at least 1 tick and at most each distance; without a link there are no two members.
+/// The least delay of a link in either direction is at least 1 tick and at most each distance; without a link there are no two
+/// members.
 pub fn least_delay_fits()
     ensures least { LeastDelayFits }
     ensures none { NoLinkNoTwo }
@@ -74,24 +75,24 @@ pub fn reaches_its_sender()
     ensures { ReachesItsSender }
 {}
 
-/// A packet that no link is listed for, and that is sent when no outage or loss is yet to end, reaches every member within its scope and
-/// is dropped nowhere; without scope it crosses exactly the links on the ways from its sender to members.
+/// A packet that no link is listed for, and that is sent when no outage or loss is yet to end, reaches every member within its
+/// scope and is dropped nowhere; without scope it crosses exactly the links on the ways from its sender to members.
 pub fn unlisted_packets_go_everywhere()
     ensures reaches { UnlistedReachesAll }
     ensures crosses { UnlistedCrossesItsWays }
     ensures dropped { UnlistedIsNowhereDropped }
 {}
 
-/// The links on the ways of a member are the same for every member: those on the ways between any two. A packet without scope that comes to
-/// every node crosses exactly these, whoever sends it, and is dropped nowhere.
+/// The links on the ways of a member are the same for every member: those on the ways between any two. A packet without scope
+/// that comes to every node crosses exactly these, whoever sends it, and is dropped nowhere.
 pub fn packets_cross_the_same_links()
     ensures ways { WaysTakeTheSameLinks }
     ensures crosses { EverywhereCrossesTheSame }
     ensures dropped { EverywhereIsNowhereDropped }
 {}
 
-/// A scope leaves of each way its first links. With a narrower scope a packet reaches, crosses and is dropped at a part of what it would
-/// with a wider one or none. Where every member is within it, it decides nothing; and none leaves the whole ways.
+/// A scope leaves of each way its first links. With a narrower scope a packet reaches, crosses and is dropped at a part of what
+/// it would with a wider one or none. Where every member is within it, it decides nothing; and none leaves the whole ways.
 pub fn scopes_end_ways()
     ensures first { ScopesLeaveTheFirst }
     ensures none { NoScopeEndsNoWay }
@@ -99,8 +100,8 @@ pub fn scopes_end_ways()
     ensures wide { WideScopesDecideNothing }
 {}
 
-/// Without outages and losses it is the listed drops and the scope alone that keep a packet from a member, and when the packet is sent
-/// makes no difference.
+/// Without outages and losses it is the listed drops and the scope alone that keep a packet from a member, and when the packet is
+/// sent makes no difference.
 pub fn listed_drops_alone_decide()
     ensures reaches { ListedAloneReaches }
     ensures at_any_time { ListedAloneAtAnyTime }
@@ -112,22 +113,23 @@ pub fn sure_losses_drop_all()
     ensures all { SureLossDropsAll }
 {}
 
-/// With `burst` a loss takes, while it is on, every packet that comes to its link in one slot, or none of them; without, each packet by
-/// its own word.
+/// With `burst` a loss takes, while it is on, every packet that comes to its link in one slot, or none of them; without, each
+/// packet by its own word.
 pub fn losses_come_in_bursts()
     ensures slots { SlotsHaveOneFate }
     ensures packets { PacketsHaveTheirOwn }
 {}
 
-/// Without losses the seed decides nothing of what is dropped; and what becomes of a packet does not hang on drops of other packets.
+/// Without losses the seed decides nothing of what is dropped; and what becomes of a packet does not hang on drops of other
+/// packets.
 pub fn losses_are_of_one_packet()
     ensures seed { SeedDecidesLossesAlone }
     ensures others { OthersDecideNothing }
 {}
 
-/// Some of the words by which links lose packets, in the order of seed, stream, link, sender and count: of one packet, of the next one of
-/// its sender, of a sender and a link that are exchanged, of another seed and of another stream; and those of slots of 40 ticks at the last
-/// tick of one and the first of the next.
+/// Some of the words by which links lose packets, in the order of seed, stream, link, sender and count: of one packet, of the
+/// next one of its sender, of a sender and a link that are exchanged, of another seed and of another stream; and those of slots
+/// of 40 ticks at the last tick of one and the first of the next.
 pub fn loss_words()
     ensures first { loss_word 42 54 1 (packet_of_member_0 0) ≡ 0x9a19b87a }
     ensures next { loss_word 42 54 1 (packet_of_member_0 1) ≡ 0xfe9d6646 }
@@ -138,8 +140,8 @@ pub fn loss_words()
     ensures next_slot { loss_word 0 1 1 (deciding (Some 40) (packet_of_member_0 6) 80) ≡ 0x5edac5a1 }
 {}
 
-/// A set of drops is one list in rising order, and what it lists depends on its entries alone, as the ticks at which links are out depend
-/// on the outages alone.
+/// A set of drops is one list in rising order, and what it lists depends on its entries alone, as the ticks at which links are
+/// out depend on the outages alone.
 pub fn drops_are_a_set()
     ensures listed { SameDropsListed }
     ensures out { SameOutagesOut }
@@ -176,8 +178,8 @@ pub fn entries_are_ordered()
     ensures derived { (h i : Heard) → ⟦<crate::packet::Heard as Ord>⟧.cmp h i ≡ heard_cmp h i }
 {}
 
-/// What the definitions say of a tree of eight nodes, of a chain whose links take longer in one direction than in the other, and of a
-/// lone node.
+/// What the definitions say of a tree of eight nodes, of a chain whose links take longer in one direction than in the other, and
+/// of a lone node.
 pub fn small_networks()
     ensures far { distance tree_of_eight 4 7 ≡ 8 }
     ensures near { distance tree_of_eight 4 5 ≡ 4 }
@@ -194,9 +196,9 @@ pub fn small_networks()
     ensures no_least { least_delay lone_node ≡ None }
 {}
 
-/// What the definitions say of outages in a chain of three nodes whose links take 5 ticks. Member 0 sends at ticks 0 and 10, and link 1 is
-/// out in one tick: in tick 5, when the first packet comes there, in tick 4 or in tick 6. In a chain whose first link takes 3 ticks in the
-/// direction in which the packet takes it, and 1 in the other, the packet comes to the next link at tick 3.
+/// What the definitions say of outages in a chain of three nodes whose links take 5 ticks. Member 0 sends at ticks 0 and 10, and
+/// link 1 is out in one tick: in tick 5, when the first packet comes there, in tick 4 or in tick 6. In a chain whose first link
+/// takes 3 ticks in the direction in which the packet takes it, and 1 in the other, the packet comes to the next link at tick 3.
 pub fn small_outages()
     ensures near { reaches slow_chain (outage_of_link_1 5 6) (packet_of_member_0 0) 0 None 1 ≡ true }
     ensures far { reaches slow_chain (outage_of_link_1 5 6) (packet_of_member_0 0) 0 None 2 ≡ false }
@@ -211,8 +213,8 @@ pub fn small_outages()
     ensures not_turned { drops_at turned_chain (outage_of_link_1 1 2) (packet_of_member_0 0) 0 None 1 ≡ false }
 {}
 
-/// What the definitions say of losses in a chain of three nodes whose links take 5 ticks. Member 0 sends at tick 0, and the packet comes to
-/// link 1 at tick 5, with the word 0x9a19b87a: the rates from 601,955 millionths on take it.
+/// What the definitions say of losses in a chain of three nodes whose links take 5 ticks. Member 0 sends at tick 0, and the
+/// packet comes to link 1 at tick 5, with the word 0x9a19b87a: the rates from 601,955 millionths on take it.
 pub fn small_losses()
     ensures taken { reaches slow_chain (loss_of_link_1 601955 0 None) (packet_of_member_0 0) 0 None 2 ≡ false }
     ensures dropped { drops_at slow_chain (loss_of_link_1 601955 0 None) (packet_of_member_0 0) 0 None 1 ≡ true }
@@ -223,8 +225,8 @@ pub fn small_losses()
     ensures not_yet { reaches slow_chain (loss_of_link_1 601955 6 None) (packet_of_member_0 0) 0 None 2 ≡ true }
 {}
 
-/// What the definitions say of scopes in a chain of three nodes whose links take 5 ticks, where member 0 sends at tick 0: its packet
-/// reaches and crosses what is within one hop, and is dropped no farther, also towards a member that is two hops away.
+/// What the definitions say of scopes in a chain of three nodes whose links take 5 ticks, where member 0 sends at tick 0: its
+/// packet reaches and crosses what is within one hop, and is dropped no farther, also towards a member that is two hops away.
 pub fn small_scopes()
     ensures near { reaches slow_chain (outage_of_link_1 5 6) (packet_of_member_0 0) 0 (Some 1) 1 ≡ true }
     ensures far { reaches slow_chain (outage_of_link_1 6 7) (packet_of_member_0 0) 0 (Some 1) 2 ≡ false }

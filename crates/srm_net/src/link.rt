@@ -58,8 +58,8 @@ pub struct DropSpec {
     pub id: PacketId,
 }
 
-/// A span of time in which a link drops each packet that comes to it, from the tick `from` up to below the tick `to`. Where `to` is not
-/// above `from` it has no tick.
+/// A span of time in which a link drops each packet that comes to it, from the tick `from` up to below the tick `to`. Where `to`
+/// is not above `from` it has no tick.
 #[derive(Clone, Copy, Debug, PartialEq, Eq, Hash)]
 pub struct OutageSpec {
     /// The link's number.
@@ -70,11 +70,12 @@ pub struct OutageSpec {
     pub to: u64,
 }
 
-/// A span of time in which a link loses packets at random, from the tick `from` on: each that comes to it, whatever it carries, with
-/// the chance `rate`. A word of the seed, the stream, the link and the packet decides
+/// A span of time in which a link loses packets at random, from the tick `from` on: each that comes to it, whatever it carries,
+/// with the chance `rate`. A word of the seed, the stream, the link and the packet decides
 /// ([`loss_words`](crate::laws::loss_words)), and nothing else: so two losses of one link and one stream do not take packets
-/// independently of each other, and the greater rate decides there. With `burst` it is a word of the slot of time in which the packet
-/// comes, in place of the packet: so a slot loses all or nothing ([`losses_come_in_bursts`](crate::laws::losses_come_in_bursts)).
+/// independently of each other, and the greater rate decides there. With `burst` it is a word of the slot of time in which the
+/// packet comes, in place of the packet: so a slot loses all or nothing
+/// ([`losses_come_in_bursts`](crate::laws::losses_come_in_bursts)).
 #[derive(Clone, Copy, Debug, PartialEq, Eq, Hash)]
 pub struct LossSpec {
     /// The link's number.
@@ -94,8 +95,8 @@ pub struct LossSpec {
 impl LossSpec {
     ghost use Rattle.srm_net.specs.Losses.{deciding, is_before_end, takes, words_taking};
 
-    /// Whether it takes a packet that comes to its link at the tick `at`, by the words of a seed. Where it is not on then, no word is
-    /// drawn.
+    /// Whether it takes a packet that comes to its link at the tick `at`, by the words of a seed. Where it is not on then, no
+    /// word is drawn.
     pub(crate) fn takes(&self, seed: u64, id: PacketId, at: u64) -> bool
         ensures { result ≡ takes seed id at self.now }
     {

@@ -64,7 +64,8 @@ impl Losses {
         }
     }
 
-    /// Whether a link loses a packet that comes to it at the tick `at`, by the words of a seed. It looks at the losses of that link alone.
+    /// Whether a link loses a packet that comes to it at the tick `at`, by the words of a seed. It looks at the losses of that
+    /// link alone.
     pub(crate) fn is_lost(&self, seed: u64, id: PacketId, link: u16, at: u64) -> bool
         ensures { result ≡ is_lost self.now seed id link at }
     {

@@ -54,8 +54,8 @@ impl Model for Net {
 }
 
 impl Net {
-    /// Whether these links make a tree of nodes 0 to `nodes - 1`: what [`build`](Net::build) tests first, without the network. It takes
-    /// a number of steps that grows as the number of links.
+    /// Whether these links make a tree of nodes 0 to `nodes - 1`: what [`build`](Net::build) tests first, without the network. It
+    /// takes a number of steps that grows as the number of links.
     ///
     /// # Errors
     /// [`AllocError`].
@@ -75,8 +75,8 @@ impl Net {
     ///
     /// The first of these that applies, though memory may run out at any step:
     ///
-    /// 1. [`NetFault::NotTree`]: `nodes` is not 1 to [`MOST_NODES`](crate::limits::MOST_NODES), an end of a link is no node, there are
-    ///    not `nodes - 1` links, or they do not connect the nodes.
+    /// 1. [`NetFault::NotTree`]: `nodes` is not 1 to [`MOST_NODES`](crate::limits::MOST_NODES), an end of a link is no node,
+    ///    there are not `nodes - 1` links, or they do not connect the nodes.
     /// 2. [`NetFault::BadDelay`]: a delay, in either direction, is not 1 to
     ///    [`GREATEST_LINK_DELAY`](crate::limits::GREATEST_LINK_DELAY) ticks.
     /// 3. [`NetFault::BadHost`]: a member is on no node, or two members share one.
@@ -168,8 +168,8 @@ impl Net {
         self.tree.distance(a, b)
     }
 
-    /// The round trip between members `a` and `b`: how long a packet takes from `a` to `b`, and another one back, in ticks. It is at
-    /// most 131,068,000,000, and the same from either end.
+    /// The round trip between members `a` and `b`: how long a packet takes from `a` to `b`, and another one back, in ticks. It is
+    /// at most 131,068,000,000, and the same from either end.
     pub fn round(&self, a: u16, b: u16) -> u64
         requires a { a < length self.now.hosts }
         requires b { b < length self.now.hosts }
@@ -181,8 +181,9 @@ impl Net {
         self.tree.round(a, b)
     }
 
-    /// How many hops member `b` is from member `a`: the links on the way between them, whatever their delays. There are at most 65,534,
-    /// as many from either end, and no more than by way of a third member ([`hops_are_a_metric`](crate::laws::hops_are_a_metric)).
+    /// How many hops member `b` is from member `a`: the links on the way between them, whatever their delays. There are at most
+    /// 65,534, as many from either end, and no more than by way of a third member
+    /// ([`hops_are_a_metric`](crate::laws::hops_are_a_metric)).
     pub fn hops(&self, a: u16, b: u16) -> u16
         requires a { a < length self.now.hosts }
         requires b { b < length self.now.hosts }
@@ -192,8 +193,8 @@ impl Net {
         self.tree.hops(a, b)
     }
 
-    /// Half the round trip between member `m` and each member in turn, rounded down, in ticks: at most 65,534,000,000 each. They are told
-    /// on demand, and share the network's tables, which stay as long as one of them is used.
+    /// Half the round trip between member `m` and each member in turn, rounded down, in ticks: at most 65,534,000,000 each. They
+    /// are told on demand, and share the network's tables, which stay as long as one of them is used.
     ///
     /// # Errors
     /// [`AllocError`]; as it is written, only where some 2^63 share the tables, and no memory is asked for.
@@ -205,8 +206,8 @@ impl Net {
         HalfRounds::of(&self.tree, m)
     }
 
-    /// How many hops each member in turn is from member `m`: at most 65,534 each. They are told on demand, and share the network's tables,
-    /// which stay as long as one of them is used.
+    /// How many hops each member in turn is from member `m`: at most 65,534 each. They are told on demand, and share the
+    /// network's tables, which stay as long as one of them is used.
     ///
     /// # Errors
     /// [`AllocError`]; as it is written, only where some 2^63 share the tables, and no memory is asked for.
@@ -235,8 +236,8 @@ impl Net {
         self.outs[usize::from(m)]
     }
 
-    /// Whether a packet of this scope, in hops, that is sent at the tick `sent` reaches member `m`: the member is within the scope, and no
-    /// link of the way from its sender [takes it out](Drops::takes_out) when it comes there. It reaches its sender.
+    /// Whether a packet of this scope, in hops, that is sent at the tick `sent` reaches member `m`: the member is within the
+    /// scope, and no link of the way from its sender [takes it out](Drops::takes_out) when it comes there. It reaches its sender.
     pub fn reaches(
         &self,
         drops: &Drops,
@@ -257,8 +258,8 @@ impl Net {
         self.tree.is_clear(drops, id, sent, from, self.tree.host(m))
     }
 
-    /// Whether a packet of this scope that is sent at the tick `sent` crosses a link: the link is on the way from its sender to some
-    /// member, present or not, as far as the scope goes, and neither it nor an earlier link of that way
+    /// Whether a packet of this scope that is sent at the tick `sent` crosses a link: the link is on the way from its sender to
+    /// some member, present or not, as far as the scope goes, and neither it nor an earlier link of that way
     /// [takes it out](Drops::takes_out) when it comes there.
     pub fn crosses(
         &self,
@@ -276,9 +277,9 @@ impl Net {
         matches!(self.fate(drops, id, sent, scope, link), Fate::Crosses)
     }
 
-    /// Whether a packet of this scope that is sent at the tick `sent` is dropped at a link: the link is on the way from its sender to some
-    /// member, present or not, as far as the scope goes, and is the first of that way that [takes it out](Drops::takes_out) when it
-    /// comes there.
+    /// Whether a packet of this scope that is sent at the tick `sent` is dropped at a link: the link is on the way from its
+    /// sender to some member, present or not, as far as the scope goes, and is the first of that way that
+    /// [takes it out](Drops::takes_out) when it comes there.
     pub fn drops_at(
         &self,
         drops: &Drops,
@@ -295,10 +296,11 @@ impl Net {
         matches!(self.fate(drops, id, sent, scope, link), Fate::Dropped)
     }
 
-    /// What becomes of a packet of this scope that is sent at the tick `sent` at a link, by one walk: whether it crosses the link, or is
-    /// dropped there, on its way to some member, present or not.
+    /// What becomes of a packet of this scope that is sent at the tick `sent` at a link, by one walk: whether it crosses the
+    /// link, or is dropped there, on its way to some member, present or not.
     ///
-    /// Of a packet without scope that may not be dropped at all, [`is_on_way`](Net::is_on_way) tells the same without a look at the drops.
+    /// Of a packet without scope that may not be dropped at all, [`is_on_way`](Net::is_on_way) tells the same without a look at
+    /// the drops.
     pub fn fate(
         &self,
         drops: &Drops,
@@ -320,8 +322,8 @@ impl Net {
         }
     }
 
-    /// What becomes of a packet of this scope that is sent at the tick `sent`, at every node and link. Each link is looked at once; where
-    /// the packet may not be dropped at all, none is, and no memory is asked for.
+    /// What becomes of a packet of this scope that is sent at the tick `sent`, at every node and link. Each link is looked at
+    /// once; where the packet may not be dropped at all, none is, and no memory is asked for.
     ///
     /// # Errors
     /// [`AllocError`], only where the packet may be dropped.
@@ -390,8 +392,8 @@ impl Net {
         }
     }
 
-    /// When the packet of a spread, which is sent at the tick `sent`, comes to member `m`, in ticks, if it [`reaches`](Net::reaches) it.
-    /// Where the packet might have been dropped this takes no walk.
+    /// When the packet of a spread, which is sent at the tick `sent`, comes to member `m`, in ticks, if it
+    /// [`reaches`](Net::reaches) it. Where the packet might have been dropped this takes no walk.
     #[inline(always)]
     pub fn arrival(&self, spread: &Spread, sent: u64, m: u16) -> Option<u64>
         requires sent { sent < end_of_time }
@@ -409,7 +411,8 @@ impl Net {
         arrivals.as_slice()[usize::from(self.host(m))]
     }
 
-    /// What becomes of the packet of a spread at a link, as [`fate`](Net::fate) tells it. It takes no walk, and no look at the drops.
+    /// What becomes of the packet of a spread at a link, as [`fate`](Net::fate) tells it. It takes no walk, and no look at the
+    /// drops.
     pub fn fate_in(&self, spread: &Spread, link: u16) -> Fate
         requires spread { FitsIn self.now spread.now }
         requires link { link < length self.now.links }
@@ -443,8 +446,8 @@ impl Net {
 
     /// Whether a link is on the way between some two members, present or not: members are on both its sides. It takes no walk.
     ///
-    /// These links are on the ways of every member, and no others are: every packet without scope that comes to all nodes crosses them
-    /// ([`packets_cross_the_same_links`](crate::laws::packets_cross_the_same_links)).
+    /// These links are on the ways of every member, and no others are: every packet without scope that comes to all nodes crosses
+    /// them ([`packets_cross_the_same_links`](crate::laws::packets_cross_the_same_links)).
     pub fn joins_members(&self, link: u16) -> bool
         requires link { link < length self.now.links }
         ensures value { result ≡ joins_members self.now link }
@@ -474,8 +477,8 @@ impl Net {
         }
     }
 
-    /// The tick at which a packet comes to a link on its way to some member, where the link may yet drop it, or none where it does not
-    /// come there.
+    /// The tick at which a packet comes to a link on its way to some member, where the link may yet drop it, or none where it
+    /// does not come there.
     fn comes_to(
         &self,
         drops: &Drops,

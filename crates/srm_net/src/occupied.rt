@@ -12,8 +12,8 @@ use crate::rooted::Rooted;
 use crate::sides::Sides;
 use std::alloc::{AllocError, Global};
 
-/// For each place of a rooted tree, and for the end of them, the first place from there on whose node has a member, or the end where
-/// there is none.
+/// For each place of a rooted tree, and for the end of them, the first place from there on whose node has a member, or the end
+/// where there is none.
 #[derive(Drop)]
 pub(crate) struct Occupied {
     pub(crate) size: u16,

@@ -11,8 +11,8 @@ use crate::growing_tree::GrowingTree;
 use crate::link::LinkSpec;
 use std::alloc::Global;
 
-/// The steps by which the tree of these links grows from node 0, one for each other node, in preorder. It takes a number of steps that
-/// grows as the number of links.
+/// The steps by which the tree of these links grows from node 0, one for each other node, in preorder. It takes a number of steps
+/// that grows as the number of links.
 ///
 /// [`NetFault::NotTree`] where it is no tree of 1 to [`MOST_NODES`](crate::limits::MOST_NODES) nodes.
 pub(crate) fn attaching_order(

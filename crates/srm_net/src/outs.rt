@@ -11,9 +11,9 @@ use crate::nearest::Nearest;
 use crate::rooted::Rooted;
 use std::alloc::{AllocError, Global};
 
-/// The least distance of each of these hosts' members to another, in ticks. It takes a number of steps that grows as the numbers of nodes
-/// and hosts: the nearest two members of each node are found among those below it first, from the last place to the first, and then
-/// among all, from the first to the last. At a member's node the nearest is the member itself.
+/// The least distance of each of these hosts' members to another, in ticks. It takes a number of steps that grows as the numbers
+/// of nodes and hosts: the nearest two members of each node are found among those below it first, from the last place to the
+/// first, and then among all, from the first to the last. At a member's node the nearest is the member itself.
 pub(crate) fn all_outs(
     alloc: Global,
     rooted: &Rooted,

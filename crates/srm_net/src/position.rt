@@ -6,8 +6,8 @@ ghost use Rattle.std.specs.Prelude.{◌≡◌, ◌≤◌, ◌<◌, true};
 pub(crate) struct Position {
     /// The node's place in the order in which the nodes are attached, from 0 for the root.
     pub(crate) place: u16,
-    /// One more than the last place of the nodes below it. The places from its own up to this one are those of the node and of all below
-    /// it, since nodes are attached in preorder.
+    /// One more than the last place of the nodes below it. The places from its own up to this one are those of the node and of
+    /// all below it, since nodes are attached in preorder.
     pub(crate) end: u16,
     /// How many links there are between the node and the root.
     pub(crate) depth: u16,

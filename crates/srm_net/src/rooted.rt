@@ -68,8 +68,8 @@ impl Rooted {
         self.positions[usize::from(node)]
     }
 
-    /// How long a packet takes from one node to another, in ticks. It takes a number of steps that grows as the logarithm of the number
-    /// of nodes, and where one of the two nodes is below the other, or both are next below one node, it takes no climb.
+    /// How long a packet takes from one node to another, in ticks. It takes a number of steps that grows as the logarithm of the
+    /// number of nodes, and where one of the two nodes is below the other, or both are next below one node, it takes no climb.
     pub(crate) fn delay(&self, from: u16, to: u16) -> u64
         requires rooted { (w : Network) × IsNetwork w × IsRooted w self.now.positions.items × (from < w.nodes) × (to < w.nodes) }
         ensures { (w : Network) → IsRooted w self.now.positions.items → from < w.nodes → to < w.nodes
@@ -117,7 +117,8 @@ impl Rooted {
         (u32::from(here.depth) + u32::from(there.depth) - 2 * u32::from(meeting.depth)) as u16
     }
 
-    /// The position of the node where the ways up from two nodes meet: the way from one to the other leads up to it, and down from there.
+    /// The position of the node where the ways up from two nodes meet: the way from one to the other leads up to it, and down
+    /// from there.
     #[inline(always)]
     fn meeting(&self, from: u16, to: u16) -> Position
         requires rooted { (w : Network) × IsRooted w self.now.positions.items × (from < w.nodes) × (to < w.nodes) }
@@ -158,8 +159,9 @@ impl Rooted {
         self.position(near)
     }
 
-    /// When a packet comes to each node, in ticks, or none where it does not come there. It takes a number of steps that grows as the
-    /// number of nodes: a climb from its sender tells of those above that, and then each other node is told by the one above it.
+    /// When a packet comes to each node, in ticks, or none where it does not come there. It takes a number of steps that grows as
+    /// the number of nodes: a climb from its sender tells of those above that, and then each other node is told by the one above
+    /// it.
     ///
     /// # Errors
     /// [`AllocError`].
@@ -182,7 +184,8 @@ impl Rooted {
         Ok(arrivals)
     }
 
-    /// How many links there are on the way from a node to each node. It takes a number of steps that grows as the number of nodes.
+    /// How many links there are on the way from a node to each node. It takes a number of steps that grows as the number of
+    /// nodes.
     ///
     /// # Errors
     /// [`AllocError`].
@@ -263,8 +266,8 @@ impl Rooted {
         arrivals[usize::from(node)] = packet.past(drops, here.link, ticks, at);
     }
 
-    /// The link by which the way from one node to another begins, and the node to which it leads. It takes a number of steps that grows
-    /// as the logarithm of the number of nodes.
+    /// The link by which the way from one node to another begins, and the node to which it leads. It takes a number of steps that
+    /// grows as the logarithm of the number of nodes.
     pub(crate) fn first_step(&self, from: u16, to: u16) -> (u16, u16)
         requires rooted { (w : Network) × IsRooted w self.now.positions.items × (from < w.nodes) × (to < w.nodes) }
         requires apart { from ≢ to }
@@ -295,8 +298,8 @@ impl Rooted {
         node
     }
 
-    /// A node above one of this position: the one to which it jumps, where that is below `from` and `to` is it or below it, and else its
-    /// parent.
+    /// A node above one of this position: the one to which it jumps, where that is below `from` and `to` is it or below it, and
+    /// else its parent.
     fn above_within(&self, position: Position, from: u16, to: u16) -> u16
         requires jump { position.jump < length self.now.positions.items }
         requires from { from < length self.now.positions.items }
@@ -341,7 +344,8 @@ fn in_order(alloc: Global, steps: &[Attaching]) -> Result<Vec<u16>, AllocError>
     Ok(order)
 }
 
-// The position of the node that this step attaches, with its place and its end, by those of its parent and of the jump from there.
+// The position of the node that this step attaches, with its place and its end, by those of its parent and of the jump from
+// there.
 fn attached_position(
     positions: &[Position],
     links: &[LinkSpec],
@@ -369,8 +373,8 @@ fn attached_position(
     }
 }
 
-// The node to which one below a node of the position `above` jumps: as far as the next two jumps from there together, where these are
-// equally far, so that a climb over jumps takes a number of steps that grows as the logarithm of the depth.
+// The node to which one below a node of the position `above` jumps: as far as the next two jumps from there together, where these
+// are equally far, so that a climb over jumps takes a number of steps that grows as the logarithm of the depth.
 fn jump_of(parent: u16, above: Position, far: Position, farther: Position) -> u16
     ensures { (result ≡ parent) ⊎ (result ≡ far.jump) }
 {

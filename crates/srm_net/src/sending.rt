@@ -21,8 +21,8 @@ pub(crate) struct Sending {
 }
 
 impl Sending {
-    /// When the packet comes to the far end of a link that takes it so many ticks, where it comes to the link at the tick `at`, or to
-    /// neither where there is no such tick.
+    /// When the packet comes to the far end of a link that takes it so many ticks, where it comes to the link at the tick `at`,
+    /// or to neither where there is no such tick.
     #[inline(always)]
     pub(crate) fn past(self, drops: &Drops, link: u16, ticks: u64, at: Option<u64>) -> Option<u64>
         requires listed { self.is_listed ≡ is_listed_somewhere drops.now.listed self.id }

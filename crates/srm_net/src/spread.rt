@@ -48,8 +48,8 @@ impl Spread {
         }
     }
 
-    /// That of a packet of which it is told for each node when it would come there without scope, if it does, and perhaps how many hops the
-    /// node is away. It does not allocate.
+    /// That of a packet of which it is told for each node when it would come there without scope, if it does, and perhaps how
+    /// many hops the node is away. It does not allocate.
     pub(crate) fn told(
         sender: u16,
         scope: Option<u32>,
@@ -76,8 +76,8 @@ impl Spread {
         self.sender
     }
 
-    /// Whether the packet has no scope and comes to every node. It takes a look at each node only where the packet might have been
-    /// dropped.
+    /// Whether the packet has no scope and comes to every node. It takes a look at each node only where the packet might have
+    /// been dropped.
     pub fn is_everywhere(&self) -> bool
         ensures { result ≡ is_everywhere self.now }
     {

@@ -198,8 +198,8 @@ impl Tree {
         self.rooted.first_step(from, to)
     }
 
-    /// Whether no link of the way between two nodes takes out a packet that is at the first of them at the tick `sent`. Where the packet
-    /// may not be dropped at all this takes no walk.
+    /// Whether no link of the way between two nodes takes out a packet that is at the first of them at the tick `sent`. Where the
+    /// packet may not be dropped at all this takes no walk.
     pub(crate) fn is_clear(
         &self,
         drops: &Drops,
@@ -231,7 +231,8 @@ impl Tree {
         true
     }
 
-    /// Of a packet with a scope, how many links there are on the way from a node to each node. Of another one it does not allocate.
+    /// Of a packet with a scope, how many links there are on the way from a node to each node. Of another one it does not
+    /// allocate.
     ///
     /// # Errors
     /// [`AllocError`].
@@ -283,7 +284,8 @@ impl Tree {
         }
     }
 
-    /// Whether members are on the two sides of each link. It takes a number of steps that grows as the numbers of nodes and members.
+    /// Whether members are on the two sides of each link. It takes a number of steps that grows as the numbers of nodes and
+    /// members.
     pub(crate) fn all_sides(&self, alloc: Global) -> Result<Vec<Sides>, AllocError>
         ensures { IfOk result (λ all. TellsAllSides self.now all.items) }
     {

@@ -66,8 +66,8 @@ fn links_before_at_and_behind_a_drop(rt: HostRuntime) {
     }
 }
 
-// A chain of nodes 0 to 2 with a member on each, whose links take 1 tick from the node in the middle and 3 to it. A link is out for
-// the tick `at`. A packet of member 0 comes to link 1 three ticks after it is sent, and one of member 2 at once.
+// A chain of nodes 0 to 2 with a member on each, whose links take 1 tick from the node in the middle and 3 to it. A link is out
+// for the tick `at`. A packet of member 0 comes to link 1 three ticks after it is sent, and one of member 2 at once.
 fn chain_to_the_middle(alloc: Global, link: u16, at: u64) -> Result<LossyNet, NetFault> {
     let links = links_between(alloc, &[(1, 0), (1, 2)], 1, 3)?;
     let outage = outage(link, at, at.saturating_add(1));

@@ -28,7 +28,8 @@ impl Read for FailsOnce {
     }
 }
 
-// What five calls give of a reader of seven bytes, with a bar between them: a call's bytes, or an exclamation mark where it fails.
+// What five calls give of a reader of seven bytes, with a bar between them: a call's bytes, or an exclamation mark where it
+// fails.
 fn pieces(alloc: Global, kind: ErrorKind, fails_at: usize) -> Result<Vec<u8>, AllocError> {
     let mut feed = ReadFeed::new(FailsOnce {
         left: b"version",

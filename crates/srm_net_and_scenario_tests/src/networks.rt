@@ -1,5 +1,5 @@
-//! Networks whose links drop packets, and what tests ask of them. A question has no answer where there is no network, or it has no
-//! such member or link.
+//! Networks whose links drop packets, and what tests ask of them. A question has no answer where there is no network, or it has
+//! no such member or link.
 use srm_net::drops::Drops;
 use srm_net::fate::Fate;
 use srm_net::fault::NetFault;

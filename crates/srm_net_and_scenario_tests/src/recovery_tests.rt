@@ -83,8 +83,8 @@ fn takes_out(s: &Scenario, count: u64, link: u16, at: u64) -> bool {
     s.drops().takes_out(packet(0, count), link, at)
 }
 
-// On link 1 the words of stream 1 and seed 0 are ddf66d04, 0f7bf471, 5edac5a1, .. in slots 0, 1, 2, .., of which the loss takes that
-// of slot 1.
+// On link 1 the words of stream 1 and seed 0 are ddf66d04, 0f7bf471, 5edac5a1, .. in slots 0, 1, 2, .., of which the loss takes
+// that of slot 1.
 #[test]
 fn a_loss_in_bursts_takes_whole_slots(rt: HostRuntime) -> Result<(), Fail> {
     let bursts = "loss = [{ link = 0, rate = 100000, stream = 1, burst = 40, times = 2 }]\n";

@@ -81,8 +81,8 @@ fn scenario(alloc: Global, lines: &str) -> Result<Scenario, Fail> {
     Ok(read_scenario(alloc, &mut ReadFeed::new(text.as_str().as_bytes()))?)
 }
 
-// A chain of three nodes with a sender, a late member and a listener; two draws by member 0, two session messages, and a drop that
-// is listed twice.
+// A chain of three nodes with a sender, a late member and a listener; two draws by member 0, two session messages, and a drop
+// that is listed twice.
 const SAMPLE: &str = "topology = \"chain\"
 size = 3
 delay = 1
@@ -161,8 +161,8 @@ delay = 1
 loss = [{ link = 1, rate = 601955, stream = 54, from = 5, to = 9, times = 2 }]
 ";
 
-// Whether a link of that scenario takes out the first packet of member 0 at a tick, by the words of a seed, or of the one that the
-// scenario has when it is read.
+// Whether a link of that scenario takes out the first packet of member 0 at a tick, by the words of a seed, or of the one that
+// the scenario has when it is read.
 fn takes_out(alloc: Global, seed: Option<u64>, link: u16, at: u64) -> Result<bool, Fail> {
     let s = read_scenario(alloc, &mut ReadFeed::new(LOSSY.as_bytes()))?;
     let s = match seed {

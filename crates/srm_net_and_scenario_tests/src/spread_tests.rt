@@ -21,8 +21,8 @@ const fn first_packet() -> PacketId
     }
 }
 
-// Whether the spread of that packet, of this scope, reaches a member. There is no answer where there is no network, or it has no such
-// member.
+// Whether the spread of that packet, of this scope, reaches a member. There is no answer where there is no network, or it has no
+// such member.
 fn is_reached(
     alloc: Global,
     on: Result<LossyNet, NetFault>,
@@ -58,8 +58,8 @@ fn fate(
     Some(net.fate_in(&spread, link))
 }
 
-// A star of links from node 0, which hosts nobody, to nodes 1 to 4, of which node 4 hosts nobody either. Link 1, to member 1, drops
-// a packet of member 0.
+// A star of links from node 0, which hosts nobody, to nodes 1 to 4, of which node 4 hosts nobody either. Link 1, to member 1,
+// drops a packet of member 0.
 fn star_with_a_drop(alloc: Global) -> Result<LossyNet, NetFault> {
     let drop = DropSpec {
         link: 1,

@@ -7,7 +7,7 @@ pub enum Width {
     Ticks(u64),
     /// The least delay of a link. Where there is no link, a window ends with the run.
     Least,
-    /// As wide as members promise: a member that is no listener sends nothing before its next event, and what it sends then takes at
-    /// least the way to the nearest other member. A window ends at the least sum of the two, or with the run.
+    /// As wide as members promise: a member that is no listener sends nothing before its next event, and what it sends then takes
+    /// at least the way to the nearest other member. A window ends at the least sum of the two, or with the run.
     Promise,
 }

@@ -18,8 +18,8 @@ use srm_scenario::scenario::Scenario;
 use std::alloc::Global;
 use std::marker::Model;
 
-/// A member that joins late: it takes part in loss recovery, and asks for earlier operations of chosen pages alone (this project's
-/// own).
+/// A member that joins late: it takes part in loss recovery, and asks for earlier operations of chosen pages alone (this
+/// project's own).
 #[derive(Drop)]
 pub struct Late {
     recovery: Recovery,

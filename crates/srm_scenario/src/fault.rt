@@ -63,8 +63,8 @@ pub enum ScenarioFault {
     /// The links do not make a tree of the nodes.
     #[error("the links do not make a tree of the nodes")]
     NotTree,
-    /// A member has no node of its own, does not join before the end of the run and before it leaves, has pages without being late, or is
-    /// given a scope, even 0, and is a listener.
+    /// A member has no node of its own, does not join before the end of the run and before it leaves, has pages without being
+    /// late, or is given a scope, even 0, and is a listener.
     #[error("member {place} does not fit the scenario")]
     BadMember {
         /// The member's place.

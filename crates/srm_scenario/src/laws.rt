@@ -10,7 +10,8 @@ pub fn scenarios_are_accepted()
     ensures tables { TablesGiveAccepted }
 {}
 
-/// The script of each member of an accepted scenario rises by time, rank and place, and its marks fit the member's role and times.
+/// The script of each member of an accepted scenario rises by time, rank and place, and its marks fit the member's role and
+/// times.
 pub fn scripts_fit()
     ensures { ScriptsFit }
 {}

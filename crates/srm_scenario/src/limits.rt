@@ -42,7 +42,8 @@ pub(crate) const MOST_PAGES: u64 = 256;
 /// At most so many draws may a file of version 1 or 2 list, and so many session messages, drops and outages.
 pub(crate) const MOST_LISTED: u64 = 4096;
 
-/// At most so many draws may the elements of a file from version 3 on stand for, and so many session messages, drops, outages and losses.
+/// At most so many draws may the elements of a file from version 3 on stand for, and so many session messages, drops, outages and
+/// losses.
 pub(crate) const MOST_REPEATED: u64 = 65_535;
 
 /// For at most so many elements may one stand.

@@ -30,8 +30,8 @@ pub struct Room {
     pub backoff: u64,
 }
 
-/// How members ask again with a scope, and how repairs come back (Floyd et al. 1997, VII.B, of local recovery). It decides only where
-/// a member's requests have a scope.
+/// How members ask again with a scope, and how repairs come back (Floyd et al. 1997, VII.B, of local recovery). It decides only
+/// where a member's requests have a scope.
 #[derive(Clone, Copy, Debug, PartialEq, Eq)]
 pub struct LocalRecovery {
     /// By how many hops each backoff widens the scope of a request: 0 to 65,535 (this project's own).

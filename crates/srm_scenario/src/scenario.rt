@@ -88,7 +88,8 @@ impl Scenario {
         self.recovery.tries
     }
 
-    /// In how many steps a repair goes to those that its request was heard by: 1 or 2. It decides only where a member has a scope.
+    /// In how many steps a repair goes to those that its request was heard by: 1 or 2. It decides only where a member has a
+    /// scope.
     pub fn steps(&self) -> u16
         ensures steps { result ≡ self.now.recovery.steps }
         ensures accepted { IsAccepted self.now }

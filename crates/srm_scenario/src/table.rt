@@ -90,7 +90,8 @@ pub fn values_of(value: &Value) -> Option<&[Value]>
     }
 }
 
-/// For how many elements a value stands: for as many as its `times` says, and for itself alone where that does not say so rightly.
+/// For how many elements a value stands: for as many as its `times` says, and for itself alone where that does not say so
+/// rightly.
 pub fn times_repeated(value: &Value) -> u64
     ensures times { result ≡ times_repeated (view value.now) }
     ensures some { 1 ≤ result }

@@ -11,8 +11,8 @@ pub enum Version {
     One,
     /// A link may have a second delay, `back`, and outages. There are at most 1,024 nodes.
     Two,
-    /// As version 2; and members may adapt the constants of their timers, an element may stand for several, and the parents of nodes
-    /// may be given in place of links. There are at most 65,535 nodes.
+    /// As version 2; and members may adapt the constants of their timers, an element may stand for several, and the parents of
+    /// nodes may be given in place of links. There are at most 65,535 nodes.
     Three,
     /// As version 3; and links may lose packets at random.
     Four,

@@ -44,8 +44,8 @@ const PAGE_2_NUMBER_4: Name = Name {
     number: 4,
 };
 
-/// A late joiner that wants page 1 whole, with distance 10 to member 0 and 5 to member 1, and request timers of two to four times the
-/// distance, of the words 0xa15c02b7, 0x7b47f409 and 0xba1d3330.
+/// A late joiner that wants page 1 whole, with distance 10 to member 0 and 5 to member 1, and request timers of two to four times
+/// the distance, of the words 0xa15c02b7, 0x7b47f409 and 0xba1d3330.
 pub const LATE: Story = Story {
     member: 2,
     steps: &[
