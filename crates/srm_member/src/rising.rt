@@ -1,5 +1,5 @@
 //! Finite maps from names, in one vector.
-ghost use Rattle.std.specs.Prelude.{◌≡◌, ◌≤◌, ◌↔◌, [], OnErr, OnOk, IfOk, IsTrue, length, insert};
+ghost use Rattle.std.specs.Prelude.{◌≡◌, ◌≤◌, ◌↔◌, [], ◌∷◌, ◌++◌, OnErr, OnOk, IfOk, IsTrue, length, insert};
 ghost use Rattle.std.specs.FinMap.Entries.{put, find};
 ghost use Rattle.srm_net.specs.Names.{name_cmp};
 ghost use Rattle.srm_member.specs.Places.{is_before, is_at, IsPlaceOf};
@@ -136,7 +136,7 @@ impl<V: Copy> Rising<V> {
     {
         // most names come behind all: no place is looked for, and no entry moves
         if self.is_behind(name) {
-            self.entries.push((name, value))?;
+            push(&mut self.entries, (name, value))?;
             return Ok(None);
         }
         self.replace_by_place(name, value)
@@ -171,6 +171,36 @@ impl<V: Copy> Rising<V> {
     }
 }
 
+// Makes room in a full vector: for one entry at first, then for four more, and from 16 on for as many again. By itself a `Vec` would
+// make it for four at first and twice as many each time: in large sessions with few names much of that would stand empty.
+#[inline(never)]
+fn widen<V>(entries: &mut Vec<(Name, V)>) -> Result<(), AllocError>
+    ensures { entries.new.items ≡ entries.old.items }
+{
+    let len = entries.len();
+    let more = if len == 0 {
+        1
+    } else if len < 16 {
+        4 - len % 4
+    } else {
+        len
+    };
+    entries.reserve_exact(more)
+}
+
+// Puts an entry behind the others.
+#[inline(always)]
+fn push<V: Copy>(entries: &mut Vec<(Name, V)>, entry: (Name, V)) -> Result<(), AllocError>
+    ensures ok { OnOk result (entries.new.items ≡ entries.old.items ++ entry ∷ []) }
+    ensures err { OnErr result (entries.new.items ≡ entries.old.items) }
+{
+    if entries.len() == entries.capacity() {
+        widen(entries)?;
+    }
+    entries.push(entry)?;
+    Ok(())
+}
+
 // Puts an entry at a place. Those from there on move by one, together: `Vec::insert` moves them one after the other.
 fn insert<V: Copy>(
     entries: &mut Vec<(Name, V)>,
@@ -181,7 +211,7 @@ fn insert<V: Copy>(
     ensures ok { OnOk result (entries.new.items ≡ insert entries.old.items place entry) }
     ensures err { OnErr result (entries.new.items ≡ entries.old.items) }
 {
-    entries.push(entry)?;
+    push(entries, entry)?;
     entries.as_mut_slice()[place..].rotate_right(1);
     Ok(())
 }

@@ -2,7 +2,6 @@ pub mod CommandLines
 pub mod GivenTexts
 pub mod KeptTables
 pub mod ListedTexts
-pub mod Openings
 pub mod OrderlyRows
 pub mod Refusals
 pub mod ReplicationLemmas

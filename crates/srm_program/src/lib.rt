@@ -14,7 +14,6 @@ mod keep_run;
 mod kept_tables;
 pub mod line;
 mod listed;
-mod made;
 mod members;
 pub mod program;
 mod replicating;

@@ -4,12 +4,16 @@ ghost use Rattle.srm_program.specs.Runs.{MayShareBag, TellsRefusals};
 ghost use Rattle.srm_program.specs.Sessions.{session_failures, OfRun, TellsSession};
 
 use crate::fault::Fault;
-use crate::made::{Made, made_members};
 use crate::options::Options;
 use crate::runner::Runner;
 use crate::task::Task;
 use srm_member::member::Member;
+use srm_net::role::Role;
 use srm_report::outlet::Outlet;
+use srm_roles::late::Late;
+use srm_roles::listener::Listener;
+use srm_roles::receiver::Receiver;
+use srm_roles::sender::Sender;
 use srm_scenario::session::Session;
 use std::alloc::Global;
 
@@ -34,16 +38,17 @@ pub(crate) fn run_members<E: Runner + Drop, O: Outlet>(
     ensures refusals { OfRun (TellsRefusals session.entry.scenario.now seed options
         (O.taken outlet.old) (O.taken outlet.new)) result }
 {
+    let Session { scenario, net } = session;
     let mut members: Vec<Box<dyn Member>> = Vec::with_capacity(
         alloc,
-        usize::from(session.scenario.members()),
+        usize::from(scenario.members()),
     )?;
-    for made in made_members(alloc, session, seed)? {
-        let member: Box<dyn Member> = match made {
-            Made::Sender(sender) => Box::new(alloc, sender)?,
-            Made::Receiver(receiver) => Box::new(alloc, receiver)?,
-            Made::Late(late) => Box::new(alloc, late)?,
-            Made::Listener(listener) => Box::new(alloc, listener)?,
+    for m in 0..scenario.members() {
+        let member: Box<dyn Member> = match scenario.role(m) {
+            Role::Sender => Box::new(alloc, Sender::new(alloc, scenario, net, seed, m)?)?,
+            Role::Receiver => Box::new(alloc, Receiver::new(alloc, scenario, net, seed, m)?)?,
+            Role::Late => Box::new(alloc, Late::new(alloc, scenario, net, seed, m)?)?,
+            Role::Listener => Box::new(alloc, Listener::new(alloc, scenario, net, seed, m)?)?,
         };
         members.push(member)?;
     }

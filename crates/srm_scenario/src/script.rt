@@ -88,7 +88,8 @@ pub(crate) fn sort_marks(marks: &mut Vec<Mark>) -> Result<(), AllocError>
 pub(crate) fn joined(alloc: Global, at: u64) -> Result<Vec<Mark>, AllocError>
     ensures { IfOk result (λ marks. marks.items ≡ plain_mark at Join 0 ∷ []) }
 {
-    let mut marks = Vec::new(alloc);
+    // most members have no other: a vector that grows has room for four
+    let mut marks = Vec::with_capacity(alloc, 1)?;
     marks.push(plain_mark(at, Rank::Join, 0))?;
     Ok(marks)
 }

@@ -14,7 +14,7 @@ returns-then-is_behind-clause-before g c =
     (none_there name_cmp c.args.name es (length es) (omega arith)))
 
 pub returns-then-is_behind-clause-ok : goal.returns-then-is_behind-clause-ok
-returns-then-is_behind-clause-ok g c = c.in_ok-push.ensures.items ∙ ap (λ es. es ++ (c.args.name, c.args.value) ∷ []) c.self.view_is
+returns-then-is_behind-clause-ok g c = c.in_ok-push.ensures.ok ∙ ap (λ es. es ++ (c.args.name, c.args.value) ∷ []) c.self.view_is
     ∙ sym (put_behind name_cmp name_total tied_names c.args.name c.args.value c.args.self.now (c.is_behind.ensures.0 c.if-is_behind.true))
 
 pub invariant_of-self-then-is_behind : goal.invariant_of-self-then-is_behind
