@@ -40,8 +40,8 @@ impl<W: Work<T, D> + Copy, T: Drop, D: Drop, J: Naming> Bench<W, T, D, J> {
     }
 }
 
-/// So many workers, each on a thread of its own, until their team is dropped. Where fewer threads can be made, or memory is refused,
-/// there are fewer workers, or none.
+/// So many workers, each on a thread of its own, until their team is dropped. Where fewer threads can be made, or memory is
+/// refused, there are fewer workers, or none.
 pub fn serve_all<
     R: Threads + Wait + Sync,
     W: Work<T, D> + Copy + Send + Sync,

@@ -61,8 +61,8 @@ impl<W, T, J: Naming> Front<W, T, J> {
         both.learn(&other.seen);
     }
 
-    /// Adds a list behind all that was seen, and gives its number; or does nothing, where the history is longer. Only a team's leader
-    /// adds to its history, so it never is; but no proof says so.
+    /// Adds a list behind all that was seen, and gives its number; or does nothing, where the history is longer. Only a team's
+    /// leader adds to its history, so it never is; but no proof says so.
     pub(crate) fn ask(&mut self, book: &Book<W, T, J>, batch: &Batch<W, T>) -> Option<u64>
         requires { length self.old < 2 ^ 62 }
         ensures { MatchOption result (self.new ≡ self.old)

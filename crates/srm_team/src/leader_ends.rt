@@ -1,5 +1,6 @@
 //! The leader's ends of the channels, and the history.
-ghost use Rattle.std.specs.Prelude.{◌≡◌, ◌<◌, ◌≤◌, ◌+◌, ◌^◌, [], Some, length, slice_get, All, IfOk, IfErr};
+ghost use Rattle.std.specs.Prelude.{◌≡◌, ◌<◌, ◌≤◌, ◌+◌, ◌^◌, [], Some, length, slice_get};
+ghost use Rattle.std.specs.Prelude.{All, IfOk, IfErr};
 ghost use Rattle.std.specs.List.{AllZip};
 ghost use Rattle.srm_team.specs.Tells.{IsMidway, Filled};
 
@@ -109,8 +110,8 @@ impl<W: Work<T, D> + Copy, T: Drop, D: Drop, J: Naming> LeaderEnds<W, T, D, J> {
         Ok(())
     }
 
-    /// The next answer. The leader works on orders that nobody has taken, where no answer is there: what it takes in makes room for
-    /// orders, without which workers sleep while it works.
+    /// The next answer. The leader works on orders that nobody has taken, where no answer is there: what it takes in makes room
+    /// for orders, without which workers sleep while it works.
     pub(crate) fn next<R: Wait>(&self, rt: &R) -> Result<Answer<W, T, D, J>, TeamFault>
         ensures { IfErr result (λ e. e ≡ TeamFault.Left) }
     {

@@ -1,5 +1,6 @@
 //! Teams that are given one item after the other.
-ghost use Rattle.std.specs.Prelude.{◌≡◌, ◌≤◌, ◌<◌, ◌^◌, ◌++◌, ◌∷◌, [], Err, drop, length, nat_lt, All, IfErr, IfOk, OnOk};
+ghost use Rattle.std.specs.Prelude.{◌≡◌, ◌≤◌, ◌<◌, ◌^◌, ◌++◌, ◌∷◌, [], Err, drop, length, nat_lt};
+ghost use Rattle.std.specs.Prelude.{All, IfErr, IfOk, OnOk};
 ghost use Rattle.srm_team.specs.Tells.{Filled, lists_after};
 ghost use Rattle.srm_team.specs.Relays.{items_of, IsAsked};
 
@@ -162,8 +163,8 @@ impl<W: Work<T, D> + Copy, T: Drop, D: Drop, J: Naming> Relay<W, T, D, J> {
     /// # Errors
     /// 1. `TooMany`: exactly where as many items are under way as the relay has room for.
     /// 2. `Worn`: exactly where the relay took up 2^62 items before. It took up each that it refused for neither of these.
-    /// 3. As met: `NoMemory` or `Left`. As it is written, `Left` comes where another leader added to the history, or a channel was
-    ///    closed, which no call meets.
+    /// 3. As met: `NoMemory` or `Left`. As it is written, `Left` comes where another leader added to the history, or a channel
+    ///    was closed, which no call meets.
     ///
     /// The item is then gone.
     pub fn begin<R: Wait>(&mut self, rt: &R, alloc: Global, item: T) -> Result<(), TeamFault>
@@ -201,8 +202,8 @@ impl<W: Work<T, D> + Copy, T: Drop, D: Drop, J: Naming> Relay<W, T, D, J> {
         self.ends.send_all(rt, number, batch, &asked)
     }
 
-    /// What comes of the oldest item that is under way, which it waits for. The leader's own thread works on items that no worker has
-    /// taken.
+    /// What comes of the oldest item that is under way, which it waits for. The leader's own thread works on items that no worker
+    /// has taken.
     ///
     /// # Errors
     /// `Left`, alone: no item is under way. As it is written, no other call meets it.
@@ -210,7 +211,8 @@ impl<W: Work<T, D> + Copy, T: Drop, D: Drop, J: Naming> Relay<W, T, D, J> {
         ensures work { self.new.work ≡ self.old.work }
         ensures room { self.new.room ≡ self.old.room }
         ensures lists { self.new.lists ≡ self.old.lists }
-        ensures given { IfOk result (λ d. (x : T) × (self.old.under_way ≡ x ∷ self.new.under_way) × W.gives self.old.work x d) }
+        ensures given { IfOk result (λ d. (x : T) × (self.old.under_way ≡ x ∷ self.new.under_way)
+            × W.gives self.old.work x d) }
         ensures within { length self.new.under_way ≤ self.new.room }
         ensures idle { self.old.under_way ≡ [] → result ≡ Err TeamFault.Left }
         ensures left { IfErr result (λ e. e ≡ TeamFault.Left) }

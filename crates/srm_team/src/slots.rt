@@ -1,5 +1,5 @@
 //! Slots that results are put into.
-ghost use Rattle.std.specs.Prelude.{◌≡◌, length, map, Some, IfOk, IfErr};
+ghost use Rattle.std.specs.Prelude.{◌≡◌, length, map, Some, None, Err, Contains, IfOk, IfErr};
 ghost use Rattle.srm_team.specs.Tells.{AllNone, IsMidway};
 
 use crate::fault::TeamFault;
@@ -22,10 +22,11 @@ pub fn empty_slots<D: Drop>(alloc: Global, count: usize) -> Result<Vec<Option<D>
 /// What the slots hold.
 ///
 /// # Errors
-/// `Left` where one is empty, or `NoMemory`.
+/// `Left`, only where one is empty, or `NoMemory`.
 pub fn collect<D: Drop>(alloc: Global, slots: Vec<Option<D>>) -> Result<Vec<D>, TeamFault>
     ensures held { IfOk result (λ v. map Some v.items ≡ slots.items) }
     ensures fault { IfErr result IsMidway }
+    ensures left { result ≡ Err TeamFault.Left → Contains slots.items None }
 {
     let mut all: Vec<D> = Vec::new(alloc);
     for slot in slots {

@@ -16,8 +16,8 @@ use std::sync::Wait;
 // How many lists a team may take up.
 const MOST_LISTS: u64 = 1 << 62;
 
-/// The leader's hold of a team: it is given lists of items, and gives what comes of each. As it is written, the workers end once it
-/// is dropped. Clauses see how many items a list may have, and how many lists the team took up.
+/// The leader's hold of a team: it is given lists of items, and gives what comes of each. As it is written, the workers end once
+/// it is dropped. Clauses see how many items a list may have, and how many lists the team took up.
 #[derive(Drop)]
 pub struct Team<W: Work<T, D> + Copy, T: Drop, D: Drop, J: Naming> {
     ends: LeaderEnds<W, T, D, J>,
@@ -68,14 +68,14 @@ impl<W: Work<T, D> + Copy, T: Drop, D: Drop, J: Naming> Team<W, T, D, J> {
         self.room
     }
 
-    /// What comes of each item, in order of places. The workers and the leader's own thread take items as they come free, so any of
-    /// them may work on any item. It returns when the last result is back.
+    /// What comes of each item, in order of places. The workers and the leader's own thread take items as they come free, so any
+    /// of them may work on any item. It returns when the last result is back.
     ///
     /// # Errors
     /// 1. `TooMany`: exactly where there are more items than the team has room for.
     /// 2. `Worn`: exactly where the team took up 2^62 lists before. It took up each that it refused for neither of these.
-    /// 3. As met: `NoMemory` or `Left`. As it is written, `Left` comes where another leader added to the history, or a channel was
-    ///    closed, while results were to come, which no call meets.
+    /// 3. As met: `NoMemory` or `Left`. As it is written, `Left` comes where another leader added to the history, or a channel
+    ///    was closed, while results were to come, which no call meets.
     ///
     /// The items are then gone. The team may be called again.
     pub fn map<R: Wait>(
