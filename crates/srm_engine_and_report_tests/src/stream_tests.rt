@@ -141,8 +141,8 @@ draw = [
 ]
 "#;
 
-// The first 32 rows are written together: three joins, eleven draws, and the arrivals of nine packets at two members. The whole run
-// has three joins, twenty draws, and forty arrivals.
+// The first 32 rows are written together: three joins, eleven draws, and the arrivals of nine packets at two members. The whole
+// run has three joins, twenty draws, and forty arrivals.
 #[test]
 fn rows_are_written_before_later_events_are_handled(rt: HostRuntime) -> Result<(), AllocError> {
     let reacts = reacts_of_run(&rt, rt.alloc(), TWENTY_DRAWS, None)?;

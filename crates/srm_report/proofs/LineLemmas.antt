@@ -17,9 +17,9 @@ use Rattle.srm_net.specs.Paths.{round}
 use Rattle.srm_member.specs.declared.told.Told.{Told}
 use Rattle.srm_member.specs.declared.row.Word.{Word}
 use Rattle.srm_member.specs.declared.row.About.{About}
-use Rattle.srm_report.specs.declared.listing.line.Line.{Line}
+use Rattle.srm_report.specs.declared.listing.line_buffer.LineBuffer.{LineBuffer}
 use Rattle.srm_report.specs.declared.losses.mended_loss.MendedLoss.{MendedLoss}
-use Rattle.srm_report.specs.Lines.{line_text, line_written}
+use Rattle.srm_report.specs.Lines.{buffer_text, buffer_written}
 use Rattle.srm_report.specs.Losses.{delay_of}
 use Rattle.srm_report.specs.Members.{role_word}
 pub use Rattle.srm_report.specs.Seeds.{IsPlain, ArePlain}
@@ -46,24 +46,28 @@ pub row_joined : (f g : List ℕ) (fs : List (List ℕ)) → ArePlain (f ∷ g �
 unfolding is_blank
 row_joined f g fs h = grind (arith, append_assoc, fields_joined)
 
--- these fields are written, none of which calls for quotes
-pub record HasFields (written : List ℕ) (fields : List (List ℕ)) : Type 0 where
-  pub text : written ≡ after_commas fields
+-- these fields are written before other lines, none of which calls for quotes
+pub record HasFields (written : List ℕ) (fields : List (List ℕ)) (others : List ℕ) : Type 0 where
+  pub text : written ≡ after_commas fields ++ others
   pub plain : ArePlain fields
 
 -- the line feed alone
-pub no_field : {written : List ℕ} → written ≡ line_feed ∷ [] → HasFields written []
+pub no_field : {written others : List ℕ} → written ≡ line_feed ∷ others → HasFields written [] others
 no_field e = record { text = e; plain = tt }
 
 -- one field more is written after a comma, before the others
-pub field : {fs : List (List ℕ)} (f : List ℕ) → IsPlain f → {g old new : List ℕ} → new ≡ comma ∷ (g ++ old) → g ≡ f → HasFields old fs
-    → HasFields new (f ∷ fs)
-field f h written is old = record { text = written ∙ (λ i. comma ∷ (is i ++ old.text i)); plain = (h, old.plain) }
+pub field : {fs : List (List ℕ)} {others : List ℕ} (f : List ℕ) → IsPlain f → {g old new : List ℕ} → new ≡ comma ∷ (g ++ old) → g ≡ f
+    → HasFields old fs others → HasFields new (f ∷ fs) others
+field {fs} {others} f h written is old = record {
+  text = written ∙ (λ i. comma ∷ (is i ++ old.text i)) ∙ ap (λ l. comma ∷ l) (sym (append_assoc f (after_commas fs) others));
+  plain = (h, old.plain);
+}
 
 -- a line of two fields at least
-pub line_is_row : {f g : List ℕ} {fs : List (List ℕ)} (l : Line) → HasFields (line_written l) (f ∷ g ∷ fs) → line_text l
-    ≡ row_text default_writer (f ∷ g ∷ fs)
-line_is_row {f} {g} {fs} l h = sym (drop-drop 1 l.start l.bytes) ∙ ap (λ w. drop 1 w) h.text ∙ sym (row_joined f g fs h.plain)
+pub line_is_row : {f g : List ℕ} {fs : List (List ℕ)} {others : List ℕ} (b : LineBuffer)
+    → HasFields (buffer_written b) (f ∷ g ∷ fs) others → buffer_text b ≡ row_text default_writer (f ∷ g ∷ fs) ++ others
+line_is_row {f} {g} {fs} {others} b h =
+    sym (drop-drop 1 b.start b.bytes) ∙ ap (λ w. drop 1 w) h.text ∙ ap (λ l. l ++ others) (sym (row_joined f g fs h.plain))
 
 -- ---- fields
 

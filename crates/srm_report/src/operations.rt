@@ -28,8 +28,8 @@ use std::alloc::Global;
 pub const HEADER: &[u8] =
     b"source,page,number,losers,recovered,left,detected,asked,requests,repairs,last,delay\n";
 
-/// The table of operations, as CSV with line feeds: a header, and a line for each name that some member lost. Lines rise by source,
-/// page and number.
+/// The table of operations, as CSV with line feeds: a header, and a line for each name that some member lost. Lines rise by
+/// source, page and number.
 ///
 /// | column | what it has |
 /// |---|---|

@@ -1,5 +1,5 @@
-//! Records of a table that is made at the end of a run, which `csv` writes into memory. No writer is moved more often than must be,
-//! since its buffer of 8 KiB goes with it.
+//! Records of a table that is made at the end of a run, which `csv` writes into memory. No writer is moved more often than must
+//! be, since its buffer of 8 KiB goes with it.
 pub(crate) mod field;
 
 ghost use Rattle.std.specs.Prelude.{◌≡◌, ℕ, List, IfOk, map};

@@ -22,8 +22,8 @@ use std::alloc::{AllocError, Global};
 /// The line of the columns.
 pub const HEADER: &[u8] = b"time,member,cause,ref,sent,scope,requester,width,heard\n";
 
-/// The table of scopes, as CSV with line feeds: a header, and a line for each request and each repair that was sent, in the order of the
-/// rows.
+/// The table of scopes, as CSV with line feeds: a header, and a line for each request and each repair that was sent, in the order
+/// of the rows.
 ///
 /// | column | what it has |
 /// |---|---|
@@ -59,8 +59,8 @@ fn scopes_of(alloc: Global, rows: &[Row]) -> Result<MemberScopes, AllocError>
     Ok(all)
 }
 
-/// The same of orderly rows, as those of every run are, from what [`FindScopes`](crate::scopes::find_scopes::FindScopes) kept of each
-/// member's rows.
+/// The same of orderly rows, as those of every run are, from what [`FindScopes`](crate::scopes::find_scopes::FindScopes) kept of
+/// each member's rows.
 ///
 /// # Errors
 /// `NoMemory`, also where a count would be too great for its number.

@@ -12,11 +12,13 @@ pub struct Nothing;
 pub struct KeepNothing;
 
 impl Watch<Nothing> for KeepNothing {
-    ghost use Rattle.std.specs.Prelude.{◌≡◌};
+    ghost use Rattle.std.specs.Prelude.{◌≡◌, refl};
 
     ghost keeps = { λ _ _ _. Unit {0} };
 
     ghost closes = { λ _ old new. new ≡ old };
+
+    ghost may_stand = { λ _ _. refl };
 
     fn none(&self) -> Nothing {
         Nothing

@@ -24,7 +24,7 @@ pub(crate) fn put_in_order<'a>(
     ensures { (f : Form) (rows : List R) → AreLinesOf f rows groups.now
         → IfOk result (λ parts. parts_text parts.items ≡ lead.now ++ lines_in f rows) }
 {
-    let mut parts = Vec::new(alloc);
+    let mut parts = Vec::with_capacity(alloc, parts_in(groups).saturating_add(1))?;
     for group in groups {
         add_parts(&mut parts, group.as_slice())?;
     }
@@ -37,6 +37,17 @@ pub(crate) fn put_in_order<'a>(
         },
     )?;
     Ok(parts)
+}
+
+// How many parts the lines of all members have, to make room for them at once.
+fn parts_in(groups: &[Vec<Lines>]) -> usize {
+    let mut parts: usize = 0;
+    for group in groups {
+        for own in group.as_slice() {
+            parts = parts.saturating_add(own.len());
+        }
+    }
+    parts
 }
 
 /// The lines of some members together, in order of ticks.
@@ -57,7 +68,10 @@ fn add_parts<'a>(parts: &mut Vec<TickPart<'a>>, all: &'a [Lines]) -> Result<(), 
     ensures { OnOk result (parts_seen parts.new.items ≡ parts_seen parts.old.items ++ joined all.now) }
 {
     for own in all {
-        own.put_parts(parts)?;
+        // most members have none in a window
+        if own.len() > 0 {
+            own.put_parts(parts)?;
+        }
     }
     Ok(())
 }

@@ -3,13 +3,13 @@ ghost use Rattle.std.specs.Prelude.{◌≡◌, [], All, length};
 
 use crate::listing::Listing;
 use crate::listing::in_order::together;
-use crate::listing::line::Line;
+use crate::listing::line_buffer::LineBuffer;
 use crate::listing::lines::Lines;
 use srm_interfaces::watch::Watch;
 use srm_member::row::Row;
 use std::alloc::{AllocError, Global};
 
-// Lines are put together where parts have fewer bytes, most of them.
+// Lines are put together where parts have fewer bytes on average.
 const LONG_PART: usize = 4_096;
 
 /// Keeps the lines that the rows of a member have in a table which lists rows, and no row. Where more than one of a job's members
@@ -26,27 +26,31 @@ pub struct KeepLines<L> {
 }
 
 impl<L: Listing> Watch<Lines> for KeepLines<L> {
-    ghost use Rattle.std.specs.Prelude.{◌≡◌};
+    ghost use Rattle.std.specs.Prelude.{◌≡◌, refl};
     ghost use Rattle.srm_report.specs.KeptLines.{lines_of, HaveSameTexts};
 
     ghost keeps = { λ _ k rows. k ≡ lines_of L.form rows };
 
     ghost closes = { λ _ old new. HaveSameTexts old new };
 
+    ghost may_stand = { λ _ _ _. refl };
+
     fn none(&self) -> Lines {
         Lines::new(self.alloc)
     }
 
     fn clear(&self, kept: &mut Lines) {
-        kept.clear(self.alloc);
+        if kept.len() > 0 {
+            kept.clear(self.alloc);
+        }
     }
 
     fn add(&self, kept: &mut Lines, rows: &[Row]) -> Result<(), AllocError> {
         kept.reserve(rows.len())?;
         // each line in turn is made in the same memory
-        let mut line = Line::new();
+        let mut buffer = LineBuffer::new();
         for row in rows {
-            kept.put::<L>(&mut line, row)?;
+            kept.put::<L>(&mut buffer, row)?;
         }
         Ok(())
     }

@@ -3,15 +3,12 @@ ghost use Rattle.std.specs.Prelude.{◌≡◌, ◌<◌, ◌≤◌, ◌++◌, ◌
 ghost use Rattle.std.proofs.Math.ListN.{get_or};
 ghost use Rattle.srm_report.specs.KeptLines.{line_behind, parts_seen, start_at};
 
-use crate::listing::Listing;
-use crate::listing::line::Line;
+use crate::listing::line_buffer::LineBuffer;
 use crate::listing::tick_part::TickPart;
+use crate::listing::{Listing, USUAL_LINE};
 use srm_member::row::Row;
 use std::alloc::{AllocError, Global};
 use std::marker::Model;
-
-// How many bytes most lines have at most, to make room for them at once.
-const USUAL_LINE: usize = 40;
 
 // How many bytes lines have at most whose room is kept as they are taken out.
 const KEPT_ROOM: usize = 8_192;
@@ -84,32 +81,29 @@ impl Lines {
         self.text.reserve(more.saturating_mul(USUAL_LINE))
     }
 
-    /// Puts the lines of a row in a table behind the others. They are made in `line`, whatever it has.
+    /// Puts the lines of a row in a table behind the others. They are made in `buffer`, whatever it has.
     ///
     /// # Errors
     /// [`AllocError`]: the lines are as they were.
-    pub fn put<L: Listing>(&mut self, line: &mut Line, row: &Row) -> Result<(), AllocError>
+    pub fn put<L: Listing>(&mut self, buffer: &mut LineBuffer, row: &Row) -> Result<(), AllocError>
         ensures { self.new ≡ (if is_ok result then line_behind self.old row.now.key.time (L.form.line row.now) else self.old) }
     {
-        self.ends.reserve(1)?;
-        L::put_line(line, &mut self.text, row)?;
-        let time = row.key.time;
-        let end = self.text.len();
-        let count = self.ends.len();
-        if count > 0 && self.ends[count - 1].time == time {
-            self.ends[count - 1] = LineEnd { time, end };
-            return Ok(());
-        }
-        self.ends.push(LineEnd { time, end })?;
-        Ok(())
+        buffer.clear();
+        L::put_line(buffer, row);
+        self.put_part(&TickPart {
+            time: row.key.time,
+            text: buffer.text(),
+        })
     }
 
     /// Puts a part behind the others.
     ///
     /// # Errors
-    /// [`AllocError`]: the lines are of no more use.
+    /// [`AllocError`]: the lines are as they were.
+    // within `put`, as each row of a window comes here
+    #[inline(always)]
     pub(crate) fn put_part(&mut self, part: &TickPart) -> Result<(), AllocError>
-        ensures { OnOk result (self.new ≡ line_behind self.old part.now.time part.now.text.now) }
+        ensures { self.new ≡ (if is_ok result then line_behind self.old part.now.time part.now.text.now else self.old) }
     {
         self.ends.reserve(1)?;
         self.text.extend_from_slice(part.text)?;

@@ -1,23 +1,22 @@
 //! A table that lists rows, written as they come.
-ghost use Rattle.std.specs.Prelude.{◌≡◌, ◌<◌, ◌+◌, ◌-◌, ◌^◌, ◌≤◌, ◌==◌, ◌||◌, ◌++◌, List, [], false, true, IsTrue, is_ok, not, if◌then◌else◌, length, IfOk};
+ghost use Rattle.std.specs.Prelude.{◌≡◌, ◌<◌, ◌+◌, ◌-◌, ◌^◌, ◌≤◌, ◌==◌, ◌||◌, ◌++◌, List, [], false, true, IsTrue, is_ok, not, if◌then◌else◌, length, IfOk, OnOk};
 ghost use Rattle.srm_member.specs.declared.row.Row.{Row as R};
 ghost use Rattle.srm_interfaces.specs.Grouped.{sizes};
 ghost use Rattle.srm_interfaces.specs.Sinks.{stops_in};
 ghost use Rattle.srm_report.specs.KeptLines.{AreLinesOf, parts_text};
-ghost use Rattle.srm_report.specs.Standings.{text_next, after_answer, TakesText};
+ghost use Rattle.srm_report.specs.Standings.{lead, text_next, after_answer, TakesText};
 
-use crate::fault::ReportFault;
-use crate::listing::Listing;
 use crate::listing::in_order::put_in_order;
 use crate::listing::lines::Lines;
 use crate::listing::standing::Standing;
 use crate::listing::tick_part::TickPart;
+use crate::listing::{Listing, put_lines};
 use crate::outlet::Outlet;
 use crate::writing::{WriteFault, write_out};
 use srm_interfaces::kept_sink::KeptSink;
 use srm_interfaces::sink::{RowSink, SinkFault};
 use srm_member::row::Row;
-use std::alloc::Global;
+use std::alloc::{AllocError, Global};
 
 // How long a text may get to which parts are put, before it is written. Each write is a call of the system.
 const SHORT: usize = 65_536;
@@ -42,18 +41,26 @@ pub struct ListingSink<'a, L, O> {
     pub ghost within: { length gathered.items ≤ room },
 }
 
-// The text of the rows that a sink takes next.
-fn text_of<L: Listing>(
-    alloc: Global,
-    standing: Standing,
-    rows: &[Row],
-) -> Result<Vec<u8>, ReportFault>
-    ensures { IfOk result (λ text. text.items ≡ text_next L.form standing rows.now) }
+// What comes before the rows that a sink takes next.
+fn lead_of<L: Listing>(standing: Standing) -> &'static [u8]
+    ensures { result.now ≡ lead L.form standing }
 {
     match standing {
-        Standing::Fresh => L::text(alloc, rows),
-        Standing::Live | Standing::NoMemory | Standing::Stopped => L::lines(alloc, rows),
+        Standing::Fresh => L::header(),
+        Standing::Live | Standing::NoMemory | Standing::Stopped => &[],
     }
+}
+
+// Puts the text of the rows that a sink takes next behind a text.
+fn put_next<L: Listing>(
+    text: &mut Vec<u8>,
+    standing: Standing,
+    rows: &[Row],
+) -> Result<(), AllocError>
+    ensures { OnOk result (text.new.items ≡ text.old.items ++ text_next L.form standing rows.now) }
+{
+    text.extend_from_slice(lead_of::<L>(standing))?;
+    put_lines::<L>(text, rows)
 }
 
 // Puts a part behind a text if there is room, and tells whether it did.
@@ -218,19 +225,21 @@ impl<'a, L: Listing, O: Outlet> ListingSink<'a, L, O> {
         outlet
     }
 
-    // Puts the text of the rows that come next.
-    fn put_rows(&mut self, alloc: Global, rows: Vec<Row>) -> Result<(), SinkFault>
+    // Puts the text of the rows that come next: gathers it, and writes all that is gathered where that is to be.
+    fn put_rows(&mut self, rows: Vec<Row>) -> Result<(), SinkFault>
         requires failures { O.failures (outlet_under self.old) < 2 ^ 64 - 1 }
         ensures sink { Answers O.Outlet self.old result self.new }
         ensures text { PutsText O.taken self.old (text_next L.form (standing_of self.old) rows.items) result self.new }
     {
-        match text_of::<L>(alloc, self.standing, rows.as_slice()) {
-            Ok(text) => self.put(&[TickPart {
-                time: 0,
-                text: text.as_slice(),
-            }]),
-            Err(ReportFault::NoMemory) => Err(SinkFault::NoMemory),
+        let before = self.gathered.len();
+        if put_next::<L>(&mut self.gathered, self.standing, rows.as_slice()).is_err() {
+            self.gathered.truncate(before);
+            return Err(SinkFault::NoMemory);
         }
+        if self.has_begun && self.gathered.len() <= self.room {
+            return Ok(());
+        }
+        write_both(self.outlet, &mut self.written, &mut self.gathered, &[])
     }
 
     // The same of rows of which these are the lines of all members.
@@ -240,10 +249,7 @@ impl<'a, L: Listing, O: Outlet> ListingSink<'a, L, O> {
         ensures text { (rows : List R) → AreLinesOf L.form rows groups.now
             → PutsText O.taken self.old (text_next L.form (standing_of self.old) rows) result self.new }
     {
-        let Ok(lead) = text_of::<L>(alloc, self.standing, &[]) else {
-            return Err(SinkFault::NoMemory);
-        };
-        match put_in_order(alloc, lead.as_slice(), groups) {
+        match put_in_order(alloc, lead_of::<L>(self.standing), groups) {
             Ok(parts) => self.put(parts.as_slice()),
             Err(_) => Err(SinkFault::NoMemory),
         }
@@ -302,7 +308,7 @@ impl<'a, L: Listing, O: Outlet> RowSink for ListingSink<'a, L, O> {
     /// # Errors
     /// `Stopped` exactly where the outlet failed, with how many bytes it took by this sink in all, the header's too, up to 2^64 -
     /// 1. `NoMemory`: then the outlet took nothing in this call.
-    fn rows(&mut self, alloc: Global, rows: Vec<Row>) -> Result<(), SinkFault>
+    fn rows(&mut self, _alloc: Global, rows: Vec<Row>) -> Result<(), SinkFault>
         requires open { IsOpen (stage_of self.old) }
         requires failures { O.failures (outlet_under self.old) < 2 ^ 64 - 1 }
         ensures same { AreOverOne self.old self.new }
@@ -315,7 +321,7 @@ impl<'a, L: Listing, O: Outlet> RowSink for ListingSink<'a, L, O> {
         ensures begun { has_begun self.new ≡ (has_begun self.old || not (length rows.items == 0)) }
     {
         let has_rows = !rows.is_empty();
-        let answer = self.put_rows(alloc, rows);
+        let answer = self.put_rows(rows);
         self.has_begun = self.has_begun || has_rows;
         self.standing = standing_after(&answer);
         answer

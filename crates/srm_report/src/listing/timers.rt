@@ -1,22 +1,19 @@
 //! The table of timers as CSV.
-ghost use Rattle.std.specs.Prelude.{◌≡◌, ◌≤◌, ◌+◌, [], ◌∷◌, ◌++◌, decimal, is_ok, IfOk, OnOk, if◌then◌else◌};
-ghost use Rattle.csv.specs.Machine.{line_feed};
+ghost use Rattle.std.specs.Prelude.{◌≡◌, ◌≤◌, ◌+◌, ◌∷◌, ◌++◌, decimal, IfOk};
 ghost use Rattle.csv.specs.Writing.{comma, default_writer, row_text};
-ghost use Rattle.srm_report.specs.Listings.{lines_in};
-ghost use Rattle.srm_report.specs.Lines.{full_room, line_room, line_text, line_written, pair_room};
+ghost use Rattle.srm_report.specs.Lines.{buffer_room, buffer_text, buffer_written, line_room, pair_room};
 ghost use Rattle.srm_report.specs.Rows.{or_dash};
-ghost use Rattle.srm_report.specs.Tables.{lines_of};
-ghost use Rattle.srm_report.specs.Timers.{timers_fields, timers_form, timers_rows, timers_table};
+ghost use Rattle.srm_report.specs.Timers.{timers_fields, timers_table};
 
 use crate::fault::ReportFault;
-use crate::listing::Listing;
 use crate::listing::fields::{put_number, put_time};
-use crate::listing::line::Line;
+use crate::listing::line_buffer::LineBuffer;
 use crate::listing::trace::{put_cause, put_ref};
+use crate::listing::{Listing, table_text};
 use srm_member::interval::Interval;
 use srm_member::intervals::Intervals;
 use srm_member::row::Row;
-use std::alloc::{AllocError, Global};
+use std::alloc::Global;
 
 /// The line of the columns.
 pub const HEADER: &[u8] =
@@ -31,16 +28,14 @@ impl Listing for TimersListing {
 
     ghost form = { timers_form };
 
-    fn text(alloc: Global, rows: &[Row]) -> Result<Vec<u8>, ReportFault> {
-        timers_text(alloc, rows)
+    fn header() -> &'static [u8] {
+        HEADER
     }
 
-    fn lines(alloc: Global, rows: &[Row]) -> Result<Vec<u8>, ReportFault> {
-        lines_text(alloc, rows)
-    }
-
-    fn put_line(line: &mut Line, text: &mut Vec<u8>, row: &Row) -> Result<(), AllocError> {
-        append_row(text, line, row)
+    fn put_line(buffer: &mut LineBuffer, row: &Row) {
+        if let Some(intervals) = row.adapted.get() {
+            put_row(buffer, row, intervals);
+        }
     }
 }
 
@@ -61,78 +56,44 @@ impl Listing for TimersListing {
 pub fn timers_text(alloc: Global, rows: &[Row]) -> Result<Vec<u8>, ReportFault>
     ensures { IfOk result (λ text. text.items ≡ timers_table rows.now) }
 {
-    let mut text = Vec::from_slice(alloc, HEADER)?;
-    put_rows(&mut text, rows)?;
-    Ok(text)
+    Ok(table_text::<TimersListing>(alloc, rows)?)
 }
 
-// The lines of these rows, without a header.
-fn lines_text(alloc: Global, rows: &[Row]) -> Result<Vec<u8>, ReportFault>
-    ensures { IfOk result (λ text. text.items ≡ lines_in timers_form rows.now) }
+// Puts the line of a row that tells of these intervals, its fields from the last to the first.
+fn put_row(buffer: &mut LineBuffer, row: &Row, intervals: Intervals)
+    requires { line_room ≤ buffer_room buffer.old }
+    ensures room { buffer_room buffer.old ≤ buffer_room buffer.new + line_room }
+    ensures text { buffer_text buffer.new ≡ row_text default_writer (timers_fields row.now intervals) ++ buffer_text buffer.old }
 {
-    let mut text = Vec::new(alloc);
-    put_rows(&mut text, rows)?;
-    Ok(text)
-}
-
-// Appends the lines of these rows.
-fn put_rows(text: &mut Vec<u8>, rows: &[Row]) -> Result<(), AllocError>
-    ensures { OnOk result (text.new.items ≡ text.old.items ++ lines_in timers_form rows.now) }
-{
-    let mut line = Line::new();
-    for row in rows {
-        append_row(text, &mut line, row)?;
-    }
-    Ok(())
-}
-
-// Appends the line of a row, if it has one.
-fn append_row(text: &mut Vec<u8>, line: &mut Line, row: &Row) -> Result<(), AllocError>
-    ensures { text.new.items ≡ (if is_ok result then text.old.items ++ lines_of (timers_rows row.now) else text.old.items) }
-{
-    let Some(intervals) = row.adapted.get() else {
-        return Ok(());
-    };
-    line.clear();
-    put_row(line, row, intervals);
-    text.extend_from_slice(line.text())?;
-    Ok(())
-}
-
-// Puts the fields of a row that tells of these intervals, from the last to the first, before the line feed of an empty line.
-fn put_row(line: &mut Line, row: &Row, intervals: Intervals)
-    requires room { line_room line.old ≡ full_room }
-    requires empty { line_written line.old ≡ line_feed ∷ [] }
-    ensures { line_text line.new ≡ row_text default_writer (timers_fields row.now intervals) }
-{
-    put_averages(line, intervals.repair);
-    put_averages(line, intervals.request);
-    put_constants(line, intervals.repair);
-    put_constants(line, intervals.request);
-    put_ref(line, &row.about);
-    put_cause(line, row.cause);
-    put_number(line, u64::from(row.key.member));
-    put_number(line, row.key.time);
+    buffer.end_line();
+    put_averages(buffer, intervals.repair);
+    put_averages(buffer, intervals.request);
+    put_constants(buffer, intervals.repair);
+    put_constants(buffer, intervals.request);
+    put_ref(buffer, &row.about);
+    put_cause(buffer, row.cause);
+    put_number(buffer, u64::from(row.key.member));
+    put_number(buffer, row.key.time);
 }
 
 // Puts the two averages of an interval.
-fn put_averages(line: &mut Line, interval: Interval)
-    requires { pair_room ≤ line_room line.old }
-    ensures room { line_room line.old ≤ line_room line.new + pair_room }
-    ensures written { line_written line.new ≡ comma ∷ (or_dash decimal interval.average_duplicates
-        ++ comma ∷ (or_dash decimal interval.average_delay ++ line_written line.old)) }
+fn put_averages(buffer: &mut LineBuffer, interval: Interval)
+    requires { pair_room ≤ buffer_room buffer.old }
+    ensures room { buffer_room buffer.old ≤ buffer_room buffer.new + pair_room }
+    ensures written { buffer_written buffer.new ≡ comma ∷ (or_dash decimal interval.average_duplicates
+        ++ comma ∷ (or_dash decimal interval.average_delay ++ buffer_written buffer.old)) }
 {
-    put_time(line, interval.average_delay());
-    put_time(line, interval.average_duplicates());
+    put_time(buffer, interval.average_delay());
+    put_time(buffer, interval.average_duplicates());
 }
 
 // Puts the two constants of an interval.
-fn put_constants(line: &mut Line, interval: Interval)
-    requires { pair_room ≤ line_room line.old }
-    ensures room { line_room line.old ≤ line_room line.new + pair_room }
-    ensures written { line_written line.new ≡ comma ∷ (decimal interval.start
-        ++ comma ∷ (decimal interval.width ++ line_written line.old)) }
+fn put_constants(buffer: &mut LineBuffer, interval: Interval)
+    requires { pair_room ≤ buffer_room buffer.old }
+    ensures room { buffer_room buffer.old ≤ buffer_room buffer.new + pair_room }
+    ensures written { buffer_written buffer.new ≡ comma ∷ (decimal interval.start
+        ++ comma ∷ (decimal interval.width ++ buffer_written buffer.old)) }
 {
-    put_number(line, u64::from(interval.width()));
-    put_number(line, u64::from(interval.start()));
+    put_number(buffer, u64::from(interval.width()));
+    put_number(buffer, u64::from(interval.start()));
 }

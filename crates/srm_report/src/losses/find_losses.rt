@@ -14,12 +14,14 @@ pub struct FindLosses {
 }
 
 impl Watch<MemberLosses> for FindLosses {
-    ghost use Rattle.std.specs.Prelude.{◌≡◌};
+    ghost use Rattle.std.specs.Prelude.{◌≡◌, refl};
     ghost use Rattle.srm_report.specs.KeptLosses.{KeepsLosses};
 
     ghost keeps = { λ _ k rows. KeepsLosses rows k };
 
     ghost closes = { λ _ old new. new ≡ old };
+
+    ghost may_stand = { λ _ _. refl };
 
     fn none(&self) -> MemberLosses {
         MemberLosses {

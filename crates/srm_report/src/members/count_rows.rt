@@ -9,12 +9,14 @@ use std::alloc::AllocError;
 pub struct CountRows;
 
 impl Watch<MemberCount> for CountRows {
-    ghost use Rattle.std.specs.Prelude.{◌≡◌};
+    ghost use Rattle.std.specs.Prelude.{◌≡◌, refl};
     ghost use Rattle.srm_report.specs.MemberCounts.{IsCountOf};
 
     ghost keeps = { λ _ k rows. IsCountOf rows k };
 
     ghost closes = { λ _ old new. new ≡ old };
+
+    ghost may_stand = { λ _ _. refl };
 
     fn none(&self) -> MemberCount {
         MemberCount::new()

@@ -12,12 +12,14 @@ pub struct FindOperations {
 }
 
 impl Watch<MemberOperations> for FindOperations {
-    ghost use Rattle.std.specs.Prelude.{◌≡◌};
+    ghost use Rattle.std.specs.Prelude.{◌≡◌, refl};
     ghost use Rattle.srm_report.specs.KeptOperations.{KeepsOperations};
 
     ghost keeps = { λ _ k rows. KeepsOperations rows k };
 
     ghost closes = { λ _ old new. new ≡ old };
+
+    ghost may_stand = { λ _ _. refl };
 
     fn none(&self) -> MemberOperations {
         MemberOperations::new(self.alloc)

@@ -12,8 +12,8 @@ pub fn sendings_add_up()
     ensures { SendingsAddUp }
 {}
 
-/// In orderly rows `detected` is the time of the first row in which a member lost the operation, and `asked` that of the first row
-/// in which one sent a request for it.
+/// In orderly rows `detected` is the time of the first row in which a member lost the operation, and `asked` that of the first
+/// row in which one sent a request for it.
 pub fn firsts_are_least()
     ensures { FirstsAreLeast }
 {}

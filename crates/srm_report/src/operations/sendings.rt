@@ -85,8 +85,8 @@ fn count_repair(sent: &mut Named<SentForName>, name: Name) -> Result<(), AllocEr
     sent.put(name, SentForName { repairs, ..before })
 }
 
-// Takes in what was sent in more rows, of which this was found. It answers no memory also where a count would be too great for its
-// number.
+// Takes in what was sent in more rows, of which this was found. It answers no memory also where a count would be too great for
+// its number.
 pub(crate) fn add_sent(
     alloc: Global,
     sent: &mut Named<SentForName>,

@@ -12,12 +12,14 @@ pub struct FindScopes {
 }
 
 impl Watch<MemberScopes> for FindScopes {
-    ghost use Rattle.std.specs.Prelude.{◌≡◌};
+    ghost use Rattle.std.specs.Prelude.{◌≡◌, refl};
     ghost use Rattle.srm_report.specs.KeptScopes.{KeepsScopes};
 
     ghost keeps = { λ _ k rows. KeepsScopes rows k };
 
     ghost closes = { λ _ old new. new ≡ old };
+
+    ghost may_stand = { λ _ _. refl };
 
     fn none(&self) -> MemberScopes {
         MemberScopes::new(self.alloc)

@@ -3,11 +3,11 @@ use Rattle.srm_report.specs.Trace.{cause_word, ref_text}
 use Rattle.srm_report.proofs.LineLemmas.{line_is_row, no_field, field, cause_is_plain, decimal_is_plain, ref_is_plain, time_is_plain}
 use Rattle.srm_report.proofs.listing.timers.put_row.Goals as goal
 
-pub returns : goal.returns
-returns c =
+pub returns-clause-text : goal.returns-clause-text
+returns-clause-text c =
     let r = c.args.row.now in
     let i = c.args.intervals in
-    let rep_delay = field _ (time_is_plain i.repair.average_delay) refl refl (no_field c.requires.empty) in
+    let rep_delay = field _ (time_is_plain i.repair.average_delay) refl refl (no_field c.end_line.ensures.written) in
     let rep_dup = field _ (time_is_plain i.repair.average_duplicates) c.put_averages.ensures.written
     refl rep_delay in
     let req_delay = field _ (time_is_plain i.request.average_delay) refl refl rep_dup in
@@ -22,4 +22,4 @@ returns c =
     let member = field (decimal r.key.member) (decimal_is_plain r.key.member) c.put_number.ensures.written (ap decimal c.from.ensures)
     cause in
     let time = field (decimal r.key.time) (decimal_is_plain r.key.time) c.put_number-2.ensures.written refl member in
-    line_is_row c.put_number-2.new.line time
+    line_is_row c.put_number-2.new.buffer time

@@ -1,7 +1,7 @@
 use Rattle.std.proofs.Common.{◌≤◌, ◌∷◌, ◌++◌, ◌∙◌, length, decimal, ap, sym, rules, arith}
 use Rattle.std.proofs.lemmas.Fmt.{decimal_digit, length-decimal-le}
-use Rattle.srm_report.specs.Lines.{line_written}
-use Rattle.srm_report.proofs.listing.line.Line.put_marked.Goals as goal
+use Rattle.srm_report.specs.Lines.{buffer_written}
+use Rattle.srm_report.proofs.listing.line_buffer.LineBuffer.put_marked.Goals as goal
 
 pub write_digits-self-requires : goal.write_digits-self-requires
 write_digits-self-requires c =
@@ -16,7 +16,7 @@ put_byte-requires c =
 pub returns-then-number-lt10-clause-written : goal.returns-then-number-lt10-clause-written
 returns-then-number-lt10-clause-written c =
     c.put_two.ensures.written
-    ∙ ap (λ d. c.args.mark ∷ (d ++ line_written c.args.self.now)) (sym (decimal_digit c.args.number c.if-number-lt10.true))
+    ∙ ap (λ d. c.args.mark ∷ (d ++ buffer_written c.args.self.now)) (sym (decimal_digit c.args.number c.if-number-lt10.true))
 
 pub returns-else-number-lt10-clause-room : goal.returns-else-number-lt10-clause-room
 returns-else-number-lt10-clause-room c =

@@ -1,6 +1,0 @@
-use Rattle.srm_report.specs.Trace.{trace_of_rows}
-use Rattle.srm_report.proofs.listing.trace.TraceListingListing.text.Goals as goal
-
-pub returns : goal.returns
-unfolding trace_of_rows
-returns c = c.trace_text.ensures
