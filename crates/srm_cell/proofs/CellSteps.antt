@@ -2,12 +2,10 @@
 use Rattle.std.proofs.Common.{◌≡◌, ℕ, ◌≤◌, Bool, true, false, List, [], ◌∷◌, refl, sym, subst, ◌≢◌, arith}
 use Rattle.std.proofs.Common.{nat_lt, Option, Some, None}
 use Rattle.std.proofs.Common.{◌<◌}
-use Rattle.std.specs.Cmp.{IsTotalOrder, on_total}
-use Rattle.std.specs.Cmp.Lexicographic.{nat_list_cmp_total}
 use Rattle.srm_cell.proofs.CellLemmas.{first_timer, keep, next_event_is, outcome_map, own_step_late, stepped_map}
 use Rattle.srm_cell.specs.Cells.{Done, Event, Full, Idle, PlainCell, Spent, StepOutcome, Stepped, before, earlier, first_arrival}
 use Rattle.srm_cell.specs.Cells.{first_mark, handle, hear, hear_at, next_event, own_step, step_at}
-use Rattle.srm_cell.specs.Flights.{flight_cmp}
+use Rattle.srm_cell.specs.Flights.{flight_total}
 use Rattle.srm_cell.specs.OwnRuns.{told_to}
 use Rattle.srm_cell.specs.Setting.{Traffic, arrival_of}
 use Rattle.srm_cell.specs.declared.flight.Flight.{Flight}
@@ -80,9 +78,6 @@ pub own_step_is : (till m : ℕ) (c : PlainCell) (d : Stepped) → own_step till
 own_step_is till m c d e = subst (IsStepOf m) e (own_step_of till m c)
 
 -- ---- two packets of different senders may be heard in either order
-
-pub flight_total : IsTotalOrder flight_cmp
-flight_total = on_total (λ (f : Flight). f.arrival ∷ f.packet.id.sender ∷ f.packet.id.count ∷ []) nat_list_cmp_total
 
 hear_at_comm : (p q : Packet) (a b : Option ℕ) (c : PlainCell) → p.id.sender ≢ q.id.sender → hear_at p a (hear_at q b c)
     ≡ hear_at q b (hear_at p a c)

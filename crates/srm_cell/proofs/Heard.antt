@@ -1,7 +1,8 @@
 -- A cell's next event after it hears a packet: the packet's arrival, or what was next.
 use Rattle.std.proofs.Common.{arith}
 use Rattle.std.proofs.Common.{◌≡◌, ◌≢◌, ◌<◌, ◌≤◌, ℕ, Bool, cond, List, [], ◌∷◌, Option, Some, None, option_map, refl, sym, ap, ◌∙◌}
-use Rattle.std.proofs.Common.{subst, Ordering, Less, Equal, Greater, is_lt}
+use Rattle.std.proofs.Common.{subst, Ordering, Less, Equal, Greater, is_lt, false, true≢false, Result, Ok, Err}
+use Rattle.std.specs.Result.{OnOk, is_err}
 use Rattle.std.specs.Ordering.{min_by_ordering, ordering_reverse}
 use Rattle.srm_net.specs.declared.key.Key.{Key}
 use Rattle.srm_net.specs.declared.packet.Packet.{Packet}
@@ -23,6 +24,10 @@ use Rattle.srm_cell.proofs.CellLemmas.{earlier-map, event_map, first_le, second_
 use Rattle.srm_cell.proofs.Nexts.{keyed_next}
 use Rattle.srm_cell.proofs.Tidy.{Least, flight_keys, least_earlier}
 use Rattle.srm_cell.specs.Cells.{due_in}
+
+pub if_ok : {A E : Type 0} (r : Result A E) (P : Type 0) → is_err r ≡ false → OnOk r P → P
+if_ok (Ok x) P e h = h
+if_ok (Err x) P e h = absurd (true≢false e)
 
 -- ---- of three events the least is found in either order
 

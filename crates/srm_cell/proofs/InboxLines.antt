@@ -12,28 +12,14 @@ use Rattle.std.specs.List.Sorted.{IsPartitionPoint, IsPartitionedBy}
 use Rattle.srm_net.specs.declared.packet.Body.TheVariants as body
 use Rattle.srm_net.specs.declared.packet.PacketId.{PacketId}
 use Rattle.srm_net.specs.Orders.{place, ordered, NoneBelow, Rises}
+use Rattle.srm_net.proofs.Basics.{nth_number}
 use Rattle.srm_member.proofs.AllIn.{AllIn}
 use Rattle.srm_member.proofs.OrderLemmas.{From, none_below_from, place-comm, place_first, rises_place, none_below_cond}
 use Rattle.srm_cell.specs.declared.flight.Flight.{Flight}
-use Rattle.srm_cell.specs.Flights.{flight_cmp, BringsNone, turn_of, place_cmp}
+use Rattle.srm_cell.specs.Flights.{flight_cmp, BringsNone, turn_of, place_cmp, flight_total}
 use Rattle.srm_cell.specs.InboxLines.{follows, leads, goes_before, IsPlaceIn}
-use Rattle.srm_cell.proofs.Entries.{tie}
-use Rattle.srm_cell.proofs.CellSteps.{flight_total}
 
 -- ---- lists in an order
-
-module _ {A : Type 0} (cmp : A → A → Ordering) where
-  length_place : (x : A) (ys : List A) → length (place cmp x ys) ≡ suc (length ys)
-  length_place x [] = refl
-  length_place x (y ∷ ys) = elim (is_lt (cmp y x)) as (λ b. length (cond b (y ∷ place cmp x ys) (x ∷ y ∷ ys)) ≡ suc (suc (length ys))) [
-    | true ↦ ap suc (length_place x ys)
-    | false ↦ refl
-  ]
-
-  -- a list in order is as long
-  pub length_ordered : (xs : List A) → length (ordered cmp xs) ≡ length xs
-  length_ordered [] = refl
-  length_ordered (x ∷ xs) = length_place x (ordered cmp xs) ∙ ap suc (length_ordered xs)
 
 module _ {A : Type 0} (cmp : A → A → Ordering) (o : IsTotalOrder cmp) where
   abbrev pub Apart : A → List A → Type 0
@@ -66,7 +52,7 @@ module _ {A : Type 0} (cmp : A → A → Ordering) (o : IsTotalOrder cmp) where
   none_below_place k x (y ∷ ys) h g = none_below_cond cmp o k (is_lt (cmp y x))
       (y ∷ place cmp x ys) (x ∷ y ∷ ys) (g.0, none_below_place k x ys h g.1) (h, g)
 
-  none_below_ordered : (k : A) (xs : List A) → NoneBelow cmp k xs → NoneBelow cmp k (ordered cmp xs)
+  pub none_below_ordered : (k : A) (xs : List A) → NoneBelow cmp k xs → NoneBelow cmp k (ordered cmp xs)
   none_below_ordered k [] h = tt
   none_below_ordered k (x ∷ xs) h = none_below_place k x (ordered cmp xs) h.0 (none_below_ordered k xs h.1)
 
@@ -129,6 +115,11 @@ module _ {A : Type 0} (cmp : A → A → Ordering) (o : IsTotalOrder cmp) where
 
 -- ---- flights
 
+-- flights of one turn bring one packet
+tie : (f g : Flight) → flight_cmp f g ≡ Equal → f.packet.id ≡ g.packet.id
+unfolding nth_number
+tie f g q = grind arith
+
 abbrev pub Climbs : List Flight → Type 0
 Climbs fs = Rises flight_cmp fs
 
@@ -165,7 +156,7 @@ pub brings_others : (id : PacketId) (xs ys : List Flight) → BringsNone id (ord
 brings_others id [] ys h = tt
 brings_others id (x ∷ xs) ys h = let p = brings_placed id x (ordered flight_cmp (xs ++ ys)) h in (p.0, brings_others id xs ys p.1)
 
-apart : (f : Flight) (xs : List Flight) → BringsNone f.packet.id (ordered flight_cmp xs) → Apart flight_cmp flight_total f xs
+pub apart : (f : Flight) (xs : List Flight) → BringsNone f.packet.id (ordered flight_cmp xs) → Apart flight_cmp flight_total f xs
 apart f [] h = tt
 apart f (x ∷ xs) h = let p = brings_placed f.packet.id x (ordered flight_cmp xs) h in (λ q. p.0 (sym (tie f x q)), apart f xs p.1)
 

@@ -1,6 +1,7 @@
-pub mod Entries
+pub mod HeapLemmas
 pub mod InboxLines
 pub mod Lines
+pub mod Arrivals
 pub mod Nexts
 pub mod Saying
 pub mod Answering

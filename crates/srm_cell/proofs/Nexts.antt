@@ -1,6 +1,6 @@
 -- Where a cell has its next event.
 use Rattle.std.proofs.Common.{arith}
-use Rattle.std.proofs.Common.{◌≡◌, ◌<◌, ◌≤◌, ◌⊎◌, cond, ℕ, List, [], ◌∷◌, Option, Some, None, IfSome, option_map}
+use Rattle.std.proofs.Common.{◌≡◌, ◌<◌, ◌≤◌, ◌⊎◌, cond, ℕ, List, [], ◌∷◌, Option, Some, None, IfSome, IsSomeAnd, option_map}
 use Rattle.std.proofs.Common.{slice_get, refl, sym, ap, ◌∙◌, subst, le-ltb, lt-ltb, Ordering, Less, Equal, Greater}
 use Rattle.std.proofs.lemmas.Option.{same_Some}
 use Rattle.std.specs.Ordering.{is_gt, min_by_ordering}
@@ -101,7 +101,7 @@ arrival_ranked : (m : ℕ) (c : PlainCell) (fs : List Flight)
 arrival_ranked m c [] = tt
 arrival_ranked m c (f ∷ fs) = (refl, refl)
 
-timer_ranked : (m : ℕ) (c : PlainCell) (o : Option Due) → IfSome o (λ d. (d.rank ≡ Request) ⊎ (d.rank ≡ Repair))
+timer_ranked : (m : ℕ) (c : PlainCell) (o : Option Due) → IsSomeAnd o (λ d. (d.rank ≡ Request) ⊎ (d.rank ≡ Repair))
     → IfSome (next_timer m c o) (λ e. (e.key.member ≡ m) × ((e.key.rank ≡ Request) ⊎ (e.key.rank ≡ Repair)))
 timer_ranked m c None h = tt
 timer_ranked m c (Some d) h = (refl, h)
@@ -137,7 +137,7 @@ module _ (m : ℕ) (c : PlainCell) where
       (one_of_two (λ o. tick_of o ≤ never) (first Script) (first Timer) nk nt)) lk nk
 
   pub level_next : tick_of (first Inbox) < tick_of (first Script) → tick_of (first Inbox) ≡ tick_of (first Timer)
-      → tick_of (first Script) ≤ never → IfSome (due_in c.holds) (λ d. (d.rank ≡ Request) ⊎ (d.rank ≡ Repair))
+      → tick_of (first Script) ≤ never → IsSomeAnd (due_in c.holds) (λ d. (d.rank ≡ Request) ⊎ (d.rank ≡ Repair))
       → IsNext m c (record { time = tick_of (first Inbox); source = Inbox }) (next_event m c)
   unfolding next_event
   level_next lk same nk r = soonest Inbox _

@@ -4,11 +4,10 @@ use Rattle.std.proofs.Common.{arith, Ordering, Less, Equal, Greater, Option, Som
 use Rattle.std.specs.Option.{option_map_or}
 use Rattle.std.specs.Ordering.{min_by_ordering}
 use Rattle.srm_cell.proofs.CellLemmas.{first_le, first_timer, next_event_is}
-use Rattle.srm_cell.proofs.CellSteps.{flight_total}
 use Rattle.srm_cell.proofs.Rising.{Above, OnEvent, OnStep, earlier_on}
 use Rattle.srm_cell.specs.Cells.{arrival_key, mark_key, timer_key, Event, PlainCell, earlier, first_arrival}
 use Rattle.srm_cell.specs.Cells.{first_mark, handle, hear, hear_at, next_event, step_at}
-use Rattle.srm_cell.specs.Flights.{flight_cmp}
+use Rattle.srm_cell.specs.Flights.{flight_cmp, flight_total}
 use Rattle.srm_cell.specs.OwnRuns.{told_to}
 use Rattle.srm_cell.specs.Setting.{Traffic, arrival_of}
 use Rattle.srm_cell.specs.declared.flight.Flight.{Flight}

@@ -1,8 +1,10 @@
 -- Flights, and their order.
-use Rattle.std.specs.Prelude.{◌≢◌, ℕ, List, [], ◌∷◌}
+use Rattle.std.specs.Prelude.{◌≢◌, ℕ, nat_lt, List, [], ◌∷◌}
+use Rattle.std.specs.List.{count_by}
 use Rattle.std.specs.declared.cmp.Ordering.{Ordering}
-use Rattle.std.specs.Ordering.{nat_cmp}
-use Rattle.std.specs.Cmp.Lexicographic.{slice_cmp}
+use Rattle.std.specs.Ordering.{nat_cmp, flip_args}
+use Rattle.std.specs.Cmp.{IsTotalOrder, on_total, back_total}
+use Rattle.std.specs.Cmp.Lexicographic.{slice_cmp, nat_list_cmp_total}
 use Rattle.srm_net.specs.declared.packet.PacketId.{PacketId}
 use Rattle.srm_net.specs.declared.packet.Packet.{Packet}
 use Rattle.srm_net.specs.Orders.{place}
@@ -13,6 +15,16 @@ abbrev pub flight_cmp : Flight → Flight → Ordering
 flight_cmp f g =
     slice_cmp nat_cmp (f.arrival ∷ f.packet.id.sender ∷ f.packet.id.count ∷ [])
     (g.arrival ∷ g.packet.id.sender ∷ g.packet.id.count ∷ [])
+
+pub flight_total : IsTotalOrder flight_cmp
+flight_total = on_total (λ (f : Flight). f.arrival ∷ f.packet.id.sender ∷ f.packet.id.count ∷ []) nat_list_cmp_total
+
+-- the same order the other way round
+abbrev pub later_cmp : Flight → Flight → Ordering
+later_cmp = flip_args flight_cmp
+
+pub later_total : IsTotalOrder later_cmp
+later_total = back_total flight_total
 
 -- what the order of flights goes by: when one arrives, and which packet it brings
 abbrev pub turn_of : Flight → ℕ × PacketId
@@ -30,3 +42,7 @@ with_flight p at fs = place flight_cmp (record { arrival = at; packet = p }) fs
 abbrev pub BringsNone : PacketId → List Flight → Type 0
 BringsNone id [] = Unit {0}
 BringsNone id (f ∷ fs) = (f.packet.id ≢ id) × BringsNone id fs
+
+-- how many of the flights arrive before a tick
+abbrev pub arriving_before : ℕ → List Flight → ℕ
+arriving_before till fs = count_by (λ f. nat_lt f.arrival till) fs

@@ -1,6 +1,5 @@
 pub mod Setting
 pub mod Flights
-pub mod Entries
 pub mod CompactFlights
 pub mod InboxLines
 pub mod Lines

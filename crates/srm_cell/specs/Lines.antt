@@ -1,6 +1,6 @@
 -- Lists in blocks.
-use Rattle.std.specs.Prelude.{◌≡◌, ◌≢◌, List, [], ◌∷◌, ◌++◌}
-use Rattle.std.specs.Global.{Global}
+use Rattle.std.specs.Prelude.{◌≡◌, ◌≢◌, List, [], ◌∷◌, ◌++◌, Option, Some, None}
+use Rattle.std.specs.Global.{Box, Global}
 use Rattle.std.specs.declared.collections.VecDeque as deques
 
 -- a `VecDeque<A>`
@@ -17,8 +17,12 @@ abbrev pub AreFilled : {A : Type 0} → List (Deque A) → Type 0
 AreFilled [] = Unit {0}
 AreFilled (b ∷ bs) = (b.items ≢ []) × AreFilled bs
 
--- the first values, those in blocks and the last ones: there are none before others that are none
-pub record AreInTurn {A : Type 0} (first : List A) (blocks : List (Deque A)) (last : List A) : Type 0 where
+-- the first values, and those in blocks: there are none before others that are none
+pub record AreInTurn {A : Type 0} (first : List A) (blocks : List (Deque A)) : Type 0 where
   pub filled : AreFilled blocks
   pub front : first ≡ [] → blocks ≡ []
-  pub back : last ≡ [] → first ≡ []
+
+-- what is in a box, if there is one
+abbrev pub in_box : {A : Type 0} → Option (Box (List A)) → List A
+in_box None = []
+in_box (Some b) = b.value

@@ -1,5 +1,5 @@
 -- What is seen of a cell, and what its calls tell.
-use Rattle.std.specs.Prelude.{◌≡◌, ◌⊎◌, ◌-◌, ◌^◌, ℕ, min, List, length, Option, Some, None, Result, Ok, Err, []}
+use Rattle.std.specs.Prelude.{◌≡◌, ◌⊎◌, ◌-◌, ◌^◌, ℕ, min, List, Option, Some, None, Result, Ok, Err, []}
 use Rattle.std.specs.Global.{Box}
 use Rattle.srm_scenario.specs.declared.mark.Mark.{Mark}
 use Rattle.srm_member.specs.declared.exit.Exit.{Exit}
@@ -12,6 +12,7 @@ use Rattle.srm_cell.specs.declared.fault.CellFault.TheVariants as fault
 use Rattle.srm_cell.specs.Cells.{PlainCell, OwnCell, Event, StepOutcome, Idle, Full, Spent, Done, Stepped}
 use Rattle.srm_cell.specs.Cells.{next_event}
 use Rattle.srm_cell.specs.Cells.{own_step, time_of, known_of}
+use Rattle.srm_cell.specs.Flights.{arriving_before}
 use Rattle.srm_cell.specs.Pending.{IsNext}
 
 -- what a member ends with that is there
@@ -130,9 +131,9 @@ module _ {M : Type 0} where
   abbrev pub IsNextTime : (M → Record) → Cell M → Option ℕ → Type 0
   IsNextTime f c time = IsSoundCell f c → time ≡ time_of (event_of f c)
 
-  -- the packets on their way to the cell's member are so many, or more than a number of 64 bits tells
-  abbrev pub AreWaiting : (M → Record) → Cell M → ℕ → Type 0
-  AreWaiting f c n = n ≡ min (length c.inbox) (2 ^ 64 - 1)
+  -- so many packets arrive at the cell's member before a tick, or more than a number of 64 bits tells
+  abbrev pub AreArriving : (M → Record) → ℕ → Cell M → ℕ → Type 0
+  AreArriving f till c n = n ≡ min (arriving_before till c.inbox) (2 ^ 64 - 1)
 
   -- what the cell's end tells
   abbrev pub Ends : (M → Record) → Cell M → Result Exit CellFault → Type 0

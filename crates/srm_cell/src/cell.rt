@@ -1,12 +1,12 @@
 //! A member's cell.
-ghost use Rattle.std.specs.Prelude.{◌≡◌, ◌≢◌, ◌≤◌, ◌<◌, ◌∷◌, ◌++◌, [], Some, None, Ok, Err, OnOk, OnErr, IfOk, IfErr};
-ghost use Rattle.std.specs.Prelude.{All, MatchResult};
+ghost use Rattle.std.specs.Prelude.{◌≡◌, ◌≢◌, ◌≤◌, ◌<◌, ◌∷◌, ◌++◌, [], Some, None, Ok, Err};
+ghost use Rattle.std.specs.Prelude.{OnOk, OnErr, IfOk, IfErr, All, MatchResult};
 ghost use Rattle.srm_net.specs.Limits.{end_of_time, most_sent};
 ghost use Rattle.srm_net.specs.Orders.{Rises};
 ghost use Rattle.srm_scenario.specs.Plain.{mark_cmp};
 ghost use Rattle.srm_cell.specs.Flights.{BringsNone};
 ghost use Rattle.srm_cell.specs.Cells.{hear_at, first_arrival, first_mark, next_timer, due_in};
-ghost use Rattle.srm_cell.specs.Views.{AreWaiting, IsNew, Becomes, Steps, Ends, IsNextOf, IsNextTime, TellsMember, known_in};
+ghost use Rattle.srm_cell.specs.Views.{AreArriving, IsNew, Becomes, Steps, Ends, IsNextOf, IsNextTime, TellsMember, known_in};
 ghost use Rattle.srm_cell.specs.InnerSteps.{StandsFor, AnswersNext, AnswersEvent, HasAnswer, IsQuiet, Completes};
 ghost use Rattle.srm_member.specs.declared.cause.Cause.TheVariants as causes;
 ghost use Rattle.srm_cell.specs.declared.pending_event.Source.TheVariants as sources;
@@ -89,11 +89,11 @@ impl<M: Participant> Cell<M> {
         }
     }
 
-    /// How many packets are on their way to the member, or the greatest number of a `usize`. It does not allocate.
-    pub fn waiting(&self) -> usize
-        ensures { AreWaiting M.plain self.now result }
+    /// How many packets arrive at the member before tick `till`, or the greatest number of a `usize`. It does not allocate.
+    pub fn arriving_before(&self, till: u64) -> usize
+        ensures { AreArriving M.plain till self.now result }
     {
-        self.inbox.waiting()
+        self.inbox.arriving_before(till)
     }
 
     /// Adds a packet that arrives at tick `arrival`.
@@ -264,7 +264,8 @@ impl<M: Participant> Cell<M> {
         Ok(true)
     }
 
-    // The same of a mark or a timer: apart from packets, as most events are, since what makes room for its values costs each of them.
+    // The same of a mark or a timer: apart from packets, as most events are, since what makes room for its values costs each of
+    // them.
     #[inline(never)]
     fn answer_own(
         &mut self,

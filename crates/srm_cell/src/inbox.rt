@@ -1,7 +1,7 @@
 //! The packets on their way to one member.
-ghost use Rattle.std.specs.Prelude.{◌≡◌, List, [], ◌∷◌, MatchOption, OnOk, OnErr, length, min, slice_get};
+ghost use Rattle.std.specs.Prelude.{◌≡◌, List, [], ◌∷◌, MatchOption, OnOk, OnErr, min, slice_get};
 ghost use Rattle.std.specs.Option.{option_map};
-ghost use Rattle.srm_cell.specs.Flights.{with_flight, BringsNone};
+ghost use Rattle.srm_cell.specs.Flights.{with_flight, arriving_before, BringsNone};
 ghost use Rattle.srm_cell.specs.InboxLines.{leads, follows};
 
 use crate::compact_flight::CompactFlight;
@@ -15,7 +15,7 @@ use std::marker::Model;
 /// The packets on their way to one member, by arrival, sender and count. Contracts see them as a list of flights.
 ///
 /// Packets are mostly accepted in this order or nearly so, and then stand in a line, if they have short flights. The others are
-/// kept in an ordered map.
+/// kept in a heap.
 #[derive(Drop)]
 pub struct Inbox {
     line: Line,
@@ -46,11 +46,12 @@ impl Inbox {
         }
     }
 
-    /// How many packets there are, or the greatest number of a `usize`.
-    pub fn waiting(&self) -> usize
-        ensures { result ≡ min (length self.now) usize.MAX }
+    /// How many packets arrive before tick `till`, or the greatest number of a `usize`. It does not allocate.
+    pub fn arriving_before(&self, till: u64) -> usize
+        ensures { result ≡ min (arriving_before till self.now) usize.MAX }
     {
-        self.line.len().saturating_add(self.strays.waiting())
+        let in_turn = self.line.arriving_before(till);
+        in_turn.saturating_add(self.strays.arriving_before(till))
     }
 
     /// Adds a packet that arrives at tick `arrival`.
@@ -123,6 +124,7 @@ fn is_in_turn(line: &Line, flight: (u64, PacketId)) -> bool
 }
 
 // Whether the first of a line goes before all others.
+#[inline(always)]
 fn is_line_next(line: &Line, strays: &Strays) -> bool
     ensures { result ≡ leads line.now strays.now }
 {

@@ -15,6 +15,7 @@
 
 pub mod advance;
 pub mod arrival;
+mod blocks;
 mod boxes;
 pub mod cell;
 mod compact_body;
@@ -34,5 +35,6 @@ mod pending_event;
 mod rows;
 pub mod script;
 pub mod sent;
+mod stray;
 mod strays;
 pub mod tally;

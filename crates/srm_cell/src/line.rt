@@ -2,10 +2,11 @@
 ghost use Rattle.std.specs.Prelude.{◌≡◌, ◌<◌, ◌-◌, ◌↔◌, [], ◌∷◌, ◌++◌, OnOk, OnErr, IfOk, IsSome, IfSome, MatchOption};
 ghost use Rattle.std.specs.Prelude.{length, min, slice_index_or, if◌then◌else◌, ◌⊎◌, IsTrue};
 ghost use Rattle.srm_net.specs.Orders.{Rises};
-ghost use Rattle.srm_cell.specs.Flights.{flight_cmp, with_flight};
+ghost use Rattle.srm_cell.specs.Flights.{arriving_before, flight_cmp, with_flight};
 ghost use Rattle.srm_cell.specs.InboxLines.{goes_before, IsPlaceIn};
-ghost use Rattle.srm_cell.specs.Lines.{in_blocks, AreFilled};
+ghost use Rattle.srm_cell.specs.Lines.{in_box};
 
+use crate::blocks::{Blocks, count_before};
 use crate::compact_flight::CompactFlight;
 use crate::flight::is_before;
 use srm_net::packet::{Packet, PacketId};
@@ -25,22 +26,21 @@ const MOST_MOVED: usize = 8;
 /// They come to a ring, and where they are more than a block has it becomes a block itself: so none is moved as more come.
 #[derive(Drop)]
 pub(crate) struct Line {
-    // where there are more than the last ones, those that go next
-    first: VecDeque<CompactFlight>,
-    blocks: VecDeque<VecDeque<CompactFlight>>,
+    // those that go before the last ones, once there were more than a block has; few lines have any
+    blocks: Option<Box<Blocks>>,
     last: VecDeque<CompactFlight>,
 }
 
 impl Model for Line {
-    ghost use Rattle.std.specs.Prelude.{List, ◌++◌};
+    ghost use Rattle.std.specs.Prelude.{◌≡◌, List, [], ◌++◌};
     ghost use Rattle.srm_cell.specs.declared.flight.Flight.{Flight};
-    ghost use Rattle.srm_cell.specs.Lines.{in_blocks, AreInTurn};
+    ghost use Rattle.srm_cell.specs.Lines.{in_box};
 
     ghost Value = { List Flight };
 
-    ghost view = { λ l. l.first.items ++ (in_blocks l.blocks.items ++ l.last.items) };
+    ghost view = { λ l. in_box l.blocks ++ l.last.items };
 
-    ghost invariant = { λ l. AreInTurn l.first.items l.blocks.items l.last.items };
+    ghost invariant = { λ l. l.last.items ≡ [] → in_box l.blocks ≡ [] };
 }
 
 impl Line {
@@ -49,8 +49,7 @@ impl Line {
         ensures { result ≡ [] }
     {
         Line {
-            first: VecDeque::new(alloc),
-            blocks: VecDeque::new(alloc),
+            blocks: None,
             last: VecDeque::new(alloc),
         }
     }
@@ -60,20 +59,28 @@ impl Line {
         *self.last.allocator()
     }
 
-    /// How many there are, or the greatest number of a `usize`.
-    pub(crate) fn len(&self) -> usize
-        ensures { result ≡ min (length self.now) usize.MAX }
+    /// How many arrive before tick `till`, or the greatest number of a `usize`. It does not allocate.
+    pub(crate) fn arriving_before(&self, till: u64) -> usize
+        requires { Rises flight_cmp self.now }
+        ensures { result ≡ min (arriving_before till self.now) usize.MAX }
     {
-        let others = count(&self.blocks).saturating_add(self.last.len());
-        self.first.len().saturating_add(others)
+        let last = count_before(&self.last, till);
+        match &self.blocks {
+            Some(blocks) => blocks.arriving_before(till).saturating_add(last),
+            None => last,
+        }
     }
 
     /// The first flight.
+    #[inline(always)]
     pub(crate) fn front(&self) -> Option<&CompactFlight>
         ensures some { IsSome result ↔ (0 < length self.now) }
         ensures lookup { IfSome result (λ x. x.now ≡ slice_index_or self.now 0 x.now) }
     {
-        match self.first.front() {
+        let Some(blocks) = &self.blocks else {
+            return self.last.front();
+        };
+        match blocks.front() {
             Some(flight) => Some(flight),
             None => self.last.front(),
         }
@@ -108,16 +115,23 @@ impl Line {
         ensures ok { OnOk result (self.new ≡ self.old ++ flight ∷ []) }
         ensures err { OnErr result (self.new ≡ self.old) }
     {
-        let mut block = VecDeque::with_capacity(self.allocator(), BLOCK)?;
+        let alloc = self.allocator();
+        let mut block = empty_block(alloc, &mut self.blocks)?;
         block.push_back(flight)?;
-        if self.first.is_empty() {
-            self.first = mem::replace(&mut self.last, block);
-            return Ok(());
-        }
-        self.blocks.reserve(1)?;
+        let mut blocks = match self.blocks.take() {
+            Some(blocks) => blocks,
+            None => Box::new(alloc, Blocks::new(alloc))?,
+        };
         let full = mem::replace(&mut self.last, block);
-        self.blocks.push_back_reserved(full);
-        Ok(())
+        let pushed = blocks.push(full);
+        self.blocks = Some(blocks);
+        match pushed {
+            Ok(()) => Ok(()),
+            Err(full) => {
+                self.last = full;
+                Err(AllocError)
+            }
+        }
     }
 
     /// Takes the first flight out.
@@ -125,13 +139,12 @@ impl Line {
     pub(crate) fn pop(&mut self) -> Option<CompactFlight>
         ensures { MatchOption result ((self.old ≡ []) × (self.new ≡ [])) (λ x. self.old ≡ x ∷ self.new) }
     {
-        let Some(flight) = self.first.pop_front() else {
-            return self.last.pop_front();
-        };
-        if self.first.is_empty() {
-            take_next(&mut self.first, &mut self.blocks);
+        if let Some(blocks) = &mut self.blocks {
+            if let Some(flight) = blocks.pop() {
+                return Some(flight);
+            }
         }
-        Some(flight)
+        self.last.pop_front()
     }
 
     /// Puts a packet into its place, where that is near the end. Tells whether it is there.
@@ -144,7 +157,7 @@ impl Line {
         ensures err { OnErr result (self.new ≡ self.old) }
     {
         let place = place_in(&self.last, (arrival, packet.id));
-        if !is_behind_some(place, &self.first) {
+        if !is_behind_some(place, &self.blocks) {
             return Ok(false);
         }
         if self.last.len() - place > MOST_MOVED || !CompactFlight::is_short(packet, arrival) {
@@ -156,38 +169,33 @@ impl Line {
     }
 }
 
-// Takes the next block, if there is one, in place of one that is empty.
-#[inline(never)]
-fn take_next(first: &mut VecDeque<CompactFlight>, blocks: &mut VecDeque<VecDeque<CompactFlight>>)
-    requires { first.old.items ≡ [] }
-    ensures values { first.new.items ++ in_blocks blocks.new.items ≡ in_blocks blocks.old.items }
-    ensures filled { AreFilled blocks.old.items → AreFilled blocks.new.items }
-    ensures some { AreFilled blocks.old.items → first.new.items ≡ [] → blocks.new.items ≡ [] }
+// A block without a flight, one that was emptied if there is any.
+fn empty_block(
+    alloc: Global,
+    blocks: &mut Option<Box<Blocks>>,
+) -> Result<VecDeque<CompactFlight>, AllocError>
+    ensures block { IfOk result (λ block. block.items ≡ []) }
+    ensures same { in_box blocks.new ≡ in_box blocks.old }
 {
-    if let Some(block) = blocks.pop_front() {
-        *first = block;
+    if let Some(blocks) = blocks {
+        if let Some(block) = blocks.take_spare() {
+            return Ok(block);
+        }
     }
-}
-
-// How many flights the blocks have, or the greatest number of a `usize`.
-fn count(blocks: &VecDeque<VecDeque<CompactFlight>>) -> usize
-    ensures { result ≡ min (length (in_blocks blocks.now.items)) usize.MAX }
-{
-    let mut count: usize = 0;
-    for i in 0..blocks.len() {
-        count = count.saturating_add(blocks[i].len());
-    }
-    count
+    VecDeque::with_capacity(alloc, BLOCK)
 }
 
 // Whether a place among the last flights has one of them before it, or these are all.
-fn is_behind_some(place: usize, first: &VecDeque<CompactFlight>) -> bool
-    ensures { IsTrue result → (0 < place) ⊎ (first.now.items ≡ []) }
+fn is_behind_some(place: usize, blocks: &Option<Box<Blocks>>) -> bool
+    ensures { IsTrue result → (0 < place) ⊎ (in_box blocks.now ≡ []) }
 {
     if place > 0 {
         return true;
     }
-    first.is_empty()
+    match blocks {
+        Some(blocks) => blocks.front().is_none(),
+        None => true,
+    }
 }
 
 // How many flights of a ring go before one with this arrival and packet.

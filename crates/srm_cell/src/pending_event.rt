@@ -1,5 +1,5 @@
 //! Which of a cell's events is next.
-ghost use Rattle.std.specs.Prelude.{◌≡◌, ◌↔◌, ◌⊎◌, ℕ, IsTrue, IfSome, Some, None, []};
+ghost use Rattle.std.specs.Prelude.{◌≡◌, ◌↔◌, ◌⊎◌, ℕ, IsTrue, IsSomeAnd, Some, None, []};
 ghost use Rattle.std.specs.Ordering.{is_gt};
 ghost use Rattle.srm_net.specs.declared.rank.Rank.TheVariants as ranks;
 ghost use Rattle.srm_net.specs.Keys.{key_cmp};
@@ -197,7 +197,7 @@ pub(crate) fn timer_time(due: Option<Due>) -> u64
 /// Whether there is a timer of a request or of a repair: of one tick, packets go before it.
 #[inline(always)]
 pub(crate) fn is_expiry(due: Option<Due>) -> bool
-    ensures { IsTrue result → IfSome due (λ d. (d.rank ≡ ranks.Request) ⊎ (d.rank ≡ ranks.Repair)) }
+    ensures { IsTrue result ↔ IsSomeAnd due (λ d. (d.rank ≡ ranks.Request) ⊎ (d.rank ≡ ranks.Repair)) }
 {
     match due {
         None => false,
@@ -208,7 +208,7 @@ pub(crate) fn is_expiry(due: Option<Due>) -> bool
 /// Whether there is no packet, no mark and no timer.
 #[inline(always)]
 pub(crate) fn is_idle(inbox: &Inbox, script: &Script, due: Option<Due>) -> bool
-    ensures { IsTrue result → (inbox.now ≡ []) × (script.now ≡ []) × (due ≡ None) }
+    ensures { IsTrue result ↔ (inbox.now ≡ []) × (script.now ≡ []) × (due ≡ None) }
 {
     let None = due else {
         return false;

@@ -37,12 +37,15 @@ impl Script {
         self.marks.get(self.next).copied()
     }
 
-    /// Takes the first mark out.
+    /// Takes the first mark out. With the last one the room for marks is let go.
     pub fn pop_first(&mut self) -> Option<Mark>
         ensures { MatchOption result ((self.old ≡ []) × (self.new ≡ [])) (λ k. self.old ≡ k ∷ self.new) }
     {
         let mark = self.first()?;
         self.next += 1;
+        if self.next == self.marks.len() {
+            *self = Script::new(Vec::new(*self.marks.allocator()));
+        }
         Some(mark)
     }
 }

@@ -1,8 +1,9 @@
 -- Results, each in the slot of its index.
 use Rattle.std.proofs.Common.{◌≡◌, ◌≢◌, ◌<◌, ◌≤◌, ℕ, zero, suc, ◌+◌, cond, ◌==◌, List, [], ◌∷◌, ◌++◌, length, map, slice_get, slice_index}
 use Rattle.std.proofs.Common.{Option, Some, Ok, Err, Result, set, length-set, length-append, refl, sym, ap, ◌∙◌, subst, arith, append_assoc}
-use Rattle.std.proofs.Common.{IsOk, eq-eqb, ne_eqb, lt_of_not-le}
-use Rattle.std.specs.List.{AllZip}
+use Rattle.std.proofs.Common.{IsOk, None, eq-eqb, ne_eqb, lt_of_not-le}
+use Rattle.std.proofs.lemmas.Option.{slice_get_cases, slice_get_read}
+use Rattle.std.specs.List.{AllZip, Contains}
 use mathlib.Core.Logic.{dite}
 use native.Mathlib.Decide.{ℕ_discrete, dec_le}
 use Rattle.srm_ledger.specs.Seats.{SeatView}
@@ -166,6 +167,11 @@ module _ {D : Type 0} where
   pub ordered : (indices : List ℕ) (all v : List D) (slots : List (Option D)) → length indices ≡ length all → length slots ≡ length all
       → FilledFrom indices all 0 slots → map (λ (x : D). Some x) v ≡ slots → InOrder indices all v
   ordered indices all v slots many long filled same = grind (arith, map_long, zip_by_index, get_some)
+
+  pub none_empty : (indices : List ℕ) (all : List D) (slots : List (Option D)) → EachOnce indices (length all)
+      → length indices ≡ length all → length slots ≡ length all → FilledFrom indices all 0 slots → Contains slots None → ⊥
+  none_empty indices all slots once many long filled gap =
+      let o = once.0 gap.0 (omega (arith, gap.1, long)) in grind (arith, found_at indices gap.0, slice_get_cases, slice_get_read)
 
 -- ---- all items
 

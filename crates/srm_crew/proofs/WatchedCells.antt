@@ -1,5 +1,5 @@
 -- The cells of a watched job, run one after the other: what is so after the first of them.
-use Rattle.std.proofs.Common.{◌≡◌, ◌∙◌, ◌<◌, ◌≤◌, ◌+◌, ◌^◌, ℕ, List, [], ◌∷◌, ◌++◌, All, length, take, drop, refl, sym, ap, subst}
+use Rattle.std.proofs.Common.{◌≡◌, ◌∙◌, ◌<◌, ◌≤◌, ◌+◌, ◌^◌, ℕ, List, [], ◌∷◌, ◌++◌, All, length, map, take, drop, refl, sym, ap, subst}
 use Rattle.std.proofs.Common.{◌≢◌, arith, append-nil, append_assoc, length-append, Option, Some, None, Result, Ok, Err, false, true≢false}
 use Rattle.std.specs.Option.{is_some}
 use Rattle.std.specs.Result.{is_err, IfOk}
@@ -15,25 +15,26 @@ use Rattle.srm_net.specs.Network.{Network}
 use Rattle.srm_scenario.specs.Plain.{PlainScenario}
 use Rattle.srm_member.specs.Record.{Record}
 use Rattle.srm_member.specs.declared.row.Row.{Row}
+use Rattle.srm_ledger.specs.Counts.{nothing_at}
 use Rattle.srm_cell.specs.declared.cell.Cell.{Cell}
 use Rattle.srm_cell.specs.declared.sent.Sent.{Sent}
 use Rattle.srm_cell.specs.declared.fault.CellFault.{CellFault}
 use Rattle.srm_cell.specs.declared.fault.CellFault.TheVariants as fault
-use Rattle.srm_cell.specs.Cells.{before}
+use Rattle.srm_cell.specs.Cells.{Event, before, time_of}
 use Rattle.srm_cell.specs.Crossings.{crossings, joined, packets_of}
 use Rattle.srm_cell.specs.Hearing.{IsSent, packets_in}
 use Rattle.srm_cell.specs.Jobs.{Advances, AreMembers, AreSound, MayAdvance, RanAlone, RanEach, Runs, TellsFault, TellsRun, own_cells}
 use Rattle.srm_cell.specs.Setting.{traffic_of}
 use Rattle.srm_cell.specs.Totalled.{IsSentBelow, numbers_of}
 use Rattle.srm_cell.specs.Views.{IsSoundCell, event_of, plain_cell}
-use Rattle.srm_cell.proofs.Nexts.{idle_step}
+use Rattle.srm_cell.proofs.Nexts.{idle_step, none_due}
 use Rattle.srm_cell.proofs.OwnRunLemmas.{after_none, end_now, rows_none}
-use Rattle.srm_cell.proofs.RowPackets.{joined-append, numbers_are}
+use Rattle.srm_cell.proofs.RowPackets.{joined-append, nothing_counted, numbers_are}
 use Rattle.srm_cell.proofs.SentRows.{rows_below, rows_few}
 use Rattle.srm_cell.proofs.SoFar.{fault_after, ran_more}
 use Rattle.srm_interfaces.specs.declared.watched.WatchedJob.{WatchedJob}
 use Rattle.srm_interfaces.specs.declared.watched.WatchedDone.{WatchedDone}
-use Rattle.srm_interfaces.specs.Watches.{IsClosed, KeepClosed, KeepEach, job_in}
+use Rattle.srm_interfaces.specs.Watches.{IsClosed, IsIdleTo, IsSoundJob, KeepClosed, KeepEach, job_in}
 use Rattle.srm_interfaces.proofs.WatchLemmas.{keep_one_more}
 use Rattle.srm_crew.specs.Watched.{AdvanceOne, IsOfMember}
 
@@ -77,6 +78,36 @@ runs_idle f till c h is =
       on = (is, refl);
     }
 
+-- what is not due before a tick is not due before an earlier one
+before_earlier : (till tick : ℕ) (o : Option Event) → till ≤ tick → before tick o ≡ None → before till o ≡ None
+before_earlier till tick o le h = none_due till o (λ u e. late o u e h)
+  where
+    late : (o : Option Event) (u : ℕ) → time_of o ≡ Some u → before tick o ≡ None → till ≤ u
+    late o u e h = grind arith
+
+module _ {M K : Type 0} (f : M → Record) (keeps : K → List Row → Type 0) (till tick : ℕ) (le : till ≤ tick) where
+  abbrev no_rows : List (Cell M) → List (List Row)
+  no_rows cs = map (λ (c : Cell M). []) cs
+
+  -- where nothing is due before a tick, cells run to an earlier one without rows
+  ran_idle : (cs : List (Cell M)) → AreSound f cs → All (IsIdleTo f tick) cs → RanEach f till cs (no_rows cs) cs
+  ran_idle [] s h = tt
+  ran_idle (c ∷ cs) s h =
+      let idle = before_earlier till tick (event_of f c) le (All-head (IsIdleTo f tick) c cs h) in (
+        runs_idle f till c (λ is. ap is_some idle) (All-head (IsSoundCell f) c cs s),
+        ran_idle cs (All-tail (IsSoundCell f) c cs s) (All-tail (IsIdleTo f tick) c cs h),
+      )
+
+  kept_idle : (cs : List (Cell M)) (ks : List K) → length ks ≡ length cs → KeepEach keeps ks (no_rows cs) ks
+  kept_idle [] [] e = tt
+  kept_idle [] (k ∷ ks) e = absurd (omega arith)
+  kept_idle (c ∷ cs) [] e = absurd (omega arith)
+  kept_idle (c ∷ cs) (k ∷ ks) e = (λ before h. subst (keeps k) (sym (append-nil before)) h, kept_idle cs ks (omega arith))
+
+  joined_none : (cs : List (Cell M)) → joined (no_rows cs) ≡ []
+  joined_none [] = refl
+  joined_none (c ∷ cs) = joined_none cs
+
 -- ---- what is so after the first of the cells
 
 module _ {M K : Type 0} (f : M → Record) (keeps : K → List Row → Type 0) (k : PlainScenario) (net : Network)
@@ -110,6 +141,20 @@ module _ {M K : Type 0} (f : M → Record) (keeps : K → List Row → Type 0) (
         ∙ sym (ap packets_of (joined-append s.rows (rows ∷ [])) ∙ ap (λ l. packets_of (joined s.rows ++ l)) (append-nil rows)
         ∙ filter_map-append (λ (r : Row). r.sent) (joined s.rows) rows);
   }
+
+  -- where nothing is due in any of them all have run
+  cells_idle : MayAdvance f (length net.hosts) (job_in j) → IsSoundJob f j → j.till ≤ j.soon
+      → CellsSoFar j.cells.items [] j.kept.items j.kept.items []
+  cells_idle may sound le =
+      let cs = j.cells.items in record {
+        rows = no_rows f keeps j.till j.soon le cs;
+        many = length-map cs (λ (c : Cell M). []);
+        first = cs;
+        is = append-nil cs;
+        runs = ran_idle f keeps j.till j.soon le cs may.sound sound.soon;
+        kept = kept_idle f keeps j.till j.soon le cs j.kept.items sound.kept;
+        packets = ap packets_of (sym (joined_none f keeps j.till j.soon le cs));
+      }
 
   stops : (cells left : List (Cell M)) (old new : List K) (sent : List Sent) (c after : Cell M) (e : CellFault)
       → CellsSoFar cells (c ∷ left) old new sent → TellsRun f j.till c (Err e) after → Advances f k net (job_in j) (Err e)
@@ -186,3 +231,15 @@ module _ {M K : Type 0} (f : M → Record) (keeps : K → List Row → Type 0) (
           crossings = refl;
         },
       )
+
+  pub idle_all : (closes : List K → List K → Type 0) (e : WatchedDone M K) → ((own : List K) → closes own own)
+      → MayAdvance f (length net.hosts) (job_in j) → IsSoundJob f j → j.till ≤ j.soon → e.place ≡ j.place → e.cells ≡ j.cells
+      → e.kept ≡ j.kept → e.sent.items ≡ [] → e.crossings ≡ nothing_at (length net.links)
+      → AdvanceOne f (KeepClosed keeps closes) k net j (Ok e)
+  idle_all closes e stand may sound le place cells kept sent counted =
+      let idle = cells_idle may sound le in
+      cells_all closes j.kept.items e place
+      (rw (cells, sent) idle)
+      (rw kept (refl, stand j.kept.items))
+      (rw sent (All-nil (λ x. IsSent k net x)))
+      (counted ∙ nothing_counted (traffic_of k net) ∙ ap (λ (xs : List Sent). numbers_of (traffic_of k net) (packets_in xs)) (sym sent))

@@ -21,7 +21,7 @@ use Rattle.srm_interfaces.specs.declared.fault.CrewFault.TheVariants as crew
 use Rattle.srm_interfaces.specs.declared.watched.WatchedJob.{WatchedJob}
 use Rattle.srm_interfaces.specs.declared.watched.WatchedDone.{WatchedDone}
 use Rattle.srm_interfaces.specs.Crews.{AnyEnds, AreDone, Maps, counted_in, plain_jobs, rows_of, sum_at}
-use Rattle.srm_interfaces.specs.Watches.{AdvanceWatched, HaveKept, MapsWatched, WatchEach, job_in, jobs_in}
+use Rattle.srm_interfaces.specs.Watches.{AdvanceWatched, IsSoundJob, MapsWatched, WatchEach, job_in, jobs_in}
 use Rattle.srm_interfaces.proofs.InPieces.{all_each, all_in}
 use Rattle.srm_interfaces.proofs.Sums.{all_long, rows_of_all, sum_is}
 use Rattle.srm_net.proofs.Basics.{zip_append}
@@ -52,18 +52,18 @@ module _ {M K : Type 0} (f : M → Record) (k : PlainScenario) (net : Network) w
 
   each_both : (pieces : List (Vec (WatchedJob M K)))
       → All (λ (js : Vec (WatchedJob M K)). All (λ j. MayAdvance f (length net.hosts) (job_in j)) js.items) pieces
-      → All (λ (js : Vec (WatchedJob M K)). All HaveKept js.items) pieces
+      → All (λ (js : Vec (WatchedJob M K)). All (IsSoundJob f) js.items) pieces
       → All (λ (js : Vec (WatchedJob M K)). MayWatch f net js.items) pieces
   each_both [] h g = All-nil (λ (js : Vec (WatchedJob M K)). MayWatch f net js.items)
   each_both (js ∷ pieces) h g =
       All-cons (λ (js : Vec (WatchedJob M K)). MayWatch f net js.items) js pieces (
         may_jobs js.items (All-head (λ (x : Vec (WatchedJob M K)). All (λ j. MayAdvance f (length net.hosts) (job_in j)) x.items)
             js pieces h),
-        All-head (λ (x : Vec (WatchedJob M K)). All HaveKept x.items) js pieces g,
+        All-head (λ (x : Vec (WatchedJob M K)). All (IsSoundJob f) x.items) js pieces g,
       )
       (each_both pieces
       (All-tail (λ (x : Vec (WatchedJob M K)). All (λ j. MayAdvance f (length net.hosts) (job_in j)) x.items) js pieces h)
-      (All-tail (λ (x : Vec (WatchedJob M K)). All HaveKept x.items) js pieces g))
+      (All-tail (λ (x : Vec (WatchedJob M K)). All (IsSoundJob f) x.items) js pieces g))
 
   -- jobs that may be watched may be watched in pieces
   pub watch_pieces : (pieces : List (Vec (WatchedJob M K))) (js : List (WatchedJob M K)) → all_in pieces ≡ js → MayWatch f net js
@@ -72,7 +72,7 @@ module _ {M K : Type 0} (f : M → Record) (k : PlainScenario) (net : Network) w
       let own : MayWatch f net (all_in pieces) = subst (λ l. MayWatch f net l) (sym is) h in
       each_both pieces
       (all_each (λ j. MayAdvance f (length net.hosts) (job_in j)) pieces (may_each (all_in pieces) own.0))
-      (all_each HaveKept pieces own.1)
+      (all_each (IsSoundJob f) pieces own.1)
 
   -- ---- what is left of them
 

@@ -1,6 +1,6 @@
 -- Workers that share a bag of items and a seat: what they tell, where R says what may come of an item.
 use Rattle.std.specs.Prelude.{◌≡◌, ◌≢◌, ◌⊎◌, ◌<◌, ◌≤◌, ◌+◌, ◌++◌, ◌∷◌, ℕ, List, [], length, vec_capacity, slice_get}
-use Rattle.std.specs.Prelude.{Some, Result, Ok, Err}
+use Rattle.std.specs.Prelude.{Some, Result, Ok, Err, nat_lt, ◌&&◌, if◌then◌else◌}
 use Rattle.std.specs.List.{AllZip}
 use Rattle.std.specs.Global.{Vec}
 use Rattle.srm_ledger.specs.Seats.{SeatView, both_seats}
@@ -24,6 +24,10 @@ HoldsAt {T} P items index = (x : T) × (slice_get items index ≡ Some x) × P x
 abbrev pub sum_of : {D : Type 0} → (D → List ℕ) → ℕ → List D → ℕ
 sum_of numbers k [] = 0
 sum_of numbers k (d ∷ ds) = counted_in (numbers d) k + sum_of numbers k ds
+
+-- what is counted in a word, if it is one of n words after word `at`
+abbrev pub counted_from : ℕ → ℕ → List ℕ → ℕ → ℕ
+counted_from at n numbers k = if nat_lt at k && nat_lt k (at + n + 1) then counted_in numbers k else 0
 
 -- the pass, with a list
 abbrev pub with_list : {T : Type 0} → PassView T → List ℕ → PassView T

@@ -13,7 +13,7 @@ use Rattle.srm_cell.specs.Views.{IsSoundCell}
 use Rattle.srm_crew.specs.declared.watching.Watching.{Watching}
 use Rattle.srm_interfaces.specs.declared.watched.WatchedJob.{WatchedJob}
 use Rattle.srm_interfaces.specs.declared.watched.WatchedDone.{WatchedDone}
-use Rattle.srm_interfaces.specs.Watches.{HaveKept, Watches, job_in, jobs_in}
+use Rattle.srm_interfaces.specs.Watches.{IsSoundJob, Watches, job_in, jobs_in}
 
 -- the work is on runs of this scenario on this network
 abbrev pub IsWatchOn : {W : Type 0} → Watching W → PlainScenario → Network → Type 0
@@ -33,6 +33,6 @@ module _ {M K : Type 0} where
   AdvanceOne f takes k net j (Err fault.NoMemory) = Unit {0}
   AdvanceOne f takes k net j (Err e) = Advances f k net (job_in j) (Err e)
 
-  -- the jobs may be advanced, and something is kept of each of their cells
+  -- the jobs may be advanced, and are sound
   abbrev pub MayWatch : (M → Record) → Network → List (WatchedJob M K) → Type 0
-  MayWatch f net js = All (λ j. MayAdvance f (length net.hosts) j) (jobs_in js) × All HaveKept js
+  MayWatch f net js = All (λ j. MayAdvance f (length net.hosts) j) (jobs_in js) × All (IsSoundJob f) js

@@ -2,7 +2,7 @@
 ghost use Rattle.std.specs.Prelude.{◌≡◌, ◌<◌, ◌*◌, length, All, IfOk, MatchResult};
 ghost use Rattle.srm_ledger.specs.Counts.{place_of};
 ghost use Rattle.srm_interfaces.specs.Crews.{HasGrown, IsPast, counted_in};
-ghost use Rattle.srm_crew.specs.Shared.{sum_of, Settles};
+ghost use Rattle.srm_crew.specs.Shared.{counted_from, sum_of, Settles};
 
 use crate::counted::Counted;
 use srm_cell::crossings::Crossings;
@@ -26,6 +26,25 @@ fn kind_at(index: usize) -> Kind
     }
 }
 
+// Adds the five numbers of a link.
+fn add_link(ledger: &Ledger, seat: &mut Seat, totals: &Totals, link: u16) -> Result<(), ShareFull>
+    requires seat { seat.old.ledger ≡ ledger.now.name }
+    requires link { link < ledger.now.links }
+    requires long { length totals.now ≡ 5 * ledger.now.links }
+    ensures { MatchResult result (λ _. HasGrown (counted_from (5 * link) 5 totals.now) seat.old seat.new)
+        (λ _. IsPast (counted_from (5 * link) 5 totals.now) seat.old) }
+{
+    for index in 0..5 {
+        let kind = kind_at(index);
+        let number = totals.number(link, kind);
+        // most numbers are 0: few links have packets of each kind in one window
+        if number > 0 && ledger.add(seat, usize::from(link), kind, number).is_err() {
+            return Err(ShareFull);
+        }
+    }
+    Ok(())
+}
+
 // Adds each number of the totals.
 fn add_totals(ledger: &Ledger, seat: &mut Seat, totals: &Totals) -> Result<(), ShareFull>
     requires seat { seat.old.ledger ≡ ledger.now.name }
@@ -33,13 +52,10 @@ fn add_totals(ledger: &Ledger, seat: &mut Seat, totals: &Totals) -> Result<(), S
     ensures { MatchResult result (λ _. HasGrown (counted_in totals.now) seat.old seat.new)
         (λ _. IsPast (counted_in totals.now) seat.old) }
 {
-    for i in 0..5 * ledger.links() {
-        let link = i / 5;
-        let kind = kind_at(i % 5);
-        let number = totals.number(link as u16, kind);
-        // most numbers are 0: few links have packets of each kind in one window
-        if number > 0 && ledger.add(seat, link, kind, number).is_err() {
-            return Err(ShareFull);
+    for link in 0..ledger.links() {
+        match add_link(ledger, seat, totals, link as u16) {
+            Ok(()) => {}
+            Err(full) => return Err(full),
         }
     }
     Ok(())

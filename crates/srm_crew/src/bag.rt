@@ -1,8 +1,10 @@
 //! A bag of items, each with an index, from which threads take the oldest.
-ghost use Rattle.std.specs.Prelude.{◌≡◌, ◌<◌, ◌≤◌, ◌+◌, ◌++◌, ◌⊎◌, ◌↔◌, ℕ, Some, length, slice_get, vec_capacity, IfOk, MatchOption, MatchResult};
+ghost use Rattle.std.specs.Prelude.{◌≡◌, ◌<◌, ◌≤◌, ◌+◌, ◌++◌, ◌⊎◌, ◌↔◌, ℕ, Some, length, slice_get, vec_capacity};
+ghost use Rattle.std.specs.Prelude.{IfOk, MatchOption, MatchResult};
 ghost use Rattle.srm_net.specs.Limits.{most_nodes};
 ghost use Rattle.srm_crew.specs.Indices.{EachOnce, AllBelow};
-ghost use Rattle.srm_crew.specs.Passes.{PassView, fresh_pass, with_put, with_taken, half_with_list, half_without_list, both_passes, TellsPut, TellsTake, TellsEmpty, TookEachAtMostOnce};
+ghost use Rattle.srm_crew.specs.Passes.{PassView, fresh_pass, with_put, with_taken, half_with_list, half_without_list};
+ghost use Rattle.srm_crew.specs.Passes.{both_passes, TellsPut, TellsTake, TellsEmpty, TookEachAtMostOnce};
 
 use crate::bag_fault::{BagFault, EmptyFault, PutFault, SplitFault};
 use crate::pass::{Pass, WHOLE};
@@ -108,8 +110,9 @@ impl<T> Bag<T> {
         pass: Pass<T>,
     ) -> Result<(Pass<T>, Pass<T>), (Pass<T>, SplitFault)>
         requires { pass.bag ≡ self.now.name }
-        ensures { MatchResult result (λ h. (2 ≤ pass.weight) × (h.0 ≡ half_with_list pass)
-            × (h.1 ≡ half_without_list pass)) (λ e. (e.0 ≡ pass) × (e.1 ≡ SplitFault.TooManySeats ↔ pass.weight ≡ 1)) }
+        ensures { MatchResult result
+            (λ h. (2 ≤ pass.weight) × (h.0 ≡ half_with_list pass) × (h.1 ≡ half_without_list pass))
+            (λ e. (e.0 ≡ pass) × (e.1 ≡ SplitFault.TooManySeats ↔ pass.weight ≡ 1)) }
     {
         if pass.weight < 2 {
             return Err((pass, SplitFault::TooManySeats));

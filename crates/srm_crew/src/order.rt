@@ -3,6 +3,7 @@ ghost use Rattle.std.specs.Prelude.{◌≡◌, ◌<◌, ℕ, length, Some, slice
 ghost use Rattle.srm_crew.specs.Indices.{EachOnce};
 ghost use Rattle.srm_crew.specs.Shared.{InOrder};
 
+use srm_team::fault::TeamFault;
 use srm_team::slots::{collect, empty_slots};
 use std::alloc::{AllocError, Global};
 
@@ -34,6 +35,10 @@ pub(crate) fn in_order<D: Drop>(
     scatter(indices, &mut slots, results);
     match collect(alloc, slots) {
         Ok(all) => Ok(all),
-        Err(_) => Err(AllocError),
+        Err(fault) => {
+            // Each slot is full, so what is refused is memory.
+            prove!(fault != TeamFault::Left);
+            Err(AllocError)
+        }
     }
 }

@@ -19,7 +19,7 @@ use std::alloc::{AllocError, Global};
 use std::sync::Arc;
 
 /// About how many events are due in the jobs before their ends: as it is written, one in each cell where something is due, and
-/// one for each packet that is on its way to it.
+/// one for each packet that arrives there by then.
 pub(crate) fn due_in_all<M: Participant, K: Drop>(jobs: &[WatchedJob<M, K>]) -> usize {
     let mut due: usize = 0;
     for job in jobs {
@@ -30,10 +30,15 @@ pub(crate) fn due_in_all<M: Participant, K: Drop>(jobs: &[WatchedJob<M, K>]) -> 
 
 // The same of one job.
 fn due_in<M: Participant, K: Drop>(job: &WatchedJob<M, K>) -> usize {
+    if job.till <= job.soon {
+        return 0;
+    }
     let mut due: usize = 0;
     for cell in job.cells.iter() {
         if is_due(cell, job.till) {
-            due = due.saturating_add(cell.waiting()).saturating_add(1);
+            due = due
+                .saturating_add(cell.arriving_before(job.till))
+                .saturating_add(1);
         }
     }
     due

@@ -110,7 +110,8 @@ impl<R: Threads + Sync> Crew<Box<dyn Member>> for PoolCrew<R> {
             jobs.items }
         requires places { map (λ j. j.place) jobs.items ≡ range_with_len 0 (length jobs.items) }
         ensures ready { IsSync R.row }
-        ensures done { Maps (λ b. (⟦<dyn Member as Member>⟧ b.vtable).plain b.value) scenario.now net.now seat jobs.items result }
+        ensures done { Maps (λ b. (⟦<dyn Member as Member>⟧ b.vtable).plain b.value) scenario.now net.now seat
+            jobs.items result }
         ensures handed { IfOk result (λ _. self.new ≡ self.old) }
     {
         let advanced = advance_in_pool(&self.rt, alloc, scenario, net, jobs);

@@ -145,9 +145,9 @@ impl<'a, R: Wait, M: Participant, K: Drop, W: Watch<K> + Copy, J: Naming> WatchT
     W,
     J,
 > {
-    /// A crew that has this team, and does this work. As it is written, the thread that calls does it where fewer than about `few`
-    /// events are due, where all cells together hear fewer than 8,192 packets, or where the team has room for no item. It does not
-    /// allocate.
+    /// A crew that has this team, and does this work. As it is written, the thread that calls does it where fewer than about
+    /// `few` events are due, where all cells together hear fewer than 8,192 packets, or where the team has room for no item. It
+    /// does not allocate.
     ///
     /// A call of it is refused with `NoMemory` also where its team is `Worn` or `Left`, and never for `TooMany`.
     pub fn new(

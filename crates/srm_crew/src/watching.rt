@@ -5,7 +5,7 @@ ghost use Rattle.srm_member.specs.declared.row.Row.{Row as OneRow};
 ghost use Rattle.srm_cell.specs.Crossings.{packets_of};
 ghost use Rattle.srm_cell.specs.Hearing.{IsSent, packets_in};
 ghost use Rattle.srm_cell.specs.Jobs.{MayAdvance, Runs};
-ghost use Rattle.srm_interfaces.specs.Watches.{job_in, AdvanceWatched, HaveKept, KeepClosed};
+ghost use Rattle.srm_interfaces.specs.Watches.{job_in, AdvanceWatched, IsSoundJob, KeepClosed};
 ghost use Rattle.srm_crew.specs.Watched.{AdvanceOne, IsOfMember, MayWatch};
 
 use crate::gathered::Gathered;
@@ -64,22 +64,26 @@ pub(crate) fn advance_watched<M: Participant, K: Drop, W: Watch<K>>(
 }
 
 // Advances a job cell by cell, and keeps of the rows what the watch keeps. Only the rows of one cell are there at a time. What is
-// kept is closed at the end.
+// kept is closed at the end. Where nothing is due no cell is looked at.
 fn advance_one<M: Participant, K: Drop, W: Watch<K>>(
     work: &Watching<W>,
     job: WatchedJob<M, K>,
     gathered: &mut Gathered,
 ) -> Result<WatchedDone<M, K>, CellFault>
     requires job { MayAdvance M.plain (length work.now.session.net.now.hosts) (job_in job) }
-    requires kept { HaveKept job }
+    requires sound { IsSoundJob M.plain job }
     ensures { AdvanceOne M.plain (KeepClosed (W.keeps work.now.watch) (W.closes work.now.watch))
         work.now.session.scenario.now work.now.session.net.now job result }
 {
+    if job.till <= job.soon {
+        return Ok(idle(work, job));
+    }
     let WatchedJob {
         place,
         till,
         cells,
         kept,
+        ..
     } = job;
     let mut cells = cells;
     let mut kept = kept;
@@ -106,6 +110,32 @@ fn advance_one<M: Participant, K: Drop, W: Watch<K>>(
         sent,
         crossings,
     })
+}
+
+// What is done of a job in which nothing is due: all is as it was.
+fn idle<M: Participant, K: Drop, W: Watch<K>>(
+    work: &Watching<W>,
+    job: WatchedJob<M, K>,
+) -> WatchedDone<M, K>
+    requires job { MayAdvance M.plain (length work.now.session.net.now.hosts) (job_in job) }
+    requires sound { IsSoundJob M.plain job }
+    requires idle { job.till ≤ job.soon }
+    ensures { AdvanceOne M.plain (KeepClosed (W.keeps work.now.watch) (W.closes work.now.watch))
+        work.now.session.scenario.now work.now.session.net.now job (Ok result) }
+{
+    let WatchedJob {
+        place,
+        cells,
+        kept,
+        ..
+    } = job;
+    WatchedDone {
+        place,
+        cells,
+        kept,
+        sent: Vec::new(work.alloc),
+        crossings: Crossings::none(work.session.net.links().len() as u16),
+    }
 }
 
 // Runs a cell to tick `till`. The watch takes in its rows, and what was sent in them is put behind what was sent before. Where

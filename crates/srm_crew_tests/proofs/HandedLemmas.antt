@@ -11,11 +11,12 @@ use Rattle.srm_ledger.specs.Seats.{LedgerView, SeatView}
 use Rattle.srm_cell.specs.declared.cell.Cell.{Cell}
 use Rattle.srm_cell.specs.declared.job.Job.{Job}
 use Rattle.srm_cell.specs.Cells.{OwnCell}
-use Rattle.srm_cell.specs.Views.{IsNew, IsSoundCell}
+use Rattle.srm_cell.specs.Views.{IsNew, IsSoundCell, event_of}
+use Rattle.srm_cell.proofs.Nexts.{none_due}
 use Rattle.srm_cell.specs.Jobs.{MayAdvance}
 use Rattle.srm_interfaces.specs.declared.watched.WatchedJob.{WatchedJob}
 use Rattle.srm_interfaces.specs.Crews.{MayMap}
-use Rattle.srm_interfaces.specs.Watches.{HaveKept, MayMapWatched, job_in, jobs_in}
+use Rattle.srm_interfaces.specs.Watches.{IsIdleTo, IsSoundJob, MayMapWatched, job_in, jobs_in}
 use Rattle.srm_crew_tests.specs.Handed.{AreInPlace, AreKnown, IsWatchedAs}
 use Rattle.srm_net.specs.Limits.{end_of_time}
 
@@ -59,6 +60,12 @@ module _ {M : Type 0} (f : M → Record) (n : ℕ) where
     few = omega arith;
   })
 
+-- nothing is due before tick 0
+idle_to_none : {M : Type 0} (f : M → Record) (cs : List (Cell M)) → All (IsIdleTo f 0) cs
+idle_to_none f [] = All-nil (IsIdleTo f 0)
+idle_to_none f (c ∷ cs) =
+    All-cons (IsIdleTo f 0) c cs (none_due 0 (event_of f c) (λ u e. omega arith)) (idle_to_none f cs)
+
 module _ {M K : Type 0} where
   jobs_are : (js : List (Job M)) (ws : List (WatchedJob M K)) → AllZip (λ j w. IsWatchedAs j w) js ws → jobs_in ws ≡ js
   jobs_are [] [] z = refl
@@ -66,11 +73,15 @@ module _ {M K : Type 0} where
   jobs_are (j ∷ js) [] z = absurd z
   jobs_are (j ∷ js) (w ∷ ws) z = λ i. z.0.0 i ∷ jobs_are js ws z.1 i
 
-  are_kept : (js : List (Job M)) (ws : List (WatchedJob M K)) → AllZip (λ j w. IsWatchedAs j w) js ws → All HaveKept ws
-  are_kept [] [] z = All-nil HaveKept
-  are_kept [] (w ∷ ws) z = absurd z
-  are_kept (j ∷ js) [] z = absurd z
-  are_kept (j ∷ js) (w ∷ ws) z = All-cons HaveKept w ws z.0.1 (are_kept js ws z.1)
+  are_sound : (f : M → Record) (js : List (Job M)) (ws : List (WatchedJob M K)) → AllZip (λ j w. IsWatchedAs j w) js ws
+      → All (IsSoundJob f) ws
+  are_sound f [] [] z = All-nil (IsSoundJob f)
+  are_sound f [] (w ∷ ws) z = absurd z
+  are_sound f (j ∷ js) [] z = absurd z
+  are_sound f (j ∷ js) (w ∷ ws) z =
+      All-cons (IsSoundJob f) w ws
+      (record { kept = z.0.2; soon = subst (λ t. All (IsIdleTo f t) w.cells.items) (sym z.0.1) (idle_to_none f w.cells.items) })
+      (are_sound f js ws z.1)
 
   placed : (ws : List (WatchedJob M K)) → map (λ (w : WatchedJob M K). w.place) ws ≡ map (λ (j : Job M). j.place) (jobs_in ws)
   placed [] = refl
@@ -84,6 +95,6 @@ module _ {M K : Type 0} where
       let is = jobs_are js ws z in
       let long : length ws ≡ length js = sym (length-map ws job_in) ∙ ap (λ (l : List (Job M)). length l) is in record {
         may = subst (MayMap f net ledger seat) (sym is) (record { jobs = h.jobs; many = h.few; links = links; of_ledger = name });
-        kept = are_kept js ws z;
+        sound = are_sound f js ws z;
         places = placed ws ∙ ap (map (λ (j : Job M). j.place)) is ∙ h.places ∙ ap (λ n. range_with_len 0 n) (sym long);
       }

@@ -6,7 +6,7 @@ use Rattle.srm_member.specs.Record.{Record}
 use Rattle.srm_cell.specs.declared.job.Job.{Job}
 use Rattle.srm_cell.specs.declared.cell.Cell.{Cell}
 use Rattle.srm_interfaces.specs.declared.watched.WatchedJob.{WatchedJob}
-use Rattle.srm_interfaces.specs.Watches.{HaveKept, job_in}
+use Rattle.srm_interfaces.specs.Watches.{job_in}
 use Rattle.srm_cell.specs.Jobs.{AreMembers, AreSound, MayAdvance, own_cells}
 
 module _ {M : Type 0} where
@@ -22,6 +22,6 @@ module _ {M : Type 0} where
     pub of_members : AreMembers members (own_cells f cs)
     pub few : length cs ≤ 1024
 
--- the watched job is this one, and something is kept of each of its cells
+-- the watched job is this one: nothing is known of when something is due, and something is kept of each of its cells
 abbrev pub IsWatchedAs : {M K : Type 0} → Job M → WatchedJob M K → Type 0
-IsWatchedAs j w = (job_in w ≡ j) × HaveKept w
+IsWatchedAs j w = (job_in w ≡ j) × (w.soon ≡ 0) × (length w.kept.items ≡ length w.cells.items)

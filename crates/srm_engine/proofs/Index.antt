@@ -464,15 +464,15 @@ overtaken n ts ws fs w m t h lt before len set tree =
         (through (word_of t m) w (word_at ws (n + k)) before (h.first.least k below))
 
 -- a word of the time of the first, of a member after it
-later_number : (w x r m k j : ℕ) → w ≤ x → x < r → r / 65536 ≡ w / 65536 → w % 65536 ≡ m → x % 65536 ≡ k → r % 65536 ≡ j
+later_number : (w x r m k j : ℕ) → w ≤ x → x < r → r / 65536 ≤ w / 65536 → w % 65536 ≡ m → x % 65536 ≡ k → r % 65536 ≡ j
     → (m ≤ k) × (k < j)
 later_number w x r m k j le lt time first next last = (omega arith, omega arith)
 
 -- the time of the member that comes first was set, and the words above it replayed
-pub replayed : (n : ℕ) (ts : List (Option ℕ)) (ws fs : List ℕ) (w r m : ℕ) (t : Option ℕ) → IsTournament n ts ws w → m < length ts
-    → w % 65536 ≡ m → length fs ≡ length ws → SetsLeaf (n + m) (word_of t m) ws fs → IsReplayed (n + m) (w / 65536) r fs
-    → IsTournament n (slice_set ts m t) fs r
-replayed n ts ws fs w r m t h lt own len set rep =
+pub replayed : (n : ℕ) (ts : List (Option ℕ)) (ws fs : List ℕ) (w r m bound : ℕ) (t : Option ℕ) → IsTournament n ts ws w
+    → m < length ts → w % 65536 ≡ m → bound ≤ (w / 65536 + 1) * 65536 → length fs ≡ length ws → SetsLeaf (n + m) (word_of t m) ws fs
+    → IsReplayed (n + m) bound r fs → IsTournament n (slice_set ts m t) fs r
+replayed n ts ws fs w r m bound t h lt own divides len set rep =
     let leaves : HaveLeaves n (slice_set ts m t) fs = leaves_set n ts ws fs m t h.leaves lt len set in
     let d : ℕ = rep.height in
     let s : ℕ = (n + m) / 2 ^ d in
@@ -512,14 +512,14 @@ replayed n ts ws fs w r m t h lt own len set rep =
         → ((v : ℕ) → (n + m) / 2 ^ rep.height ≤ v → 2 * v + 1 < length fs → word_at fs v ≡ winner_below fs v)
         → IsLowest rep.height ((n + m) / 2 ^ rep.height) fs → (k : ℕ)
         → (n + k) / 2 ^ rep.height ≡ (n + m) / 2 ^ rep.height → r % 65536 ≡ k → (i : ℕ) → i < n
-        → ((n + m) / 2 ^ rep.height ≡ 1) ⊎ (r / 65536 ≡ w / 65536) → r ≤ word_at fs (n + i)
+        → ((n + m) / 2 ^ rep.height ≡ 1) ⊎ (r < bound) → r ≤ word_at fs (n + i)
     first_below leaves won low k at number i below (inl top) =
         let some = leaves.some in
         let size = leaves.size in
         subst (λ x. x ≤ word_at fs (n + i)) (sym (ap (word_at fs) top) ∙ rep.stands)
         (first_of_all fs n size (λ v pos inner. won v (subst (λ x. x ≤ v) (sym top) pos) inner) (2 * n) (n + i)
         (omega arith) (omega arith) (omega arith))
-    first_below leaves won low k at number i below (inr time) =
+    first_below leaves won low k at number i below (inr less_than_bound) =
         by (nat_lt (word_at fs (n + i)) r) refl
       where
         outside : ((n + i) / 2 ^ rep.height ≡ (n + m) / 2 ^ rep.height → ⊥) → word_at fs (n + i) < r → n ≤ 65536 → ⊥
@@ -530,6 +530,7 @@ replayed n ts ws fs w r m t h lt own len set rep =
             let after : w ≤ word_at fs (n + i) = subst (λ x. w ≤ x) (sym kept) (h.first.least i below) in
             let is : word_at fs (n + i) % 65536 ≡ i =
             ap (λ x. x % 65536) (leaves.each i below) ∙ number_in (slice_index_or (slice_set ts m t) i None) i (omega arith) in
+            let time : r / 65536 ≤ w / 65536 = omega arith in
             let order = later_number w (word_at fs (n + i)) r m i k after less time own is number in
             let low_order = order.0 in
             let high_order = order.1 in

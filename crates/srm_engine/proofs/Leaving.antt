@@ -11,22 +11,22 @@ use Rattle.srm_cell.specs.Setting.{traffic_of}
 use Rattle.srm_interfaces.specs.Crews.{AreDone}
 use Rattle.srm_interfaces.specs.declared.watched.WatchedJob.{WatchedJob}
 use Rattle.srm_interfaces.specs.declared.watched.WatchedDone.{WatchedDone}
-use Rattle.srm_interfaces.specs.Watches.{HaveKept, WatchEach, Watches, job_in, jobs_in}
+use Rattle.srm_interfaces.specs.Watches.{IsSoundJob, WatchEach, Watches, job_in, jobs_in}
 use Rattle.srm_interfaces.proofs.WatchLemmas.{as_many_kept, sent_below}
 use Rattle.srm_engine.specs.ByRows.{LeftEach, MayLeave, kept_in}
 
 module _ {M K : Type 0} (f : M → Record) (k : PlainScenario) (net : Network) where
   -- what is done of jobs that may be advanced may be left
   pub may_leave : (js : List (WatchedJob M K)) (ds : List (job.Done M)) → All (λ j. MayAdvance f (length k.members) j) (jobs_in js)
-      → All HaveKept js → AreDone f k net (jobs_in js) ds → MayLeave k (kept_in js) ds
+      → All (IsSoundJob f) js → AreDone f k net (jobs_in js) ds → MayLeave k (kept_in js) ds
   may_leave [] [] a h z = tt
   may_leave [] (d ∷ ds) a h z = absurd z
   may_leave (j ∷ js) [] a h z = absurd z
   may_leave (j ∷ js) (d ∷ ds) a h z = (
-    as_many_kept f (length k.members) (traffic_of k net) j d (All-head HaveKept j js h) z.0,
+    as_many_kept f (length k.members) (traffic_of k net) j d (All-head (IsSoundJob f) j js h) z.0,
     sent_below f (length k.members) (traffic_of k net) j d
         (All-head (λ j. MayAdvance f (length k.members) j) (job_in j) (jobs_in js) a) z.0,
-    may_leave js ds (All-tail (λ j. MayAdvance f (length k.members) j) (job_in j) (jobs_in js) a) (All-tail HaveKept j js h) z.1,
+    may_leave js ds (All-tail (λ j. MayAdvance f (length k.members) j) (job_in j) (jobs_in js) a) (All-tail (IsSoundJob f) j js h) z.1,
   )
 
 module _ {M K : Type 0} (takes : List K → List (List Row) → List K → Type 0) (k : PlainScenario) (net : Network) where

@@ -1,8 +1,9 @@
 -- How soon something is due in each group, where groups are looked at one after the other.
 use Rattle.std.proofs.Common.{◌≡◌, ◌⊎◌, inl, inr, ℕ, zero, suc, ◌+◌, ◌*◌, ◌<◌, ◌≤◌, List, [], ◌∷◌, ◌++◌, refl, sym, ap, ◌∙◌, subst}
-use Rattle.std.proofs.Common.{arith, slice_set, get_or, length, length-append, take, drop, add-one, append-nil, take_all}
+use Rattle.std.proofs.Common.{add-zero, arith, slice_set, All, get_or, length, length-append, take, drop, add-one, append-nil, take_all}
 use Rattle.std.proofs.Math.Nat.{suc-mul}
 use Rattle.std.proofs.lemmas.List.{length-map, drop_all, get_or-map}
+use Rattle.std.proofs.lemmas.List.Elements.{All-nil, All-cons}
 use Rattle.std.proofs.lemmas.Slice.Zip.{AllZip-long}
 use Rattle.std.specs.Global.{Vec}
 use Rattle.srm_member.specs.Record.{Record}
@@ -10,12 +11,16 @@ use Rattle.srm_member.specs.declared.row.Row.{Row}
 use Rattle.srm_cell.specs.declared.cell.Cell.{Cell}
 use Rattle.srm_cell.specs.Jobs.{RanEach, own_cells}
 use Rattle.srm_cell.specs.Setting.{Setting}
+use Rattle.srm_cell.specs.Views.{event_of, own_cell}
 use Rattle.srm_engine.specs.declared.soonest.Soonest.{Soonest}
 use Rattle.srm_engine.specs.Groups.{AreCuts, AreGrouped, RanGroups, sizes, all_in}
 use Rattle.srm_engine.specs.Seen.{AreFrom}
-use Rattle.srm_engine.specs.Soonest.{soon_in, soonest_of}
+use Rattle.srm_engine.specs.Soonest.{due, least_of, soon_in, soonest_of}
 use Rattle.srm_engine.proofs.CellLists.{both_from, first_cut, no_more_groups}
-use Rattle.srm_engine.proofs.SoonLemmas.{idle_cells}
+use Rattle.srm_engine.specs.WatchedGroups.{time_at}
+use Rattle.srm_interfaces.specs.Watches.{IsIdleTo}
+use Rattle.srm_cell.proofs.Nexts.{none_due}
+use Rattle.srm_engine.proofs.SoonLemmas.{idle_cells, none_less}
 
 -- ---- the members of a group
 
@@ -196,3 +201,35 @@ module _ {M : Type 0} (f : M → Record) (s : Setting) (till cut : ℕ) (all : L
       let is = so_far before ran was h
       ∙ all_written k (soon_in f s all) initial (as_many before ran was) (omega (arith, long, past)) in
       (is, ap length is ∙ as_many before ran was)
+
+-- ---- the groups of jobs
+
+module _ {M : Type 0} (f : M → Record) where
+  -- nothing is due in the groups, from a place on, before these times
+  abbrev pub AreIdleTo : (ℕ → ℕ) → ℕ → List (Vec (Cell M)) → Type 0
+  AreIdleTo soon place [] = Unit {0}
+  AreIdleTo soon place (g ∷ gs) = All (IsIdleTo f (soon place)) g.items × AreIdleTo soon (suc place) gs
+
+  idle_before : (till n : ℕ) (cs : List (Cell M)) → till ≤ least_of due n (own_cells f cs) → All (IsIdleTo f till) cs
+  idle_before till n [] le = All-nil (IsIdleTo f till)
+  idle_before till n (c ∷ cs) le =
+      let r = none_less f till n (own_cell f c) (own_cells f cs) le in
+      All-cons (IsIdleTo f till) c cs (none_due till (event_of f c) r.1) (idle_before till n cs r.0)
+
+  idle_from : (s : Setting) (soon : ℕ → ℕ) (place : ℕ) (gs : List (Vec (Cell M))) (xs : List Soonest) → xs ≡ soon_in f s gs
+      → ((k : ℕ) → soon (place + k) ≡ time_at xs k) → AreIdleTo soon place gs
+  idle_from s soon place [] xs e h = tt
+  idle_from s soon place (g ∷ gs) [] e h = cc
+  idle_from s soon place (g ∷ gs) (x ∷ xs) e h =
+      let first : x ≡ soonest_of s (own_cells f g.items) = cc in
+      let others : xs ≡ soon_in f s gs = cc in
+      let time : soon place ≡ least_of due s.traffic.until (own_cells f g.items) =
+      ap soon (sym (add-zero place)) ∙ h 0 ∙ ap (λ (z : Soonest). z.time) first in (
+        idle_before (soon place) s.traffic.until g.items (omega (arith, time)),
+        idle_from s soon (suc place) gs xs others
+            (λ k. let same : suc place + k ≡ place + suc k = omega arith in ap soon same ∙ h (suc k)),
+      )
+
+  -- nothing is due in a group sooner than is kept of it
+  pub idle_groups : (s : Setting) (gs : List (Vec (Cell M))) (xs : List Soonest) → xs ≡ soon_in f s gs → AreIdleTo (time_at xs) 0 gs
+  idle_groups s gs xs e = idle_from s (time_at xs) 0 gs xs e (λ k. ap (time_at xs) (omega arith))

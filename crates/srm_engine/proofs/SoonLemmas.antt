@@ -150,7 +150,7 @@ module _ {M : Type 0} (f : M → Record) (till n : ℕ) where
       let same = h.run.leaves ∙ after_idle till c.number h.run.steps (plain_cell f c) idle in
       λ k. record { member = sym h.on.1 k; cell = sym same k }
 
-  none_less : (q : OwnCell) (qs : List OwnCell) → till ≤ least_of due n (q ∷ qs)
+  pub none_less : (q : OwnCell) (qs : List OwnCell) → till ≤ least_of due n (q ∷ qs)
       → (till ≤ least_of due n qs) × ((u : ℕ) → due q ≡ Some u → till ≤ u)
   none_less q qs late = (
     (let le = least_with_le (least_of due n qs) (due q) in omega arith),

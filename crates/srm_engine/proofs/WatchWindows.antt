@@ -16,7 +16,7 @@ use Rattle.srm_interfaces.specs.InTurn.{WereClosed}
 use Rattle.srm_model.specs.World.{World}
 use Rattle.srm_engine.specs.declared.watch_engine.WatchEngine.{WatchEngine}
 use Rattle.srm_engine.specs.Groups.{all_in, sizes, jobs_with, groups_of, lists_of, some_of}
-use Rattle.srm_engine.specs.WatchedGroups.{watched_with, groups_in, kept_of, sent_of}
+use Rattle.srm_engine.specs.WatchedGroups.{time_at, watched_with, groups_in, kept_of, sent_of}
 use Rattle.srm_engine.specs.WatchEngines.{IsWatching, kept_by}
 use Rattle.srm_engine.specs.WindowEngines.{ComesTo, EndsNext}
 use Rattle.srm_engine.specs.declared.fault.RunFault.{RunFault}
@@ -39,12 +39,14 @@ pub record WatchRan {M K : Type 0} (f : M → Record) (keeps : K → List Row �
 
 module _ {M K : Type 0} (f : M → Record) (e : WatchEngine M K) (is : IsWatching f e) (seed : ℕ) (begins : List World) (w : World)
     (comes : ComesTo f seed e.engine begins w) (till : ℕ) (at : EndsNext f e.engine till) (js : List (WatchedJob M K))
-    (same : js ≡ watched_with till 0 e.engine.groups.groups.items e.kept.items) where
+    (same : js ≡ watched_with (time_at e.engine.groups.soon.items) till 0 e.engine.groups.groups.items e.kept.items) where
   jobs_are : jobs_in js ≡ jobs_with till 0 e.engine.groups.groups.items
-  jobs_are = ap jobs_in same ∙ their_jobs till 0 e.engine.groups.groups.items e.kept.items is.each
+  jobs_are = ap jobs_in same ∙ their_jobs (time_at e.engine.groups.soon.items) till 0 e.engine.groups.groups.items e.kept.items is.each
 
   kept_are : map (λ (j : WatchedJob M K). j.kept) js ≡ e.kept.items
-  kept_are = ap (map (λ (j : WatchedJob M K). j.kept)) same ∙ kept_there till 0 e.engine.groups.groups.items e.kept.items is.each
+  kept_are =
+      ap (map (λ (j : WatchedJob M K). j.kept)) same
+      ∙ kept_there (time_at e.engine.groups.soon.items) till 0 e.engine.groups.groups.items e.kept.items is.each
 
   -- what is known of its jobs
   pub watched_tell : JobsTell f e.engine seed till w (jobs_in js)
@@ -74,7 +76,8 @@ module _ {M K : Type 0} (f : M → Record) (e : WatchEngine M K) (is : IsWatchin
 
 -- the same of the windows that a run under way came to
 module _ {M K : Type 0} (f : M → Record) (e : WatchEngine M K) (is : IsWatching f e) (till : ℕ) (at : EndsNext f e.engine till)
-    (js : List (WatchedJob M K)) (same : js ≡ watched_with till 0 e.engine.groups.groups.items e.kept.items) where
+    (js : List (WatchedJob M K))
+    (same : js ≡ watched_with (time_at e.engine.groups.soon.items) till 0 e.engine.groups.groups.items e.kept.items) where
   pub watched_tell_now : JobsTell f e.engine is.under_way.seed till is.under_way.world (jobs_in js)
   watched_tell_now = watched_tell f e is is.under_way.seed is.under_way.begins is.under_way.world is.under_way.comes till at js same
 

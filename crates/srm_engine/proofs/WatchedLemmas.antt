@@ -1,11 +1,12 @@
 -- Watched jobs, and what is left of what is done of them.
 use Rattle.std.proofs.Common.{◌≡◌, ◌∙◌, ◌++◌, ℕ, suc, List, [], ◌∷◌, All, length, map, refl, sym, ap, append_assoc}
-use Rattle.std.proofs.Common.{length-append, add-one, ◌+◌, ◌<◌, get_or, set, take, subst}
+use Rattle.std.proofs.Common.{length-append, add-one, arith, ◌+◌, ◌<◌, ◌≤◌, get_or, set, take, subst}
 use Rattle.std.proofs.lemmas.List.{map-append, map-set, get_or-map, set-get_or, take_more_set}
 use Rattle.std.proofs.lemmas.List.Elements.{All-nil, All-cons, All-append, filter_map-append}
 use Rattle.std.specs.Global.{Vec}
 use Rattle.srm_net.specs.Network.{Network}
 use Rattle.srm_scenario.specs.Plain.{PlainScenario}
+use Rattle.srm_member.specs.Record.{Record}
 use Rattle.srm_member.specs.declared.row.Row.{Row}
 use Rattle.srm_cell.specs.declared.cell.Cell.{Cell}
 use Rattle.srm_cell.specs.declared.job.Job.{Job}
@@ -16,35 +17,36 @@ use Rattle.srm_cell.specs.Hearing.{IsSent, packets_in}
 use Rattle.srm_cell.proofs.RowPackets.{joined-append}
 use Rattle.srm_interfaces.specs.declared.watched.WatchedJob.{WatchedJob}
 use Rattle.srm_interfaces.specs.declared.watched.WatchedDone.{WatchedDone}
-use Rattle.srm_interfaces.specs.Watches.{HaveKept, KeepClosed, KeepEach, WatchEach, jobs_in}
+use Rattle.srm_interfaces.specs.Watches.{IsSoundJob, KeepClosed, KeepEach, WatchEach, jobs_in}
 use Rattle.srm_interfaces.specs.InTurn.{WereClosed}
 use Rattle.srm_interfaces.proofs.GroupedLemmas.{all_in_push}
 use Rattle.srm_engine.specs.Groups.{all_in, sizes, jobs_with, groups_of, lists_of}
 use Rattle.srm_engine.specs.WatchedGroups.{watched_with, groups_in, kept_of, sent_of}
+use Rattle.srm_engine.proofs.SoonGroups.{AreIdleTo}
 
 -- ---- jobs
 
-module _ {M K : Type 0} where
+module _ {M K : Type 0} (soon : ℕ → ℕ) where
   -- where nothing is left that is kept, there is no more job
-  pub no_more_jobs : (till place : ℕ) (gs : List (Vec (Cell M))) (ks : List (Vec K)) → ks ≡ [] → watched_with till place gs ks ≡ []
+  pub no_more_jobs : (till place : ℕ) (gs : List (Vec (Cell M))) (ks : List (Vec K)) → ks ≡ [] → watched_with soon till place gs ks ≡ []
   no_more_jobs till place [] ks e = refl
   no_more_jobs till place (g ∷ gs) [] e = refl
   no_more_jobs till place (g ∷ gs) (k ∷ ks) e = cc
 
   -- one job more
   pub watched_push : (till : ℕ) (js new : List (WatchedJob M K)) (n : ℕ) (g : Vec (Cell M)) (k : Vec K) (gs : List (Vec (Cell M)))
-      (ks : List (Vec K)) → n ≡ length js → new ≡ js ++ record { place = n; till = till; cells = g; kept = k } ∷ []
-      → new ++ watched_with till (length new) gs ks ≡ js ++ watched_with till (length js) (g ∷ gs) (k ∷ ks)
+      (ks : List (Vec K)) → n ≡ length js → new ≡ js ++ record { place = n; till = till; soon = soon n; cells = g; kept = k } ∷ []
+      → new ++ watched_with soon till (length new) gs ks ≡ js ++ watched_with soon till (length js) (g ∷ gs) (k ∷ ks)
   watched_push till js new n g k gs ks e h =
-      let j : WatchedJob M K = record { place = n; till = till; cells = g; kept = k } in
-      let more : List (WatchedJob M K) = watched_with till (suc (length js)) gs ks in
+      let j : WatchedJob M K = record { place = n; till = till; soon = soon n; cells = g; kept = k } in
+      let more : List (WatchedJob M K) = watched_with soon till (suc (length js)) gs ks in
       let many : length new ≡ suc (length js) = ap length h ∙ length-append js (j ∷ []) ∙ add-one (length js) in
-      ap (λ m. new ++ watched_with till m gs ks) many ∙ ap (λ l. l ++ more) h ∙ append_assoc js (j ∷ []) more
-      ∙ ap (λ m. js ++ record { place = m; till = till; cells = g; kept = k } ∷ more) e
+      ap (λ m. new ++ watched_with soon till m gs ks) many ∙ ap (λ l. l ++ more) h ∙ append_assoc js (j ∷ []) more
+      ∙ ap (λ m. js ++ record { place = m; till = till; soon = soon m; cells = g; kept = k } ∷ more) e
 
   -- the jobs without what is kept
   pub their_jobs : (till place : ℕ) (gs : List (Vec (Cell M))) (ks : List (Vec K)) → sizes ks ≡ sizes gs
-      → jobs_in (watched_with till place gs ks) ≡ jobs_with till place gs
+      → jobs_in (watched_with soon till place gs ks) ≡ jobs_with till place gs
   their_jobs till place [] ks e = refl
   their_jobs till place (g ∷ gs) [] e = cc
   their_jobs till place (g ∷ gs) (k ∷ ks) e =
@@ -54,7 +56,7 @@ module _ {M K : Type 0} where
 
   -- what is kept of the cells of each
   pub kept_there : (till place : ℕ) (gs : List (Vec (Cell M))) (ks : List (Vec K)) → sizes ks ≡ sizes gs
-      → map (λ (j : WatchedJob M K). j.kept) (watched_with till place gs ks) ≡ ks
+      → map (λ (j : WatchedJob M K). j.kept) (watched_with soon till place gs ks) ≡ ks
   kept_there till place [] [] e = refl
   kept_there till place [] (k ∷ ks) e = cc
   kept_there till place (g ∷ gs) [] e = cc
@@ -62,16 +64,37 @@ module _ {M K : Type 0} where
       let same : sizes ks ≡ sizes gs = cc in
       ap (λ l. k ∷ l) (kept_there till (suc place) gs ks same)
 
-  pub have_kept : (till place : ℕ) (gs : List (Vec (Cell M))) (ks : List (Vec K)) → sizes ks ≡ sizes gs
-      → All HaveKept (watched_with till place gs ks)
-  have_kept till place [] ks e = All-nil HaveKept
-  have_kept till place (g ∷ gs) [] e = All-nil HaveKept
-  have_kept till place (g ∷ gs) (k ∷ ks) e =
-      let j : WatchedJob M K = record { place = place; till = till; cells = g; kept = k } in
+  -- the jobs are sound where nothing is due in the cells of each before that
+  pub are_sound : (f : M → Record) (till place : ℕ) (gs : List (Vec (Cell M))) (ks : List (Vec K)) → sizes ks ≡ sizes gs
+      → AreIdleTo f soon place gs → All (IsSoundJob f) (watched_with soon till place gs ks)
+  are_sound f till place [] ks e h = All-nil (IsSoundJob f)
+  are_sound f till place (g ∷ gs) [] e h = All-nil (IsSoundJob f)
+  are_sound f till place (g ∷ gs) (k ∷ ks) e h =
+      let j : WatchedJob M K = record { place = place; till = till; soon = soon place; cells = g; kept = k } in
       let long : length k.items ≡ length g.items = cc in
       let same : sizes ks ≡ sizes gs = cc in
-      All-cons HaveKept j (watched_with till (suc place) gs ks) long (have_kept till (suc place) gs ks same)
+      All-cons (IsSoundJob f) j (watched_with soon till (suc place) gs ks) (record { kept = long; soon = h.0 })
+      (are_sound f till (suc place) gs ks same h.1)
 
+  few_jobs : (till place : ℕ) (gs : List (Vec (Cell M))) (ks : List (Vec K)) → length (watched_with soon till place gs ks) ≤ length gs
+  few_jobs till place [] ks = omega arith
+  few_jobs till place (g ∷ gs) [] = omega arith
+  few_jobs till place (g ∷ gs) (k ∷ ks) = let few = few_jobs till (suc place) gs ks in omega (arith, few)
+
+  -- where one more job is to come there is a group at its place
+  pub group_there : (till : ℕ) (js : List (WatchedJob M K)) (gs all : List (Vec (Cell M))) (ks kept : List (Vec K)) (g : Vec (Cell M))
+      (k : Vec K) (more : List (Vec (Cell M))) (others : List (Vec K)) → gs ≡ g ∷ more → ks ≡ k ∷ others
+      → js ++ watched_with soon till (length js) gs ks ≡ watched_with soon till 0 all kept → length js < length all
+  group_there till js gs all ks kept g k more others first second is =
+      let n = length js in
+      let left : List (WatchedJob M K) = watched_with soon till n gs ks in
+      let some : length left ≡ suc (length (watched_with soon till (suc n) more others)) =
+      λ i. length (watched_with soon till n (first i) (second i)) in
+      let both : length js + length left ≡ length (watched_with soon till 0 all kept) = sym (length-append js left) ∙ ap length is in
+      let few = few_jobs till 0 all kept in
+      omega (arith, some, both, few)
+
+module _ {M K : Type 0} where
   pub places_in : (js : List (WatchedJob M K)) → map (λ (j : Job M). j.place) (jobs_in js) ≡ map (λ (j : WatchedJob M K). j.place) js
   places_in [] = refl
   places_in (j ∷ js) = ap (λ l. j.place ∷ l) (places_in js)

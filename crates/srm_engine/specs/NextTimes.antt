@@ -84,10 +84,10 @@ pub record IsTournament (n : ℕ) (ts : List (Option ℕ)) (ws : List ℕ) (w : 
   pub tree : AreWinnersBeside (n + w % NUMBERS) ws
 
 -- a place above this leaf has this word, all words but those above that place are winners, and that place is the top,
--- or the word is of this time
-pub record IsReplayed (leaf time w : ℕ) (ws : List ℕ) : Type 0 where
+-- or the word is below this bound
+pub record IsReplayed (leaf bound w : ℕ) (ws : List ℕ) : Type 0 where
   pub height : ℕ
   pub inside : 0 < leaf / 2 ^ height
   pub stands : word_at ws (leaf / 2 ^ height) ≡ w
   pub tree : AreWinnersBeside (leaf / 2 ^ height / 2) ws
-  pub ends : (leaf / 2 ^ height ≡ 1) ⊎ (w / NUMBERS ≡ time)
+  pub ends : (leaf / 2 ^ height ≡ 1) ⊎ (w < bound)

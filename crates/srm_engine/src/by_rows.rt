@@ -43,6 +43,7 @@ fn jobs_and_kept<M: Participant, K: Drop>(
             till,
             cells,
             kept,
+            ..
         } = job;
         plain.push(Job { place, till, cells })?;
         all.push(kept)?;

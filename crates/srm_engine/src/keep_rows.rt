@@ -14,11 +14,13 @@ pub(crate) struct KeepRows {
 }
 
 impl Watch<Vec<Row>> for KeepRows {
-    ghost use Rattle.std.specs.Prelude.{◌≡◌};
+    ghost use Rattle.std.specs.Prelude.{◌≡◌, refl};
 
     ghost keeps = { λ _ k rows. k.items ≡ rows };
 
     ghost closes = { λ _ old new. new ≡ old };
+
+    ghost may_stand = { λ _ _. refl };
 
     fn none(&self) -> Vec<Row> {
         Vec::new(self.alloc)

@@ -74,7 +74,9 @@ impl NextTimes {
         let leaf = self.size + place;
         let word = word(time, member);
         if leaf == first {
-            self.least = replay(&mut self.words, leaf, word, self.least / NUMBERS);
+            // the words of the time of the first are below it, and those of later times are not
+            let bound = (self.least / NUMBERS + 1).saturating_mul(NUMBERS);
+            self.least = replay(&mut self.words, leaf, word, bound);
         } else if self.least < word {
             climb(&mut self.words, leaf, word);
         } else {
@@ -170,30 +172,31 @@ fn raise_winners(words: &mut [u64]) -> u64
     words[1]
 }
 
-// Sets the leaf of the member that comes first, and then the words above it, up to the first one of this time, or to the top.
-// Gives the last of them, which is the least of all.
+// Sets the leaf of the member that comes first, and then the words above it, up to the first one below a bound, or to the top.
+// Gives the last of them, which is the least of all where the bound divides the words of the time of the first from later ones.
 //
 // Of the time of the first all others have greater numbers, and below a place above it stand members whose numbers follow each
 // other. So whoever is of this time, and comes first below such a place, comes first of all: mostly it is found near the leaf,
 // since many members have one time.
 #[inline(always)]
-fn replay(words: &mut [u64], leaf: usize, word: u64, time: u64) -> u64
+fn replay(words: &mut [u64], leaf: usize, word: u64, bound: u64) -> u64
     requires pairs { length words.old % 2 ≡ 0 }
     requires leaf { length words.old ≤ 2 * leaf }
     requires within { leaf < length words.old }
     requires tree { AreWinnersBeside leaf words.old }
-    ensures replayed { IsReplayed leaf time result words.new }
+    ensures replayed { IsReplayed leaf bound result words.new }
     ensures leaves { SetsLeaf leaf word words.old words.new }
 {
     let mut place = leaf;
     let mut least = word;
     words[place] = least;
-    while least / NUMBERS != time {
-        if place == 1 {
+    while least >= bound {
+        let above = place / 2;
+        if above == 0 {
             return least;
         }
         least = least.min(words[place ^ 1]);
-        place /= 2;
+        place = above;
         words[place] = least;
     }
     least
@@ -212,8 +215,8 @@ fn overtake(words: &mut [u64], first: usize, least: u64, leaf: usize, word: u64)
     ensures tree { AreWinnersBeside leaf words.new }
     ensures leaves { SetsLeaf leaf word words.old words.new }
 {
-    // No word is of so late a time.
-    replay(words, first, least, u64::MAX);
+    // No word is below 0.
+    replay(words, first, least, 0);
     words[leaf] = word;
 }
 

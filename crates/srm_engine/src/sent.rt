@@ -27,6 +27,9 @@ pub(crate) fn add_runs(
 ) -> Result<(), AllocError>
     ensures { OnOk result (all_in lists.new.items ≡ all_in lists.old.items ++ sent.items) }
 {
+    if sent.is_empty() {
+        return Ok(());
+    }
     let mut run: Vec<Sent> = Vec::new(alloc);
     for one in sent {
         let ends = match run.last() {

@@ -130,7 +130,7 @@ impl<'a, M: Participant, K: Drop> WatchEngine<'a, M, K> {
             ends,
         } = engine;
         let Groups { cut, groups, soon } = groups;
-        let jobs = watched_jobs(alloc, groups, kept, end)?;
+        let jobs = watched_jobs(alloc, groups, kept, soon.as_slice(), end)?;
         let (all, seat) = match crew.map(alloc, session, &ledger, seat, watch, jobs) {
             Ok(done) => done,
             Err(fault) => return Err(RunFault::of(fault).unwrap()),

@@ -1,9 +1,10 @@
 //! The jobs of a window whose rows are watched, and what comes of them.
-ghost use Rattle.std.specs.Prelude.{◌≡◌, [], All, IfOk, length};
+ghost use Rattle.std.specs.Prelude.{◌≡◌, ◌≤◌, [], All, IfOk, length};
 ghost use Rattle.srm_engine.specs.Groups.{all_in, sizes};
-ghost use Rattle.srm_engine.specs.WatchedGroups.{watched_with, groups_in, kept_of, sent_of};
+ghost use Rattle.srm_engine.specs.WatchedGroups.{time_at, watched_with, groups_in, kept_of, sent_of};
 
 use crate::sent::add_runs;
+use crate::soonest::Soonest;
 use srm_cell::cell::Cell;
 use srm_cell::sent::Sent;
 use srm_interfaces::keeping::none_of;
@@ -49,14 +50,16 @@ fn clear_group<K, W: Watch<K>>(watch: &W, group: &mut [K])
     }
 }
 
-/// The jobs of a window, one for each group, with what is kept of its cells.
+/// The jobs of a window, one for each group, with what is kept of its cells. Something is due in each group so soon.
 pub(crate) fn watched_jobs<M: Participant, K: Drop>(
     alloc: Global,
     groups: Vec<Vec<Cell<M>>>,
     kept: Vec<Vec<K>>,
+    soon: &[Soonest],
     till: u64,
 ) -> Result<Vec<WatchedJob<M, K>>, AllocError>
-    ensures { IfOk result (λ jobs. jobs.items ≡ watched_with till 0 groups.items kept.items) }
+    requires { length groups.items ≤ length soon.now }
+    ensures { IfOk result (λ jobs. jobs.items ≡ watched_with (time_at soon.now) till 0 groups.items kept.items) }
 {
     let mut jobs = Vec::with_capacity(alloc, groups.len())?;
     for (cells, own) in groups.into_iter().zip(kept) {
@@ -64,6 +67,7 @@ pub(crate) fn watched_jobs<M: Participant, K: Drop>(
         jobs.push(WatchedJob {
             place,
             till,
+            soon: soon[place].time,
             cells,
             kept: own,
         })?;

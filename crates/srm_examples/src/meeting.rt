@@ -48,8 +48,8 @@ impl Meeting {
         )?)
     }
 
-    /// The job of a place comes. One of the two waits for the other, but no longer than some seconds, and no more once one has waited
-    /// in vain.
+    /// The job of a place comes. One of the two waits for the other, but no longer than some seconds, and no more once one has
+    /// waited in vain.
     pub fn come(&self, place: usize) {
         if place == self.place {
             self.meet(&self.first, &self.second);

@@ -12,7 +12,7 @@ use Rattle.srm_cell.specs.Totalled.{IsSentBelow}
 use Rattle.srm_cell.proofs.SentRows.{rows_below}
 use Rattle.srm_interfaces.specs.declared.watched.WatchedJob.{WatchedJob}
 use Rattle.srm_member.specs.ByMember.{rows_of_member}
-use Rattle.srm_interfaces.specs.Watches.{HaveKept, KeepEach, KeepMembers, job_in}
+use Rattle.srm_interfaces.specs.Watches.{IsSoundJob, KeepEach, KeepMembers, job_in}
 
 -- ---- the rows of a member, with one more row
 
@@ -80,8 +80,8 @@ module _ {M K : Type 0} (f : M → Record) (members : ℕ) (t : Traffic) (j : Wa
   lists_many till (c ∷ cs) (r ∷ rs) [] h = absurd h
   lists_many till (c ∷ cs) (r ∷ rs) (d ∷ ds) h = ap suc (lists_many till cs rs ds h.1)
 
-  pub as_many_kept : HaveKept j → IsDone f t (job_in j) d → length d.rows.items ≡ length j.kept.items
-  as_many_kept kept done = lists_many j.till j.cells.items d.rows.items d.cells.items done.runs ∙ sym kept
+  pub as_many_kept : IsSoundJob f j → IsDone f t (job_in j) d → length d.rows.items ≡ length j.kept.items
+  as_many_kept sound done = lists_many j.till j.cells.items d.rows.items d.cells.items done.runs ∙ sym sound.kept
 
   pub sent_below : MayAdvance f members (job_in j) → IsDone f t (job_in j) d
       → All (λ rs. All (λ r. IsSentBelow members r.sent) rs) d.rows.items

@@ -1,5 +1,5 @@
 -- What is kept of the rows of jobs.
-use Rattle.std.specs.Prelude.{◌≡◌, ◌≤◌, ℕ, suc, List, [], ◌∷◌, ◌++◌, All, length, map, Result, Ok, Err}
+use Rattle.std.specs.Prelude.{◌≡◌, ◌≤◌, ℕ, suc, List, [], ◌∷◌, ◌++◌, All, length, map, None, Result, Ok, Err}
 use Rattle.std.specs.List.{range_with_len}
 use Rattle.std.specs.Global.{Vec}
 use Rattle.srm_net.specs.Network.{Network}
@@ -9,12 +9,15 @@ use Rattle.srm_member.specs.declared.row.Row.{Row}
 use Rattle.srm_member.specs.Record.{Record}
 use Rattle.srm_member.specs.ByMember.{rows_of_member}
 use Rattle.srm_ledger.specs.Seats.{LedgerView, SeatView}
+use Rattle.srm_cell.specs.declared.cell.Cell.{Cell}
 use Rattle.srm_cell.specs.declared.job.Job.{Job}
 use Rattle.srm_cell.specs.declared.job.Done as job
 use Rattle.srm_cell.specs.declared.fault.CellFault.{CellFault}
+use Rattle.srm_cell.specs.Cells.{before}
 use Rattle.srm_cell.specs.Crossings.{crossings, joined, packets_of}
 use Rattle.srm_cell.specs.Hearing.{IsSent, packets_in}
 use Rattle.srm_cell.specs.Setting.{traffic_of}
+use Rattle.srm_cell.specs.Views.{event_of}
 use Rattle.srm_interfaces.specs.declared.fault.CrewFault.{CrewFault}
 use Rattle.srm_interfaces.specs.declared.watched.WatchedJob.{WatchedJob}
 use Rattle.srm_interfaces.specs.declared.watched.WatchedDone.{WatchedDone}
@@ -54,6 +57,10 @@ pub record MayLead {C : Type 0} (ready : C → Type 0) (serves : C → PlainScen
   pub called : ready by
   pub served : serves by of.scenario.now of.net.now
 
+-- nothing is due in the cell before this tick
+abbrev pub IsIdleTo : {M : Type 0} → (M → Record) → ℕ → Cell M → Type 0
+IsIdleTo f tick c = before tick (event_of f c) ≡ None
+
 module _ {M K : Type 0} where
   -- the job without what is kept
   abbrev pub job_in : WatchedJob M K → Job M
@@ -62,15 +69,16 @@ module _ {M K : Type 0} where
   abbrev pub jobs_in : List (WatchedJob M K) → List (Job M)
   jobs_in js = map job_in js
 
-  -- something is kept of each cell
-  abbrev pub HaveKept : WatchedJob M K → Type 0
-  HaveKept j = length j.kept.items ≡ length j.cells.items
+  -- a watched job is sound: something is kept of each cell, and nothing is due in any before its `soon`
+  pub record IsSoundJob (f : M → Record) (j : WatchedJob M K) : Type 0 where
+    pub kept : length j.kept.items ≡ length j.cells.items
+    pub soon : All (IsIdleTo f j.soon) j.cells.items
 
-  -- a crew may be handed these jobs, which stand in the order of their places, and something is kept of each cell
+  -- a crew may be handed these jobs, which are sound, and stand in the order of their places
   pub record MayMapWatched (f : M → Record) (net : Network) (ledger : LedgerView) (seat : SeatView)
       (js : List (WatchedJob M K)) : Type 0 where
     pub may : MayMap f net ledger seat (jobs_in js)
-    pub kept : All HaveKept js
+    pub sound : All (IsSoundJob f) js
     pub places : map (λ j. j.place) js ≡ range_with_len 0 (length js)
 
   -- this is what is left of what is done of a job: where this was kept before, of the rows what is kept of them once

@@ -37,6 +37,9 @@ pub trait Watch<K> {
     fn close(&self, kept: &mut [K]) -> Result<(), AllocError>
         ensures long { length kept.new ≡ length kept.old }
         ensures closed { OnOk result (closes self.now kept.old kept.new) };
+
+    // What is closed may stand as it is.
+    ghost may_stand: { (w : Self) (own : List K) → closes w own own };
 }
 
 /// A watch that puts nothing together: more rows may be taken in after a close.

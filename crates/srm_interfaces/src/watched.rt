@@ -23,6 +23,8 @@ pub struct WatchedJob<M, K> {
     pub place: usize,
     /// The tick before which the cells handle their own events.
     pub till: u64,
+    /// A tick before which nothing is due in any of the cells.
+    pub soon: u64,
     /// The cells.
     pub cells: Vec<Cell<M>>,
     /// What is kept of the rows of each cell.

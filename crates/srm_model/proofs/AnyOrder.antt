@@ -15,12 +15,11 @@ use Rattle.srm_net.proofs.Basics.{one_if, nth_number}
 use Rattle.srm_member.specs.declared.row.Row.{Row}
 use Rattle.srm_member.proofs.OrderLemmas.{place-comm}
 use Rattle.srm_cell.specs.declared.flight.Flight.{Flight}
-use Rattle.srm_cell.specs.Flights.{flight_cmp}
+use Rattle.srm_cell.specs.Flights.{flight_cmp, flight_total}
 use Rattle.srm_cell.specs.Setting.{Traffic, Setting, IsFit}
 use Rattle.srm_cell.specs.Cells.{PlainCell, hear, hear_at}
 use Rattle.srm_cell.specs.OwnRuns.{hear_rows, told_to}
 use Rattle.srm_cell.specs.Crossings.{joined, packets_of}
-use Rattle.srm_cell.proofs.CellSteps.{flight_total}
 use Rattle.srm_model.specs.World.{World, row_cmp, IsReached}
 use Rattle.srm_model.specs.Handed.{SentIn, same_packet}
 use Rattle.srm_model.specs.Schedules.{IsSafe}

@@ -5,14 +5,14 @@ use Rattle.std.proofs.Common.{true≢false, le_refl, zero-add}
 use Rattle.std.specs.Ordering.{ordering_reverse}
 use Rattle.std.specs.Cmp.{IsTotalOrder}
 use Rattle.std.proofs.lemmas.Option.{same_Some}
-use Rattle.srm_cell.proofs.CellSteps.{SentBy, flight_total}
+use Rattle.srm_cell.proofs.CellSteps.{SentBy}
 use Rattle.srm_cell.proofs.Clear.{Besides, CountAfter, Differs, IsDistinct, IsTail, RestOf, StepOf, clear_step, differ_member, ranks_tail}
 use Rattle.srm_cell.proofs.Clear.{later_differs, next_besides, next_rest, step_is_of, then_after, all_tail}
 use Rattle.srm_cell.proofs.Rising.{Above, IsAbove, OnEvent, OnStep, before_on, next_above, step_above}
 use Rattle.srm_cell.specs.Cells.{arrival_key, mark_key, timer_key, Done, Event, PlainCell, StepOutcome, Stepped, before, hear, hear_at}
 use Rattle.srm_cell.specs.Cells.{next_event, step_at}
 use Rattle.srm_cell.proofs.Tidy.{NotBefore, later_not_before}
-use Rattle.srm_cell.specs.Flights.{flight_cmp}
+use Rattle.srm_cell.specs.Flights.{flight_cmp, flight_total}
 use Rattle.srm_cell.specs.OwnRuns.{told_to}
 use Rattle.srm_cell.specs.Setting.{HasOwnRanks, IsFit, Setting, arrival_of}
 use Rattle.srm_cell.specs.declared.flight.Flight.{Flight}

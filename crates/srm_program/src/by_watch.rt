@@ -31,7 +31,7 @@ use std::thread::{Threads, join_mut};
 pub(crate) const PIECES: usize = 4;
 
 // About how many events are due at least where the workers are woken.
-const ENOUGH: usize = 400;
+const ENOUGH: usize = 1_500;
 
 // The table of a run led by this crew, of these members. They are taken out of an `Option`, since a closure that calls
 // this cannot give them away.
@@ -148,8 +148,8 @@ fn by_team<
     }
 }
 
-/// The table of a run in windows of time, by a team of workers that lives as long as the run. The thread that calls leads it and is
-/// one of the workers. Where no thread can be made, or memory for a team is refused, that thread does all the work.
+/// The table of a run in windows of time, by a team of workers that lives as long as the run. The thread that calls leads it and
+/// is one of the workers. Where no thread can be made, or memory for a team is refused, that thread does all the work.
 pub(crate) fn by_watch<
     R: Threads + Wait + Sync,
     M: Participant + Send,

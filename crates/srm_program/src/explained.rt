@@ -59,8 +59,8 @@ pub(crate) fn following(
     }
 }
 
-// What is told of the fault of a session that read this text: this message where no explanation is asked for, and else nothing where
-// there was no memory for one.
+// What is told of the fault of a session that read this text: this message where no explanation is asked for, and else nothing
+// where there was no memory for one.
 fn told_of(alloc: Global, asks: bool, message: String, fault: &Fault, text: &[u8]) -> String
     ensures { MayFollow asks (string_bytes message) text.now fault.now (string_bytes result) }
 {

@@ -22,12 +22,12 @@ use std::thread::Threads;
 // The exit status where the command line is refused.
 const REFUSED_WORDS: u8 = 2;
 
-/// Does what is asked for: it reads a scenario from the feed and writes the report of its run to the outlet, or writes help there. For
-/// help and a refused command line nothing is read.
+/// Does what is asked for: it reads a scenario from the feed and writes the report of its run to the outlet, or writes help
+/// there. For help and a refused command line nothing is read.
 ///
-/// A refusal is told as one line on the outlet for errors, and explained after it where that is asked for and memory suffices. The
-/// answer is the exit status: 0 where all was written, 1 after a refusal, and 2 where the command line is refused. An outlet for errors
-/// that fails changes no status.
+/// A refusal is told as one line on the outlet for errors, and explained after it where that is asked for and memory suffices.
+/// The answer is the exit status: 0 where all was written, 1 after a refusal, and 2 where the command line is refused. An outlet
+/// for errors that fails changes no status.
 pub fn program<R: Threads + Wait + Sync, F: Feed, O: Outlet, E: Outlet>(
     rt: &R,
     alloc: Global,

@@ -35,8 +35,8 @@ impl<'a> Work<u64, Result<Vec<u8>, LabFault>> for Replicating<'a> {
     }
 }
 
-/// The run of a seed, which is that of its members' words and of its losses, into memory: the lines of its table's rows, each with
-/// the seed in front.
+/// The run of a seed, which is that of its members' words and of its losses, into memory: the lines of its table's rows, each
+/// with the seed in front.
 ///
 /// # Errors
 /// `NoMemory` or `CountFull`.

@@ -281,17 +281,18 @@ fn by_team<
     }
 }
 
-/// Runs a scenario on its network once for each of these seeds, and writes one table of all runs: the columns of the table that is
-/// asked for behind one for the seed, and then, in order of the seeds, the rows of each run behind its seed. A run is the sequential
-/// one. `options.workers` runs are made at a time, by threads that last and by the thread that calls, or by that alone where no other
-/// can be made. A worker that comes free begins the next run, as long as fewer than four for each worker are begun and not written.
+/// Runs a scenario on its network once for each of these seeds, and writes one table of all runs: the columns of the table that
+/// is asked for behind one for the seed, and then, in order of the seeds, the rows of each run behind its seed. A run is the
+/// sequential one. `options.workers` runs are made at a time, by threads that last and by the thread that calls, or by that alone
+/// where no other can be made. A worker that comes free begins the next run, as long as fewer than four for each worker are begun
+/// and not written.
 ///
 /// # Errors
 /// As met:
 /// 1. `CountFull`: the run of a seed meets it. The outlet took the table of all runs before.
 /// 2. `NoMemory`: the outlet took the table of some first runs, or nothing.
-/// 3. `WriteFault`: exactly where the outlet failed in the call. It took a front of the table, as many bytes as the fault tells, up to
-///    2^64 - 1, and its count of failures is one higher.
+/// 3. `WriteFault`: exactly where the outlet failed in the call. It took a front of the table, as many bytes as the fault tells,
+///    up to 2^64 - 1, and its count of failures is one higher.
 pub fn replicate<R: Threads + Wait + Sync, O: Outlet>(
     rt: &R,
     alloc: Global,

@@ -45,8 +45,9 @@ impl<'a, R: Threads + Wait + Sync> Runner for ByEngine<'a, R> {
 }
 
 /// Runs the members of a scenario with the engine that is asked for, and writes the report of the run. Both engines write the
-/// same bytes: the report is that of the sequential run, for every seed whose opening records the boxes hold. As it is written, the
-/// trace and the table of timers are written as rows come, some 8 KiB at a time (`GATHERED`), and each other table at the end.
+/// same bytes: the report is that of the sequential run, for every seed whose opening records the boxes hold. As it is written,
+/// the trace and the table of timers are written as rows come, some 8 KiB at a time (`GATHERED`), and each other table at the
+/// end.
 ///
 /// There is one box for each member, in order of their numbers. Each holds its opening record for this scenario, all for one
 /// seed.

@@ -10,8 +10,8 @@ use srm_member::member::Member;
 use srm_report::outlet::Outlet;
 use std::alloc::Global;
 
-/// Who runs the members of a task, each in its box, and writes the report of the run. Replications have one that makes steps alone, so
-/// that no engine of windows is compiled a second time for them.
+/// Who runs the members of a task, each in its box, and writes the report of the run. Replications have one that makes steps
+/// alone, so that no engine of windows is compiled a second time for them.
 pub(crate) trait Runner {
     // It serves tasks with these options.
     ghost ready: { Self → Options → Type 0 };

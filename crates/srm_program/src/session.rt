@@ -28,9 +28,9 @@ use std::thread::Threads;
 pub struct Simulated {
     /// Whether it was refused, and why.
     pub done: Result<(), Fault>,
-    /// The text that was read, so that a refusal can be explained: all that was given, or nothing. It is nothing where the feed failed
-    /// or words were refused; where the text was too long, or memory ran out, it is one or the other. As it is written, nothing is
-    /// kept of a text that was too long.
+    /// The text that was read, so that a refusal can be explained: all that was given, or nothing. It is nothing where the feed
+    /// failed or words were refused; where the text was too long, or memory ran out, it is one or the other. As it is written,
+    /// nothing is kept of a text that was too long.
     pub text: Vec<u8>,
 }
 
@@ -95,12 +95,13 @@ pub fn simulate<R: Threads + Wait + Sync, F: Feed, O: Outlet>(
 }
 
 /// Makes the members of the scenario that a text describes, with random words and losses of this seed, runs them, and writes the
-/// report of the run to an outlet; or makes replications, from this seed on, and writes their table. Where the scenario is only to be
-/// checked, it is read and nothing more is done.
+/// report of the run to an outlet; or makes replications, from this seed on, and writes their table. Where the scenario is only
+/// to be checked, it is read and nothing more is done.
 ///
 /// # Errors
 /// 1. `Scenario`: the first fault of the text, as of [`scenario_of_text`](srm_scenario::reading::scenario_of_text).
-/// 2. `Lab`: that of [`run`](crate::run::run) or [`replicate`](crate::replications::replicate), and then the outlet is as said there.
+/// 2. `Lab`: that of [`run`](crate::run::run) or [`replicate`](crate::replications::replicate), and then the outlet is as said
+///    there.
 ///
 /// `NoMemory` may come at any place. After each refusal but those of `run` and `replicate` the outlet has taken nothing.
 pub fn simulate_text<R: Threads + Wait + Sync, O: Outlet>(

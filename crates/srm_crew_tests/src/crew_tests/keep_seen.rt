@@ -23,6 +23,8 @@ impl Watch<Vec<Seen>> for KeepSeen {
 
     ghost closes = { λ _ _ _. Unit {0} };
 
+    ghost may_stand = { λ _ _. tt };
+
     fn none(&self) -> Vec<Seen> {
         Vec::new(self.alloc)
     }
@@ -68,6 +70,7 @@ pub(crate) fn watched<M: Participant>(
         all.push(WatchedJob {
             place,
             till,
+            soon: 0,
             cells,
             kept,
         })?;

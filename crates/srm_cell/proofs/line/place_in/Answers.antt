@@ -1,10 +1,9 @@
 use Rattle.std.proofs.Common.{rules, ◌≤◌, subst}
 use Rattle.std.proofs.lemmas.List.Sorted.{IsPartitionPoint-from_clause}
 use Rattle.srm_cell.specs.InboxLines.{goes_before}
-use Rattle.srm_cell.specs.Flights.{flight_cmp}
+use Rattle.srm_cell.specs.Flights.{flight_cmp, flight_total}
 use Rattle.srm_cell.proofs.InboxLines.{flight_at, partitioned}
 use Rattle.srm_cell.proofs.line.place_in.Goals as goal
-use Rattle.srm_cell.proofs.CellSteps.{flight_total}
 
 pub returns : goal.returns
 returns c =

@@ -15,8 +15,11 @@ no_flight r [] is none = refl
 no_flight r (f ∷ fs) is none = let x = sym is ∙ none in cc
 
 pub returns-in-None-first-2 : goal.returns-in-None-first-2
-returns-in-None-first-2 c = λ idle. (
-  no_flight c.first-2.result c.args.inbox.now c.first-2.ensures c.in-None-first-2.is,
-  no_mark c.first.result c.args.script.now c.first.ensures c.in-None-first.is,
-  c.in-None.is,
+returns-in-None-first-2 c = (
+  λ idle. (
+    no_flight c.first-2.result c.args.inbox.now c.first-2.ensures c.in-None-first-2.is,
+    no_mark c.first.result c.args.script.now c.first.ensures c.in-None-first.is,
+    c.in-None.is,
+  ),
+  λ none. refl,
 )

@@ -25,7 +25,7 @@ loop-cell-init g c =
     let may = c.requires.job in
     let shown = c.deref_mut-cell-items.ensures.value in (
       refl,
-      ap length shown ∙ sym c.requires.kept,
+      ap length shown ∙ sym c.requires.sound.kept,
       refl,
       refl,
       subst (All (IsOfMember f (length net.hosts))) (sym shown)
@@ -170,7 +170,7 @@ returns g c =
       crossings = c.in-Ok-of.crossings;
     }) refl
     (subst (λ xs. CellsSoFar f keeps k net c.args.job xs [] was now sent)
-    (sym (with_items_is c.args.job.cells cells (many ∙ c.requires.kept ∙ sym c.args.job.cells.ok.0)))
+    (sym (with_items_is c.args.job.cells cells (many ∙ c.requires.sound.kept ∙ sym c.args.job.cells.ok.0)))
     (cells_past f keeps k net c.args.job i cells was now sent all many c.loop-cell.invariant.2 c.loop-cell.invariant.5))
     (subst (IsClosed (g.W.Watch.closes c.args.work.now.watch) now) (sym held)
     (long, subst (λ xs. g.W.Watch.closes c.args.work.now.watch xs new) shown closed))

@@ -4,7 +4,7 @@ use Rattle.std.proofs.lemmas.List.Elements.{All-head, All-tail}
 use Rattle.std.specs.Vec.Iter.{into_iter_items}
 use Rattle.srm_cell.specs.Jobs.{MayAdvance}
 use Rattle.srm_cell.proofs.Pushes.{pushed_if}
-use Rattle.srm_interfaces.specs.Watches.{HaveKept, KeepClosed}
+use Rattle.srm_interfaces.specs.Watches.{IsSoundJob, KeepClosed}
 use Rattle.srm_crew.proofs.WatchedSoFar.{watched_all, watched_fault, watched_more, watched_none}
 use Rattle.srm_crew.proofs.watching.advance_watched.Goals as goal
 
@@ -24,8 +24,9 @@ advance_one-requires-clause-job g c =
     All-head (λ j. MayAdvance g.M.Participant.plain (length c.args.work.now.session.net.now.hosts) j) _ _
     (rw c.in-Some.ensures.steps.0 at c.loop-job.invariant.2)
 
-pub advance_one-requires-clause-kept : goal.advance_one-requires-clause-kept
-advance_one-requires-clause-kept g c = All-head HaveKept _ _ (rw c.in-Some.ensures.steps.0 at c.loop-job.invariant.3)
+pub advance_one-requires-clause-sound : goal.advance_one-requires-clause-sound
+advance_one-requires-clause-sound g c =
+    All-head (IsSoundJob g.M.Participant.plain) _ _ (rw c.in-Some.ensures.steps.0 at c.loop-job.invariant.3)
 
 pub loop-job-preserved : goal.loop-job-preserved
 loop-job-preserved g c =
@@ -36,7 +37,7 @@ loop-job-preserved g c =
       tt,
       All-tail (λ j. MayAdvance g.M.Participant.plain (length c.args.work.now.session.net.now.hosts) j) _ _
           (rw c.in-Some.ensures.steps.0 at c.loop-job.invariant.2),
-      All-tail HaveKept _ _ (rw c.in-Some.ensures.steps.0 at c.loop-job.invariant.3),
+      All-tail (IsSoundJob g.M.Participant.plain) _ _ (rw c.in-Some.ensures.steps.0 at c.loop-job.invariant.3),
       rw all (watched_more g.M.Participant.plain takes c.args.work.now.session.scenario.now
           c.args.work.now.session.net.now c.args.jobs.items
           c.loop-job.all.items c.in-Some.job (into_iter_items c.next.new.self) c.in-Ok.done

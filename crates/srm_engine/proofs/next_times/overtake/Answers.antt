@@ -5,9 +5,9 @@ use Rattle.srm_engine.specs.NextTimes.{AreWinners, IsReplayed}
 use Rattle.srm_engine.proofs.Index.{node_set, over_leaves}
 use Rattle.srm_engine.proofs.next_times.overtake.Goals as goal
 
--- a replay for a time that no word has ends at the top
-topped : (leaf w : ℕ) (ws : List ℕ) → w < 2 ^ 64 → IsReplayed leaf 18446744073709551615 w ws → AreWinners ws
-topped leaf w ws fits h =
+-- a replay ends at the top where no word is below its bound
+topped : (leaf w : ℕ) (ws : List ℕ) → IsReplayed leaf 0 w ws → AreWinners ws
+topped leaf w ws h =
     let s : ℕ = leaf / 2 ^ h.height in
     let top : s ≡ 1 = elim h.ends [ inl e ↦ e | inr e ↦ absurd (omega arith) ] in
     λ i pos below. h.tree i pos below (λ d e. (let low : s / 2 / 2 ^ d ≤ s / 2 = shr_le (s / 2) d in absurd (omega arith)))
@@ -20,8 +20,7 @@ returns-clause-tree c =
     let same = c.replay.auto.words in
     let long = c.requires.leaf in
     let from = c.requires.within in
-    let fits = c.replay.type_inv in
-    let whole : AreWinners fs = topped c.args.first c.replay.result fs (search rules) c.replay.ensures.replayed in
+    let whole : AreWinners fs = topped c.args.first c.replay.result fs c.replay.ensures.replayed in
     let len : length (slice_set fs leaf w) ≡ length fs = length-set fs leaf w in
     let within : leaf < length fs = omega arith in
     λ i pos below apart.

@@ -35,7 +35,7 @@ loop-least-preserved c =
     let r = c.min-least.result in
     let above : 0 < x = v.above in
     let within : x < length ws = v.within in
-    let other : x ≢ 1 = c.if-place-eq1.false in
+    let other = c.if-above-eq0.false in
     let same = c.loop-least.auto.words in
     let len : length (slice_set ws p r) ≡ length ws = length-set ws p r in
     let inside : p < length ws = omega arith in
@@ -51,24 +51,24 @@ loop-least-preserved c =
     }
 
 -- how the loop ends
-done : (leaf time w x d : ℕ) (ws : List ℕ) → x ≡ leaf / 2 ^ d → 0 < x → word_at ws x ≡ w → AreWinnersBeside (x / 2) ws
-    → (x ≡ 1) ⊎ (w / 65536 ≡ time) → IsReplayed leaf time w ws
-done leaf time w x d ws up above stands tree ends = record {
+done : (leaf bound w x d : ℕ) (ws : List ℕ) → x ≡ leaf / 2 ^ d → 0 < x → word_at ws x ≡ w → AreWinnersBeside (x / 2) ws
+    → (x ≡ 1) ⊎ (w < bound) → IsReplayed leaf bound w ws
+done leaf bound w x d ws up above stands tree ends = record {
   height = d;
   inside = subst (λ k. 0 < k) up above;
   stands = ap (word_at ws) (sym up) ∙ stands;
   tree = subst (λ k. AreWinnersBeside (k / 2) ws) up tree;
-  ends = subst (λ k. (k ≡ 1) ⊎ (w / 65536 ≡ time)) up ends;
+  ends = subst (λ k. (k ≡ 1) ⊎ (w < bound)) up ends;
 }
 
-pub returns-then-place-eq1-clause-replayed : goal.returns-then-place-eq1-clause-replayed
-returns-then-place-eq1-clause-replayed c =
+pub returns-then-above-eq0-clause-replayed : goal.returns-then-above-eq0-clause-replayed
+returns-then-above-eq0-clause-replayed c =
     let v = c.loop-least.invariant in
-    done c.args.leaf c.args.time c.loop-least.least c.loop-least.place v.up.0 c.loop-least.words v.up.1 v.above v.stands v.tree
-    (inl c.if-place-eq1.true)
+    let top : c.loop-least.place ≡ 1 = omega (arith, v.above, c.if-above-eq0.true) in
+    done c.args.leaf c.args.bound c.loop-least.least c.loop-least.place v.up.0 c.loop-least.words v.up.1 v.above v.stands v.tree (inl top)
 
 pub returns-clause-replayed : goal.returns-clause-replayed
 returns-clause-replayed c =
     let v = c.loop-least.invariant in
-    done c.args.leaf c.args.time c.loop-least.least c.loop-least.place v.up.0 c.loop-least.words v.up.1 v.above v.stands v.tree
+    done c.args.leaf c.args.bound c.loop-least.least c.loop-least.place v.up.0 c.loop-least.words v.up.1 v.above v.stands v.tree
     (inr c.loop-least-test.false)

@@ -3,8 +3,7 @@ use Rattle.srm_cell.specs.Cells.{PlainCell, hear_at, next_event}
 use Rattle.srm_cell.specs.declared.pending_event.Source.TheVariants.{Inbox}
 use Rattle.srm_cell.specs.Pending.{IsNext}
 use Rattle.srm_cell.specs.Views.{plain_cell}
-use Rattle.srm_cell.proofs.Entries.{if_ok}
-use Rattle.srm_cell.proofs.Heard.{next_later, next_sooner}
+use Rattle.srm_cell.proofs.Heard.{if_ok, next_later, next_sooner}
 use Rattle.srm_cell.proofs.cell.Cell.accept.Goals.{else-arrival-self-2-via-then-arrival-self-2+else-not-is_arrival}
 use Rattle.srm_cell.proofs.cell.Cell.accept.Goals.{else-arrival-self-2-via-else-arrival-self-2}
 use Rattle.srm_cell.proofs.cell.Cell.accept.Goals as goal

@@ -1,4 +1,4 @@
-use Rattle.std.proofs.Common.{◌≡◌, ◌⊎◌, ◌∙◌, IfSome, None, sym, ap, subst, arith}
+use Rattle.std.proofs.Common.{◌≡◌, ◌⊎◌, ◌∙◌, IsSomeAnd, None, sym, ap, subst, arith}
 use Rattle.srm_net.specs.declared.rank.Rank.TheVariants.{Request, Repair}
 use Rattle.srm_cell.specs.Cells.{due_in, earlier, first_arrival, first_mark, next_event, next_timer}
 use Rattle.srm_cell.specs.declared.pending_event.Source.TheVariants.{Inbox, Script, Timer}
@@ -26,8 +26,8 @@ returns-then-is_expiry g c =
     let k : c.mark_time-mark.result ≡ tick_of (first_of Script m p) = c.mark_time-mark.ensures m p in
     let t : c.timer_time-timer.result ≡ tick_of (first_of Timer m p) =
     c.timer_time-timer.ensures m p ∙ ap (λ d. tick_of (next_timer m p d)) c.due-due.ensures in
-    let ranked = subst (λ o. IfSome o (λ d. (d.rank ≡ Request) ⊎ (d.rank ≡ Repair))) c.due-due.ensures
-    (c.is_expiry.ensures c.if-is_expiry.true) in
+    let ranked = subst (λ o. IsSomeAnd o (λ d. (d.rank ≡ Request) ⊎ (d.rank ≡ Repair))) c.due-due.ensures
+    (c.is_expiry.ensures.0 c.if-is_expiry.true) in
     subst (λ n. IsNext m p (record { time = n; source = Inbox }) (next_event m p)) (sym a)
     (level_next m p (omega (arith, a, k)) (omega (arith, a, t)) (omega (arith, k)) ranked)
 
@@ -58,7 +58,7 @@ unfolding next_event
 returns-then-is_idle g c =
     let m = c.args.self.now.number in
     let p = plain_cell g.M.Participant.plain c.args.self.now in
-    let none = c.is_idle.ensures c.if-is_idle.true in
+    let none = c.is_idle.ensures.0 c.if-is_idle.true in
     let a : first_arrival m p p.inbox ≡ None = ap (first_arrival m p) none.0 in
     let k : first_mark m p p.script ≡ None = ap (first_mark m p) none.1 in
     let t : next_timer m p (due_in p.holds) ≡ None = ap (next_timer m p) (sym c.due-due.ensures ∙ none.2) in

@@ -1,24 +1,26 @@
-use Rattle.std.proofs.Common.{◌≡◌, refl, subst, sym, ◌∙◌, ap}
-use Rattle.srm_cell.specs.Flights.{BringsNone}
-use Rattle.srm_cell.specs.Entries.{flights_of, HaveKeys}
-use Rattle.srm_cell.proofs.Entries.{placed, keys_stay, if_ok}
+use Rattle.std.proofs.Common.{◌≡◌, ◌∙◌, heap_items}
+use Rattle.std.specs.List.{IsDistinct}
+use Rattle.std.specs.Ordering.{eq_by_cmp}
+use Rattle.srm_net.specs.Orders.{place, ordered}
+use Rattle.srm_cell.specs.Flights.{flight_cmp, flight_total}
+use Rattle.srm_cell.proofs.HeapLemmas.{pushed}
+use Rattle.srm_cell.proofs.InboxLines.{apart}
 use Rattle.srm_cell.proofs.strays.Strays.accept.Goals as goal
 
-is_copy : (c : goal.Else-is_err) → c.in_ok-packet.packet ≡ c.args.packet.now
-is_copy c = let e = c.in_ok-packet.ensures.cases in λ i. record { id = e.0 i; sent = e.1.0 i; body = e.1.1 i }
+is_sent : (c : goal.In_ok-push) → c.new.result ≡ record { arrival = c.args.arrival; packet = c.args.packet.now }
+is_sent c =
+    let e = c.in_ok-packet.ensures.cases in
+    c.new.ensures ∙ (λ i. record { arrival = c.args.arrival; packet = record { id = e.0 i; sent = e.1.0 i; body = e.1.1 i } })
 
-is_new : (c : goal.Else-is_err) → BringsNone c.in_ok-packet.packet.id (flights_of c.self.inside.waiting.entries)
-is_new c = rw (c.self.view_is, is_copy c) c.requires
+in_heap : (c : goal.In_ok-push) → (ordered flight_cmp (heap_items c.push.new.self)
+    ≡ place flight_cmp c.new.result (ordered flight_cmp (heap_items c.self.inside.waiting)))
+    × IsDistinct (eq_by_cmp flight_cmp) (heap_items c.push.new.self)
+in_heap c = pushed flight_cmp flight_total c.new.result (heap_items c.self.inside.waiting) (heap_items c.push.new.self)
+    c.in_ok-push.ensures.permutation
+    (apart c.new.result (heap_items c.self.inside.waiting) (rw (c.self.view_is, is_sent c) c.requires)) c.self.invariant.1
 
 pub invariant_of-self-2 : goal.invariant_of-self-2
-invariant_of-self-2 c =
-    subst HaveKeys (sym (if_ok c.insert.result _ (sym c.is_err.ensures.value ∙ c.if-is_err.false) c.insert.ensures.entries))
-    (keys_stay ((c.args.arrival, c.in_ok-packet.packet.id.sender, c.in_ok-packet.packet.id.count), c.in_ok-packet.packet)
-    c.self.inside.waiting.entries (refl, refl) c.self.invariant (is_new c))
+invariant_of-self-2 c = (c.in_ok-push.ensures.heap_order c.self.invariant.0, (in_heap c).1)
 
 pub returns-clause-ok : goal.returns-clause-ok
-returns-clause-ok c =
-    ap flights_of (if_ok c.insert.result _ (sym c.is_err.ensures.value ∙ c.if-is_err.false) c.insert.ensures.entries)
-    ∙ placed ((c.args.arrival, c.in_ok-packet.packet.id.sender, c.in_ok-packet.packet.id.count), c.in_ok-packet.packet)
-    c.self.inside.waiting.entries (refl, refl) c.self.invariant (is_new c)
-    ∙ rw (is_copy c, c.self.view_is) refl
+returns-clause-ok c = (in_heap c).0 ∙ (λ i. place flight_cmp (is_sent c i) (c.self.view_is i))

@@ -16,11 +16,11 @@ loop-job-init g c = (
 pub loop-job-preserved : goal.loop-job-preserved
 loop-job-preserved g c =
     let j = c.in-Some.job in
-    let w : WatchedJob _ _ = record { place = j.place; till = j.till; cells = j.cells; kept = c.in_ok-kept.kept } in (
+    let w : WatchedJob _ _ = record { place = j.place; till = j.till; soon = 0; cells = j.cells; kept = c.in_ok-kept.kept } in (
       tt,
       tt,
       zip_more (λ j w. IsWatchedAs j w) _ _ _ _ j w (rw c.in-Some.ensures.steps.0 at c.loop-job.invariant.2)
-          (refl, (let many = c.in_ok-kept.ensures in let len = c.len.ensures in omega (arith, many, len))) c.in_ok-push.ensures.items,
+          (refl, refl, (let many = c.in_ok-kept.ensures in let len = c.len.ensures in omega (arith, many, len))) c.in_ok-push.ensures.items,
     )
 
 pub returns : goal.returns

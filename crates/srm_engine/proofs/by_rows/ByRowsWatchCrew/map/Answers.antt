@@ -31,7 +31,7 @@ leave-requires g c =
     record {
       may = rw c.in-Ok.ensures.kept
           (may_leave f k c.args.session.net.now js c.in-Ok-map.done.0.items
-          (subst (λ n. All (λ j. MayAdvance f n j) (jobs_in js)) hosts c.requires.may.may.jobs) c.requires.may.kept
+          (subst (λ n. All (λ j. MayAdvance f n j) (jobs_in js)) hosts c.requires.may.may.jobs) c.requires.may.sound
           (subst (λ l. AreDone f k c.args.session.net.now l c.in-Ok-map.done.0.items) c.in-Ok.ensures.jobs c.in-Ok-map.ensures.done.0));
     }
 

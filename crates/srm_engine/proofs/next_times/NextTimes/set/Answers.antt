@@ -1,4 +1,4 @@
-use Rattle.std.proofs.Common.{◌≡◌, ◌≢◌, ◌<◌, ◌≤◌, ◌+◌, ◌%◌, ◌/◌, ℕ, List, Option, length, ◌∙◌, ap, sym, subst, slice_set, arith}
+use Rattle.std.proofs.Common.{◌≡◌, ◌≢◌, ◌<◌, ◌≤◌, ◌+◌, ◌*◌, ◌%◌, ◌/◌, ℕ, List, Option, length, ◌∙◌, ap, sym, subst, slice_set, arith}
 use Rattle.srm_engine.specs.NextTimes.{AreWinnersBeside, IsReplayed, IsTournament, SetsLeaf, word_of}
 use Rattle.srm_engine.proofs.Index.{climbed, overtaken, replayed, written, written_back}
 use Rattle.srm_engine.proofs.next_times.NextTimes.set.Goals as goal
@@ -29,14 +29,16 @@ invariant_of-self c =
     (subst (λ y. SetsLeaf (it.size + c.from-place.result) y it.words.items new) x
     (subst (λ ws. SetsLeaf (it.size + c.from-place.result) c.word-word.result ws new) c.deref_mut.ensures.value
     c.replay-self-inside.ensures.leaves)) in
-    let rep : IsReplayed (it.size + m) (it.least / 65536) c.replay-self-inside.result new =
-    subst (λ k. IsReplayed k (it.least / 65536) c.replay-self-inside.result new) leaf c.replay-self-inside.ensures.replayed in
+    let bound : ℕ = c.saturating_mul-bound.result in
+    let divides : bound ≤ (it.least / 65536 + 1) * 65536 = omega (arith, c.saturating_mul-bound.ensures) in
+    let rep : IsReplayed (it.size + m) bound c.replay-self-inside.result new =
+    subst (λ k. IsReplayed k bound c.replay-self-inside.result new) leaf c.replay-self-inside.ensures.replayed in
     subst (λ k. IsTournament it.size (slice_set it.times.items k c.args.time) (written it.words.len it.words.items new)
     c.replay-self-inside.result) (sym c.from-place.ensures)
     (put_back it.size it.words.len (slice_set it.times.items m c.args.time) it.words.items c.deref_mut.result.now new
     c.replay-self-inside.result it.words.ok.0 c.deref_mut.ensures.value c.replay-self-inside.auto.words
-    (replayed it.size it.times.items it.words.items new it.least c.replay-self-inside.result m c.args.time c.self.invariant within own
-    long set rep))
+    (replayed it.size it.times.items it.words.items new it.least c.replay-self-inside.result m bound c.args.time c.self.invariant within
+    own divides long set rep))
 
 pub invariant_of-self-then-self-word : goal.invariant_of-self-then-self-word
 invariant_of-self-then-self-word c =

@@ -13,6 +13,7 @@ use Rattle.srm_interfaces.specs.InTurn.{WereClosed}
 use Rattle.srm_engine.specs.Groups.{all_in, groups_of, sizes, lists_of, some_of, AreCuts, AreGrouped, RanGroups}
 use Rattle.srm_engine.specs.Seen.{plain_cells}
 use Rattle.srm_engine.specs.Soonest.{soonest_of}
+use Rattle.srm_engine.specs.WatchedGroups.{time_at}
 use Rattle.srm_engine.specs.WatchEngines.{kept_by}
 use Rattle.srm_engine.specs.WindowEngines.{setting_by}
 use Rattle.srm_cell.specs.declared.cell.Cell.{Cell}
@@ -20,8 +21,8 @@ use Rattle.srm_cell.specs.Cells.{Spent}
 use Rattle.srm_cell.specs.Jobs.{own_cells}
 use Rattle.srm_interfaces.specs.Crews.{AnyEnds}
 use Rattle.srm_engine.proofs.CellLists.{as_many}
-use Rattle.srm_engine.proofs.SoonGroups.{as_many_ran}
-use Rattle.srm_engine.proofs.WatchedLemmas.{have_kept, places_in}
+use Rattle.srm_engine.proofs.SoonGroups.{as_many_ran, idle_groups}
+use Rattle.srm_engine.proofs.WatchedLemmas.{are_sound, places_in}
 use Rattle.srm_engine.proofs.WatchWindows.{watched_tell, watched_tell_now, watch_ran, watch_ran_now}
 use Rattle.srm_engine.proofs.WindowLemmas.{of_a_window, map_refused, end_is}
 use Rattle.srm_engine.proofs.WindowLemmas.{heard_in_order, heard_as, after, one_more, counted_after, kept_after, later}
@@ -31,8 +32,9 @@ pub map-requires-clause-may : goal.map-requires-clause-may
 map-requires-clause-may g c =
     let js = c.in_ok-jobs.jobs.items in
     let told = watched_tell_now g.M.Participant.plain c.args.self c.requires.stands c.end-end.result
-    c.end-end.ensures js c.in_ok-jobs.ensures in
+    c.end-end.ensures js (rw c.as_slice.ensures.value at c.in_ok-jobs.ensures) in
     let long = length-map js job_in in
+    let f = g.M.Participant.plain in
     let k = c.requires.stands.under_way in record {
       may = record {
         jobs = told.may;
@@ -40,21 +42,24 @@ map-requires-clause-may g c =
         links = k.links;
         of_ledger = k.comes.counted.ledger;
       };
-      kept = rw c.in_ok-jobs.ensures
-          (have_kept c.end-end.result 0 c.args.self.engine.groups.groups.items c.args.self.kept.items c.requires.stands.each);
+      sound = rw (rw c.as_slice.ensures.value at c.in_ok-jobs.ensures)
+          (are_sound (time_at c.args.self.engine.groups.soon.items) f c.end-end.result 0 c.args.self.engine.groups.groups.items
+          c.args.self.kept.items c.requires.stands.each
+          (idle_groups f (setting_by c.args.self.engine k.seed) c.args.self.engine.groups.groups.items
+          c.args.self.engine.groups.soon.items k.comes.kept.soon));
       places = sym (places_in js) ∙ told.placed ∙ ap (λ n. range_with_len 0 n) long;
     }
 
 pub unwrap-requires : goal.unwrap-requires
 unwrap-requires g c = rw c.of.ensures (of_a_window c.in-Err.fault (λ spent.
     let j = watched_tell_now g.M.Participant.plain c.args.self c.requires.stands c.end-end.result
-    c.end-end.ensures c.in_ok-jobs.jobs.items c.in_ok-jobs.ensures in
+    c.end-end.ensures c.in_ok-jobs.jobs.items (rw c.as_slice.ensures.value at c.in_ok-jobs.ensures) in
     j.not_spent (subst (AnyEnds Spent) j.seen (rw spent at c.in-Err.ensures.done))))
 
 pub returns-in-Err-clause-window : goal.returns-in-Err-clause-window
 returns-in-Err-clause-window g c = λ seed begins w comes.
     let j = watched_tell g.M.Participant.plain c.args.self c.requires.stands seed begins w comes
-    c.end-end.result c.end-end.ensures c.in_ok-jobs.jobs.items c.in_ok-jobs.ensures in
+    c.end-end.result c.end-end.ensures c.in_ok-jobs.jobs.items (rw c.as_slice.ensures.value at c.in_ok-jobs.ensures) in
     map_refused g.M.Participant.plain c.args.self.engine seed c.end-end.result w (jobs_in c.in_ok-jobs.jobs.items) j c.in-Err.fault
     c.unwrap.result (sym c.of.ensures ∙ c.unwrap.ensures) c.in-Err.ensures.done
 
@@ -63,7 +68,7 @@ look_again-groups-requires g c =
     let k = c.requires.stands.under_way in
     let e = c.args.self.engine in
     let left = watch_ran_now g.M.Participant.plain c.args.self c.requires.stands c.end-end.result
-    c.end-end.ensures c.in_ok-jobs.jobs.items c.in_ok-jobs.ensures c.in-Ok.done c.in-Ok.ensures.done in
+    c.end-end.ensures c.in_ok-jobs.jobs.items (rw c.as_slice.ensures.value at c.in_ok-jobs.ensures) c.in-Ok.done c.in-Ok.ensures.done in
     let ran = left.ran in
     let same = c.in_ok-groups.ensures.groups ∙ left.groups in
     let cuts = subst (λ l. AreCuts e.groups.cut (sizes l)) (sym same) ran.grouped.cuts in
@@ -90,7 +95,7 @@ pub heard_from-requires-clause-sent : goal.heard_from-requires-clause-sent
 heard_from-requires-clause-sent g c =
     rw c.in_ok-groups.ensures.sent
     (watch_ran_now g.M.Participant.plain c.args.self c.requires.stands c.end-end.result
-    c.end-end.ensures c.in_ok-jobs.jobs.items c.in_ok-jobs.ensures c.in-Ok.done c.in-Ok.ensures.done).sent
+    c.end-end.ensures c.in_ok-jobs.jobs.items (rw c.as_slice.ensures.value at c.in_ok-jobs.ensures) c.in-Ok.done c.in-Ok.ensures.done).sent
 
 pub heard_from-requires-clause-may : goal.heard_from-requires-clause-may
 heard_from-requires-clause-may g c =
@@ -99,7 +104,7 @@ heard_from-requires-clause-may g c =
     let w = k.world in
     let ds = c.in-Ok.ensures.done.0 in
     let left = watch_ran_now g.M.Participant.plain c.args.self c.requires.stands c.end-end.result
-    c.end-end.ensures c.in_ok-jobs.jobs.items c.in_ok-jobs.ensures c.in-Ok.done c.in-Ok.ensures.done in
+    c.end-end.ensures c.in_ok-jobs.jobs.items (rw c.as_slice.ensures.value at c.in_ok-jobs.ensures) c.in-Ok.done c.in-Ok.ensures.done in
     let ran = left.ran in
     let f = g.M.Participant.plain in
     let s = setting_by e k.seed in
@@ -129,8 +134,10 @@ returns-clause-window g c = λ seed begins w comes.
     let at = c.end-end.ensures in
     let done = c.in-Ok.ensures.done in
     let ds = done.0 in
-    let j = watched_tell f c.args.self c.requires.stands seed begins w comes till at c.in_ok-jobs.jobs.items c.in_ok-jobs.ensures in
-    let left = watch_ran f c.args.self c.requires.stands seed begins w comes till at c.in_ok-jobs.jobs.items c.in_ok-jobs.ensures
+    let j = watched_tell f c.args.self c.requires.stands seed begins w comes till at c.in_ok-jobs.jobs.items
+    (rw c.as_slice.ensures.value at c.in_ok-jobs.ensures) in
+    let left = watch_ran f c.args.self c.requires.stands seed begins w comes till at c.in_ok-jobs.jobs.items
+    (rw c.as_slice.ensures.value at c.in_ok-jobs.ensures)
     c.in-Ok.done done in
     let ran = left.ran in
     let s = setting_by e seed in
@@ -181,7 +188,7 @@ pub returns-clause-stands : goal.returns-clause-stands
 returns-clause-stands g c =
     let k = c.requires.stands.under_way in
     let left = watch_ran_now g.M.Participant.plain c.args.self c.requires.stands c.end-end.result
-    c.end-end.ensures c.in_ok-jobs.jobs.items c.in_ok-jobs.ensures c.in-Ok.done c.in-Ok.ensures.done in
+    c.end-end.ensures c.in_ok-jobs.jobs.items (rw c.as_slice.ensures.value at c.in_ok-jobs.ensures) c.in-Ok.done c.in-Ok.ensures.done in
     let told = (returns-clause-window g c k.seed k.begins k.world k.comes).0 in record {
       under_way = record {
         accepted = k.accepted;
@@ -203,7 +210,8 @@ returns-clause-later g c = λ next at.
     let e = c.args.self.engine in
     let ds = c.in-Ok.ensures.done.0 in
     let ran = (watch_ran g.M.Participant.plain c.args.self c.requires.stands k.seed k.begins k.world k.comes
-    c.end-end.result c.end-end.ensures c.in_ok-jobs.jobs.items c.in_ok-jobs.ensures c.in-Ok.done c.in-Ok.ensures.done).ran in
+    c.end-end.result c.end-end.ensures c.in_ok-jobs.jobs.items
+    (rw c.as_slice.ensures.value at c.in_ok-jobs.ensures) c.in-Ok.done c.in-Ok.ensures.done).ran in
     let lists = some_of (lists_of ds) in
     let rows = ordered row_cmp (joined lists) in
     let merge = some_merge lists in

@@ -1,7 +1,0 @@
-use Rattle.std.proofs.Common.{◌≡◌, ◌-◌, ◌^◌, min, length, take}
-use Rattle.srm_cell.specs.Lines.{in_blocks}
-use Rattle.srm_cell.proofs.line.count.Given as goal
-
--- those of the blocks so far
-abbrev pub invariant-loop-i : goal.invariant-loop-i
-invariant-loop-i l = l.count ≡ min (length (in_blocks (take l.i l.blocks.items))) (2 ^ 64 - 1)
