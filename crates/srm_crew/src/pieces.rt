@@ -18,19 +18,23 @@ use srm_member::participant::Participant;
 use std::alloc::{AllocError, Global};
 use std::sync::Arc;
 
-/// About how many events are due in the jobs before their ends: as it is written, one in each cell where something is due, and
-/// one for each packet that arrives there by then.
-pub(crate) fn due_in_all<M: Participant, K: Drop>(jobs: &[WatchedJob<M, K>]) -> usize {
+/// Whether fewer than about `few` events are due in the jobs before their ends: as it is written, one in each cell where
+/// something is due, and one for each packet that arrives there by then. It looks at no more jobs than it has to: what a cell
+/// holds is seldom in the cache of the thread that asks.
+pub(crate) fn are_few_due<M: Participant, K: Drop>(jobs: &[WatchedJob<M, K>], few: usize) -> bool {
     let mut due: usize = 0;
     for job in jobs {
+        if due >= few {
+            return false;
+        }
         due = due.saturating_add(due_in(job));
     }
-    due
+    due < few
 }
 
-// The same of one job.
+// About how many events are due in one job before its end.
 fn due_in<M: Participant, K: Drop>(job: &WatchedJob<M, K>) -> usize {
-    if job.till <= job.soon {
+    if !is_job_due(job) {
         return 0;
     }
     let mut due: usize = 0;
@@ -39,6 +43,22 @@ fn due_in<M: Participant, K: Drop>(job: &WatchedJob<M, K>) -> usize {
             due = due
                 .saturating_add(cell.arriving_before(job.till))
                 .saturating_add(1);
+        }
+    }
+    due
+}
+
+// Whether something may be due in the job before its end.
+fn is_job_due<M: Participant, K: Drop>(job: &WatchedJob<M, K>) -> bool {
+    job.soon < job.till
+}
+
+/// In how many of the jobs something may be due before their ends.
+pub(crate) fn jobs_due<M: Participant, K: Drop>(jobs: &[WatchedJob<M, K>]) -> usize {
+    let mut due: usize = 0;
+    for job in jobs {
+        if is_job_due(job) {
+            due = due.saturating_add(1);
         }
     }
     due
@@ -63,8 +83,8 @@ pub(crate) fn cells_in<M: Participant>(groups: &[Vec<Cell<M>>]) -> usize {
     cells
 }
 
-/// The jobs in pieces, in order. A piece ends once about `share` events are due in it; but the one after so many `cuts` has all
-/// jobs that are left.
+/// The jobs in pieces, in order. A piece ends once something may be due in `share` of its jobs; but the one after so many `cuts`
+/// has all jobs that are left.
 pub(crate) fn pieces_of<M: Participant, K: Drop>(
     alloc: Global,
     jobs: Vec<WatchedJob<M, K>>,
@@ -83,7 +103,9 @@ pub(crate) fn pieces_of<M: Participant, K: Drop>(
             piece = Vec::new(alloc);
             due = 0;
         }
-        due = due.saturating_add(due_in(&job));
+        if is_job_due(&job) {
+            due = due.saturating_add(1);
+        }
         piece.push(job)?;
     }
     pieces.push(piece)?;

@@ -10,8 +10,8 @@ ghost use Rattle.srm_crew.specs.Watched.{IsWatchOn, MayWatch};
 use crate::add::settle;
 use crate::piece::Piece;
 use crate::pieces::{
-    advanced_of, cells_in, due_in_all, even_pieces, heard_of, pieces_of, put_together, to_advance,
-    to_hear,
+    advanced_of, are_few_due, cells_in, even_pieces, heard_of, jobs_due, pieces_of, put_together,
+    to_advance, to_hear,
 };
 use crate::watching::{Watching, advance_watched};
 use crate::worked::Worked;
@@ -77,12 +77,11 @@ fn work_in_team<
     }
 }
 
-// Advances each job, in pieces that a team works on. In all of them about `due` events are due.
+// Advances each job, in pieces that a team works on. In each about as many jobs have something that is due.
 fn advance_in_team<'a, R: Wait, M: Participant, K: Drop, W: Watch<K> + Copy, J: Naming>(
     rt: &R,
     team: &mut Team<Watching<'a, W>, Piece<M, K>, Worked<M, K>, J>,
     work: Watching<'a, W>,
-    due: usize,
     jobs: Vec<WatchedJob<M, K>>,
 ) -> Result<Vec<WatchedDone<M, K>>, CellFault>
     requires { MayWatch M.plain work.session.net.now jobs.items }
@@ -95,7 +94,8 @@ fn advance_in_team<'a, R: Wait, M: Participant, K: Drop, W: Watch<K> + Copy, J: 
     if room == 0 {
         return advance_watched(&work, jobs);
     }
-    let Ok(pieces) = pieces_of(alloc, jobs, (due / room).max(1), room - 1) else {
+    let share = jobs_due(jobs.as_slice()).div_ceil(room).max(1);
+    let Ok(pieces) = pieces_of(alloc, jobs, share, room - 1) else {
         return Err(CellFault::NoMemory);
     };
     let Ok(given) = to_advance(alloc, pieces) else {
@@ -218,11 +218,10 @@ impl<'a, R: Wait, M: Participant, K: Drop, W: Watch<K> + Copy, J: Naming> WatchC
             session: self.work.session,
             watch,
         };
-        let due = due_in_all(jobs.as_slice());
-        let advanced = if due < self.few {
+        let advanced = if are_few_due(jobs.as_slice(), self.few) {
             advance_watched(&work, jobs)
         } else {
-            advance_in_team(&self.rt, &mut self.team, work, due, jobs)
+            advance_in_team(&self.rt, &mut self.team, work, jobs)
         };
         settle(ledger, seat, advanced)
     }

@@ -31,7 +31,7 @@ use std::thread::{Threads, join_mut};
 pub(crate) const PIECES: usize = 4;
 
 // About how many events are due at least where the workers are woken.
-const ENOUGH: usize = 1_500;
+const ENOUGH: usize = 700;
 
 // The table of a run led by this crew, of these members. They are taken out of an `Option`, since a closure that calls
 // this cannot give them away.
@@ -135,10 +135,11 @@ fn by_team<
         session: task.session,
         watch,
     };
-    let workers = usize::from(task.options.workers);
-    // A thread that has no others does all the work as it stands.
-    let few = if workers > 1 { ENOUGH } else { usize::MAX };
-    let pieces = PIECES * workers;
+    // A thread that has no others does all the work as it stands: it cuts no pieces, and counts no events.
+    let (pieces, few) = match usize::from(task.options.workers) {
+        1 => (0, 0),
+        workers => (PIECES * workers, ENOUGH),
+    };
     match open_team::<Watching<W>, Piece<M, K>, Worked<M, K>, J>(alloc, opened, pieces) {
         Ok((team, bench)) => {
             let crew = WatchTeam::new(rt, team, work, few);
